@@ -1,0 +1,105 @@
+-- Document 01, "Policies", the ties: the order of plans, and the first of the shortest that serve the list.
+use Prim.Native.Nat.{ℕ, zero, suc, _+_, _-_, _<_}
+use mathlib.Core.Path.{_≡_}
+use mathlib.Core.Logic.{_⊎_}
+use mathlib.Core.List.{List, [], _∷_, _++_, map, reverse}
+use mathlib.Core.Bool.{Bool, true, false, cond, _&&_}
+use mathlib.Core.Option.{Option, none, some, Option·getD}
+use lib.Dec.{leb}
+use lib.ListN.{replicate}
+use Rattle.rules.specs.declared.Layout.{Layout}
+use Rattle.rules.specs.declared.Action.{Action}
+use Rattle.rules.specs.declared.Action.the-variants.{Void, Bottom, Top, Gap, Once, Twice}
+use Rattle.rules.specs.declared.Passage.{Passage}
+use Rattle.rules.specs.declared.Passage.the-variants.{P00, P02, P11, P20, P22}
+use Rattle.rules.specs.Lists.{from, select, concatOf}
+use Rattle.rules.specs.Jobs.{Job}
+use Rattle.rules.specs.Plans.{Plan, planLength, planPasses}
+use Rattle.rules.specs.Serving.{serves}
+use Rattle.rules.specs.Machine.{accepts}
+
+-- the numbers from n down to 1
+abbrev pub downFrom : ℕ → List ℕ
+downFrom zero = []
+downFrom (suc n) = suc n ∷ downFrom n
+
+-- the actions of an aisle in rank order: VOID, BOTTOM (small i first), TOP (large i first), GAP (small h, then small i), ONCE, TWICE
+unfoldable pub actionsOf : ℕ → List Action
+actionsOf cells =
+    (Void ∷ map Bottom (from 1 cells))
+    ++ (map Top (downFrom cells)
+    ++ (concatOf (λ h. map (Gap h) (from (suc h) (cells - h))) (from 1 cells) ++ (Once ∷ Twice ∷ [])))
+
+-- the passages in rank order
+unfoldable pub passagesInOrder : List Passage
+passagesInOrder = P00 ∷ P02 ∷ P11 ∷ P20 ∷ P22 ∷ []
+
+-- a plan of one aisle
+unfoldable pub single : Action → Plan
+single a = record { actions = a ∷ []; passages = [] }
+
+-- a plan with one more aisle and passage in front
+unfoldable pub prepend : Action → Passage → Plan → Plan
+prepend a p plan = record { actions = a ∷ plan .actions; passages = p ∷ plan .passages }
+
+-- all plans of so many aisles with so many cells, in order: by aisle 1, then passage 1–2, then aisle 2 and so on
+abbrev pub plansOf : ℕ → ℕ → List Plan
+plansOf cells zero = []
+plansOf cells (suc zero) = map single (actionsOf cells)
+plansOf cells (suc (suc n)) =
+    concatOf (λ a. concatOf (λ p. map (prepend a p) (plansOf cells (suc n))) passagesInOrder) (actionsOf cells)
+
+-- the rank of an action, in an aisle with so many cells: its kind, then its cells
+unfoldable pub actionRank : ℕ → Action → ℕ × ℕ × ℕ
+actionRank cells Void = (0, 0, 0)
+actionRank cells (Bottom i) = (1, i, 0)
+actionRank cells (Top i) = (2, cells - i, 0)
+actionRank cells (Gap h i) = (3, h, i)
+actionRank cells Once = (4, 0, 0)
+actionRank cells Twice = (5, 0, 0)
+
+-- the rank of a passage
+abbrev pub passageRank : Passage → ℕ
+passageRank P00 = 0
+passageRank P02 = 1
+passageRank P11 = 2
+passageRank P20 = 3
+passageRank P22 = 4
+
+-- one rank comes before another
+unfoldable pub RankBefore : ℕ × ℕ × ℕ → ℕ × ℕ × ℕ → Type 0
+RankBefore r s = (r .0 < s .0) ⊎ ((r .0 ≡ s .0) × ((r .1 < s .1) ⊎ ((r .1 ≡ s .1) × (r .2 < s .2))))
+
+-- one plan comes before another: at the first difference, comparing aisle 1, passage 1–2, aisle 2 and so on
+pub data Before (cells : ℕ) : List Action → List Passage → List Action → List Passage → Type 0 where
+  by-action : {a b : Action} {xs ys : List Action} {ps qs : List Passage} → RankBefore (actionRank cells a) (actionRank cells b) → Before cells (a ∷ xs) ps (b ∷ ys) qs
+  by-passage : {a : Action} {xs ys : List Action} {p q : Passage} {ps qs : List Passage} → passageRank p < passageRank q → Before cells (a ∷ xs) (p ∷ ps) (a ∷ ys) (q ∷ qs)
+  further : {a : Action} {xs ys : List Action} {p : Passage} {ps qs : List Passage} → Before cells xs ps ys qs → Before cells (a ∷ xs) (p ∷ ps) (a ∷ ys) (p ∷ qs)
+
+unfoldable pub PlanBefore : ℕ → Plan → Plan → Type 0
+PlanBefore cells x y = Before cells (x .actions) (x .passages) (y .actions) (y .passages)
+
+module _ {A : Type 0} where
+  -- the first of two, unless the second is shorter
+  unfoldable pub shorterOf : (A → ℕ) → A → Option A → A
+  shorterOf len x none = x
+  shorterOf len x (some y) = cond (leb (len x) (len y)) x y
+
+  -- the first of the shortest in a list
+  abbrev pub firstShortest : (A → ℕ) → List A → Option A
+  firstShortest len [] = none
+  firstShortest len (x ∷ xs) = some (shorterOf len x (firstShortest len xs))
+
+-- the plans that the job's policy allows and that serve its list, in order
+unfoldable pub servingPlans : Job → List Plan
+servingPlans job =
+    select (λ plan. accepts job plan && serves job (planPasses plan)) (plansOf (job .layout .cells) (job .layout .aisles))
+
+-- the plan that treads nothing
+unfoldable pub emptyPlan : Layout → Plan
+emptyPlan z = record { actions = replicate (z .aisles) Void; passages = replicate (z .aisles - 1) P00 }
+
+-- the plan of the sheet: the first of the shortest. (There is one for every job that is not refused;
+-- the plan that treads nothing only stands in where there is none.)
+unfoldable pub bestPlan : Job → Plan
+bestPlan job = Option·getD (firstShortest (planLength (job .layout)) (servingPlans job)) (emptyPlan (job .layout))

@@ -1,0 +1,243 @@
+-- Document 01, "Job file": the text of a job, and reading bytes as a job.
+use Prim.Native.Nat.{ℕ, zero, suc, _+_, _*_, _-_, _≤_, _/_, _%_}
+use mathlib.Core.Path.{_≡_}
+use mathlib.Core.List.{List, [], _∷_, _++_}
+use mathlib.Core.Bool.{Bool, true, false, cond, _&&_, _||_, not}
+use mathlib.Core.Option.{Option, none, some}
+use lib.Dec.{ltb, leb, eqb}
+use lib.ListN.{length, drop}
+use Rattle.rules.specs.declared.Layout.{Layout}
+use Rattle.rules.specs.declared.Policy.{Policy}
+use Rattle.rules.specs.declared.Policy.the-variants.{Exact, Return, Traversal, Midpoint, Composite}
+use Rattle.rules.specs.declared.StockRecord.{StockRecord}
+use Rattle.rules.specs.declared.OrderLine.{OrderLine}
+use Rattle.rules.specs.Lists.{concatOf}
+use Rattle.rules.specs.Jobs.{Job}
+
+-- the separators
+abbrev pub space : ℕ
+space = 32
+
+abbrev pub lineFeed : ℕ
+lineFeed = 10
+
+-- the decimal digits of n, most significant first; the first argument bounds their number
+abbrev pub numeralBy : ℕ → ℕ → List ℕ
+numeralBy zero n = (48 + n) ∷ []
+numeralBy (suc k) n = elim (ltb n 10) [ true ↦ (48 + n) ∷ [] | false ↦ numeralBy k (n / 10) ++ ((48 + n % 10) ∷ []) ]
+
+-- the decimal digits of n with no leading zero
+unfoldable pub numeral : ℕ → List ℕ
+numeral n = numeralBy n n
+
+-- the policy words
+abbrev pub policyWord : Policy → List ℕ
+policyWord Exact = 69 ∷ 88 ∷ 65 ∷ 67 ∷ 84 ∷ []
+policyWord Return = 82 ∷ 69 ∷ 84 ∷ 85 ∷ 82 ∷ 78 ∷ []
+policyWord Traversal = 84 ∷ 82 ∷ 65 ∷ 86 ∷ 69 ∷ 82 ∷ 83 ∷ 65 ∷ 76 ∷ []
+policyWord Midpoint = 77 ∷ 73 ∷ 68 ∷ 80 ∷ 79 ∷ 73 ∷ 78 ∷ 84 ∷ []
+policyWord Composite = 67 ∷ 79 ∷ 77 ∷ 80 ∷ 79 ∷ 83 ∷ 73 ∷ 84 ∷ 69 ∷ []
+
+-- a number and the separator behind it
+unfoldable pub field : ℕ → ℕ → List ℕ
+field sep n = numeral n ++ (sep ∷ [])
+
+-- a section's first line: its letter, a space, its count
+unfoldable pub header : ℕ → ℕ → List ℕ
+header letter n = letter ∷ space ∷ field lineFeed n
+
+-- the line of the L section: m C f p b w d and the policy word
+unfoldable pub layoutText : Layout → Policy → List ℕ
+layoutText z policy =
+    field space (z .aisles)
+    ++ (field space (z .cells)
+    ++ (field space (z .front)
+    ++ (field space (z .pitch)
+    ++ (field space (z .back)
+    ++ (field space (z .width)
+    ++ (field space (z .depot)
+    ++ (policyWord policy ++ (lineFeed ∷ []))))))))
+
+-- a line of the S section: aisle cell article quantity
+unfoldable pub recordText : StockRecord → List ℕ
+recordText r = field space (r .aisle) ++ (field space (r .cell) ++ (field space (r .article) ++ field lineFeed (r .quantity)))
+
+-- a line of the D section: article quantity
+unfoldable pub lineText : OrderLine → List ℕ
+lineText l = field space (l .article) ++ field lineFeed (l .quantity)
+
+-- the section letters L, S, D
+abbrev pub letterL : ℕ
+letterL = 76
+
+abbrev pub letterS : ℕ
+letterS = 83
+
+abbrev pub letterD : ℕ
+letterD = 68
+
+-- a section: its letter, its count and its lines
+unfoldable pub sectionText : {A : Type 0} → ℕ → (A → List ℕ) → List A → List ℕ
+sectionText letter text xs = header letter (length xs) ++ concatOf text xs
+
+-- the text of a job: the sections L, S, D
+unfoldable pub jobText : Job → List ℕ
+jobText job =
+    header letterL 1
+    ++ (layoutText (job .layout) (job .policy)
+    ++ (sectionText letterS recordText (job .stock) ++ sectionText letterD lineText (job .lines)))
+
+-- what reading gives: the value and the bytes behind it, or nothing
+abbrev pub Reading : Type 0 → Type 0
+Reading A = Option (A × List ℕ)
+
+infixl 20 _>>=_
+-- reads on behind what was read
+abbrev pub _>>=_ : {A B : Type 0} → Reading A → (A × List ℕ → Reading B) → Reading B
+_>>=_ none next = none
+_>>=_ (some r) next = next r
+
+-- a byte that is a decimal digit
+unfoldable pub isDigit : ℕ → Bool
+isDigit c = leb 48 c && leb c 57
+
+-- the digits that the bytes start with
+abbrev pub leadingDigits : List ℕ → List ℕ
+leadingDigits [] = []
+leadingDigits (c ∷ s) = elim (isDigit c) [ true ↦ c ∷ leadingDigits s | false ↦ [] ]
+
+-- the value of digits, read from the left on top of v
+abbrev pub valueOf : ℕ → List ℕ → ℕ
+valueOf v [] = v
+valueOf v (c ∷ s) = valueOf (v * 10 + (c - 48)) s
+
+-- no digits, or a zero in front of other digits
+abbrev pub badStart : List ℕ → Bool
+badStart [] = true
+badStart (c ∷ []) = false
+badStart (c ∷ d ∷ s) = eqb c 48
+
+-- the digits of a number: 1 to 5, no leading zero except in 0 itself, value at most 65,535
+unfoldable pub isNumber : List ℕ → Bool
+isNumber ds = not (badStart ds) && (leb (length ds) 5 && leb (valueOf 0 ds) 65535)
+
+-- the byte that must come next
+abbrev pub readByte : ℕ → List ℕ → Reading ℕ
+readByte b [] = none
+readByte b (c ∷ s) = elim (eqb c b) [ true ↦ some (c, s) | false ↦ none ]
+
+-- a number that starts here and ends at its separator
+unfoldable pub readField : ℕ → List ℕ → Reading ℕ
+readField sep s =
+    elim (isNumber (leadingDigits s)) [
+      | true ↦ do
+        (c, rest) ← readByte sep (drop (length (leadingDigits s)) s)
+        some (valueOf 0 (leadingDigits s), rest)
+      | false ↦ none
+    ]
+
+-- a section's first line with its letter
+unfoldable pub readHeader : ℕ → List ℕ → Reading ℕ
+readHeader letter s = do
+  (c, s) ← readByte letter s
+  (c, s) ← readByte space s
+  readField lineFeed s
+
+-- the word, byte for byte
+abbrev pub readWord : List ℕ → List ℕ → Reading (List ℕ)
+readWord [] s = some ([], s)
+readWord (c ∷ w) s = do
+  (b, s) ← readByte c s
+  (word, s) ← readWord w s
+  some (b ∷ word, s)
+
+-- the policy, if its word and a line feed stand here
+unfoldable pub readPolicyAs : Policy → List ℕ → Reading Policy
+readPolicyAs policy s = do
+  (word, s) ← readWord (policyWord policy ++ (lineFeed ∷ [])) s
+  some (policy, s)
+
+-- the first reading, or else the second
+abbrev pub orElse : {A : Type 0} → Option A → Option A → Option A
+orElse none b = b
+orElse (some a) b = some a
+
+-- one of the five policy words and a line feed
+unfoldable pub readPolicy : List ℕ → Reading Policy
+readPolicy s =
+    orElse (readPolicyAs Exact s)
+    (orElse (readPolicyAs Return s)
+    (orElse (readPolicyAs Traversal s)
+    (orElse (readPolicyAs Midpoint s)
+    (readPolicyAs Composite s))))
+
+-- the line of the L section
+unfoldable pub readLayout : List ℕ → Reading (Layout × Policy)
+readLayout s = do
+  (m, s) ← readField space s
+  (c, s) ← readField space s
+  (f, s) ← readField space s
+  (p, s) ← readField space s
+  (b, s) ← readField space s
+  (w, s) ← readField space s
+  (d, s) ← readField space s
+  (word, s) ← readPolicy s
+  some ((record { aisles = m; cells = c; front = f; pitch = p; back = b; width = w; depot = d }, word), s)
+
+-- a line of the S section
+unfoldable pub readRecord : List ℕ → Reading StockRecord
+readRecord s = do
+  (j, s) ← readField space s
+  (c, s) ← readField space s
+  (a, s) ← readField space s
+  (q, s) ← readField lineFeed s
+  some (record { aisle = j; cell = c; article = a; quantity = q }, s)
+
+-- a line of the D section
+unfoldable pub readLine : List ℕ → Reading OrderLine
+readLine s = do
+  (a, s) ← readField space s
+  (q, s) ← readField lineFeed s
+  some (record { article = a; quantity = q }, s)
+
+-- n lines, each read by the same reader
+abbrev pub readLines : {A : Type 0} → (List ℕ → Reading A) → ℕ → List ℕ → Reading (List A)
+readLines read zero s = some ([], s)
+readLines read (suc n) s = do
+  (x, s) ← read s
+  (xs, s) ← readLines read n s
+  some (x ∷ xs, s)
+
+-- a section: its letter, its count and that many lines
+unfoldable pub readSection : {A : Type 0} → ℕ → (List ℕ → Reading A) → List ℕ → Reading (List A)
+readSection letter read s = do
+  (n, s) ← readHeader letter s
+  readLines read n s
+
+-- the L section, whose count is 1
+unfoldable pub readLayoutSection : List ℕ → Reading (Layout × Policy)
+readLayoutSection s = do
+  (n, s) ← readHeader letterL s
+  elim (eqb n 1) [ true ↦ readLayout s | false ↦ none ]
+
+-- the sections L, S and D
+unfoldable pub readSections : List ℕ → Reading Job
+readSections s = do
+  (z, s) ← readLayoutSection s
+  (records, s) ← readSection letterS readRecord s
+  (lines, s) ← readSection letterD readLine s
+  some (record { layout = z .0; policy = z .1; stock = records; lines = lines }, s)
+
+-- nothing follows the last line
+abbrev pub atEnd : {A : Type 0} → Reading A → Option A
+atEnd none = none
+atEnd (some (a, [])) = some a
+atEnd (some (a, c ∷ s)) = none
+
+-- the most bytes that a job file may have
+abbrev pub jobFileLimit : ℕ
+jobFileLimit = 16384
+
+-- the bytes read as a job, or nothing where they are not a job file
+unfoldable pub readJob : List ℕ → Option Job
+readJob s = elim (leb (length s) jobFileLimit) [ true ↦ atEnd (readSections s) | false ↦ none ]

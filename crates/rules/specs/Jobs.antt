@@ -1,0 +1,24 @@
+-- A job: what one job file says. Its numbers are within the bounds only if no refusal applies (Refusals).
+use Prim.Native.Nat.{ℕ}
+use mathlib.Core.List.{List}
+use mathlib.Core.Bool.{Bool, _&&_}
+use lib.Dec.{eqb}
+use Rattle.rules.specs.declared.Layout.{Layout}
+use Rattle.rules.specs.declared.Policy.{Policy}
+use Rattle.rules.specs.declared.StockRecord.{StockRecord}
+use Rattle.rules.specs.declared.OrderLine.{OrderLine}
+use Rattle.rules.specs.Lists.{anyOf}
+
+pub record Job : Type 0 where
+  pub layout : Layout
+  pub policy : Policy
+  pub stock : List StockRecord
+  pub lines : List OrderLine
+
+-- the article stands on a line of the list
+unfoldable pub listed : Job → ℕ → Bool
+listed job a = anyOf (λ (l : OrderLine). eqb (l .article) a) (job .lines)
+
+-- the aisle holds an article of the list: some record of the aisle has a listed article
+unfoldable pub holdsListed : Job → ℕ → Bool
+holdsListed job j = anyOf (λ (r : StockRecord). eqb (r .aisle) j && listed job (r .article)) (job .stock)

@@ -1,0 +1,16 @@
+pub mod Lists
+pub mod Store
+pub mod Jobs
+pub mod JobFile
+pub mod Refusals
+pub mod Plans
+pub mod Lawful
+pub mod Walks
+pub mod Serving
+pub mod Policies
+pub mod Machine
+pub mod BestPlan
+pub mod Picks
+pub mod FirstWalk
+pub mod Sheet
+pub mod Answers

@@ -1,0 +1,87 @@
+-- Document 01, the bounds of "The store" and the table of refusals: the first that applies.
+use Prim.Native.Nat.{ℕ, suc, _+_}
+use mathlib.Core.List.{List, [], _∷_}
+use mathlib.Core.Bool.{Bool, true, false, cond, _&&_, not}
+use mathlib.Core.Option.{Option, none, some}
+use lib.Dec.{ltb, leb, eqb}
+use lib.ListN.{length}
+use Rattle.rules.specs.declared.StockRecord.{StockRecord}
+use Rattle.rules.specs.declared.OrderLine.{OrderLine}
+use Rattle.rules.specs.declared.Refusal.{Refusal}
+use Rattle.rules.specs.declared.Refusal.the-variants.{WorkArea, NotAJobFile, LayoutBounds, StockBounds, CellTwice, ListBounds, ArticleTwice, TooHeavy, ShortOfStock, SheetSpace}
+use Rattle.rules.specs.Lists.{sumOf, productOf, allOf, anyOf, anyTwo}
+use Rattle.rules.specs.Store.{within, layoutInBounds}
+use Rattle.rules.specs.Jobs.{Job}
+
+-- the number of a refusal
+abbrev pub numberOf : Refusal → ℕ
+numberOf WorkArea = 10
+numberOf NotAJobFile = 1
+numberOf LayoutBounds = 2
+numberOf StockBounds = 3
+numberOf CellTwice = 4
+numberOf ListBounds = 5
+numberOf ArticleTwice = 6
+numberOf TooHeavy = 7
+numberOf ShortOfStock = 8
+numberOf SheetSpace = 9
+
+-- at most 384 stock records, each with aisle 1 to m, cell 1 to C, article 1 to 65,535, quantity 1 to 255
+unfoldable pub recordInBounds : Job → StockRecord → Bool
+recordInBounds job r =
+    within 1 (job .layout .aisles) (r .aisle)
+    && within 1 (job .layout .cells) (r .cell)
+    && within 1 65535 (r .article)
+    && within 1 255 (r .quantity)
+
+unfoldable pub stockInBounds : Job → Bool
+stockInBounds job = leb (length (job .stock)) 384 && allOf (recordInBounds job) (job .stock)
+
+-- two records of one cell
+unfoldable pub sameCell : StockRecord → StockRecord → Bool
+sameCell r s = eqb (r .aisle) (s .aisle) && eqb (r .cell) (s .cell)
+
+-- 1 to 8 order lines, each with article 1 to 65,535 and quantity 1 to 255
+unfoldable pub lineInBounds : OrderLine → Bool
+lineInBounds l = within 1 65535 (l .article) && within 1 255 (l .quantity)
+
+unfoldable pub listInBounds : Job → Bool
+listInBounds job = within 1 8 (length (job .lines)) && allOf lineInBounds (job .lines)
+
+-- two lines of one article
+unfoldable pub sameArticle : OrderLine → OrderLine → Bool
+sameArticle k l = eqb (k .article) (l .article)
+
+-- the weight of a list: the product of (quantity + 1) over its lines
+unfoldable pub weight : List OrderLine → ℕ
+weight lines = productOf (λ (l : OrderLine). l .quantity + 1) lines
+
+-- all the stock of an article: the sum of the quantities in its records
+unfoldable pub allStock : Job → ℕ → ℕ
+allStock job a = sumOf (λ (r : StockRecord). cond (eqb (r .article) a) (r .quantity) 0) (job .stock)
+
+-- some line exceeds all the stock of its article
+unfoldable pub shortOfStock : Job → Bool
+shortOfStock job = anyOf (λ (l : OrderLine). ltb (allStock job (l .article)) (l .quantity)) (job .lines)
+
+-- the refusal of the first row whose cause applies
+abbrev pub firstRow : List (Bool × Refusal) → Option Refusal
+firstRow [] = none
+firstRow ((true, r) ∷ rows) = some r
+firstRow ((false, r) ∷ rows) = firstRow rows
+
+-- the rows of the table that speak of a job, in table order: whether the cause applies, and the refusal
+unfoldable pub jobRows : Job → List (Bool × Refusal)
+jobRows job =
+    (not (layoutInBounds (job .layout)), LayoutBounds)
+    ∷ (not (stockInBounds job), StockBounds)
+    ∷ (anyTwo sameCell (job .stock), CellTwice)
+    ∷ (not (listInBounds job), ListBounds)
+    ∷ (anyTwo sameArticle (job .lines), ArticleTwice)
+    ∷ (ltb 256 (weight (job .lines)), TooHeavy)
+    ∷ (shortOfStock job, ShortOfStock)
+    ∷ []
+
+-- the refusal of a job that could be read: the first that applies, or none
+unfoldable pub jobRefusal : Job → Option Refusal
+jobRefusal job = firstRow (jobRows job)

@@ -1,0 +1,103 @@
+-- Document 01, "The store": points, edges, distances, the depot.
+use Prim.Native.Nat.{ℕ, zero, suc, _+_, _*_, _-_, _≤_, _<_}
+use mathlib.Core.Path.{_≡_}
+use mathlib.Core.Logic.{_⊎_}
+use mathlib.Core.List.{List, [], _∷_, _++_, map}
+use mathlib.Core.Bool.{Bool, true, false, cond, _&&_}
+use lib.Dec.{ltb, leb, eqb}
+use Rattle.rules.specs.declared.Layout.{Layout}
+use Rattle.rules.specs.Lists.{from, concatOf}
+
+-- L: the length of an aisle from its front crossing to its back crossing
+unfoldable pub aisleLength : Layout → ℕ
+aisleLength z = z .front + (z .cells - 1) * z .pitch + z .back
+
+-- the distance of a height from the front: height 0 is the front crossing, 1 to C the cells, C + 1 the back crossing
+unfoldable pub position : Layout → ℕ → ℕ
+position z zero = 0
+position z (suc k) = cond (ltb k (z .cells)) (z .front + k * z .pitch) (aisleLength z)
+
+-- a crossing or a cell: an aisle, 1 to m, and a height in it
+pub record Point : Type 0 where
+  pub aisle : ℕ
+  pub height : ℕ
+
+-- the height of the back crossings
+unfoldable pub backHeight : Layout → ℕ
+backHeight z = suc (z .cells)
+
+-- the depot is the front crossing of aisle d
+unfoldable pub depotPoint : Layout → Point
+depotPoint z = record { aisle = z .depot; height = 0 }
+
+-- an edge ("stretch") joins two neighbouring points:
+-- along j k the heights k and k + 1 of aisle j, front j and back j the crossings of the aisles j and j + 1
+pub data Edge : Type 0 where
+  along : ℕ → ℕ → Edge
+  front : ℕ → Edge
+  back : ℕ → Edge
+
+-- the end of an edge nearer to the front, or to the left
+unfoldable pub startOf : Layout → Edge → Point
+startOf z (along j k) = record { aisle = j; height = k }
+startOf z (front j) = record { aisle = j; height = 0 }
+startOf z (back j) = record { aisle = j; height = backHeight z }
+
+-- the other end
+unfoldable pub endOf : Layout → Edge → Point
+endOf z (along j k) = record { aisle = j; height = suc k }
+endOf z (front j) = record { aisle = suc j; height = 0 }
+endOf z (back j) = record { aisle = suc j; height = backHeight z }
+
+-- the edge joins the points x and y, either way
+unfoldable pub Joins : Layout → Edge → Point → Point → Type 0
+Joins z e x y = ((x ≡ startOf z e) × (y ≡ endOf z e)) ⊎ ((y ≡ startOf z e) × (x ≡ endOf z e))
+
+-- the distance of an edge: in an aisle the difference of its ends' distances from the front, on a cross-aisle w
+unfoldable pub distance : Layout → Edge → ℕ
+distance z (along j k) = position z (suc k) - position z k
+distance z (front j) = z .width
+distance z (back j) = z .width
+
+-- the edge is one of the store's
+unfoldable pub InStore : Layout → Edge → Type 0
+InStore z (along j k) = (1 ≤ j) × (j ≤ z .aisles) × (k ≤ z .cells)
+InStore z (front j) = (1 ≤ j) × (j < z .aisles)
+InStore z (back j) = (1 ≤ j) × (j < z .aisles)
+
+-- all edges of the store, each once: aisle by aisle, then the front and the back cross-aisle
+unfoldable pub edgesOf : Layout → List Edge
+edgesOf z =
+    concatOf (λ j. map (along j) (from 0 (suc (z .cells)))) (from 1 (z .aisles))
+    ++ (map front (from 1 (z .aisles - 1)) ++ map back (from 1 (z .aisles - 1)))
+
+-- a number from a to b
+unfoldable pub within : ℕ → ℕ → ℕ → Bool
+within a b n = leb a n && leb n b
+
+-- the bounds of the layout's numbers
+unfoldable pub layoutInBounds : Layout → Bool
+layoutInBounds z =
+    within 1 16 (z .aisles)
+    && within 1 24 (z .cells)
+    && within 1 60 (z .front)
+    && within 1 30 (z .pitch)
+    && within 1 60 (z .back)
+    && within 1 400 (z .width)
+    && within 1 (z .aisles) (z .depot)
+
+-- the same edge, as a test
+unfoldable pub sameEdge : Edge → Edge → Bool
+sameEdge (along i h) (along j k) = eqb i j && eqb h k
+sameEdge (along i h) (front j) = false
+sameEdge (along i h) (back j) = false
+sameEdge (front i) (along j k) = false
+sameEdge (front i) (front j) = eqb i j
+sameEdge (front i) (back j) = false
+sameEdge (back i) (along j k) = false
+sameEdge (back i) (front j) = false
+sameEdge (back i) (back j) = eqb i j
+
+-- the same point, as a test
+unfoldable pub samePoint : Point → Point → Bool
+samePoint x y = eqb (x .aisle) (y .aisle) && eqb (x .height) (y .height)

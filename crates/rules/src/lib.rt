@@ -1,0 +1,90 @@
+// The values that code and definitions share. What they mean is said in specs/.
+
+// The store: document 01's m, C, f, p, b, w and d, in the order of the job file.
+pub struct Layout {
+    pub aisles: usize,
+    pub cells: usize,
+    pub front: usize,
+    pub pitch: usize,
+    pub back: usize,
+    pub width: usize,
+    pub depot: usize,
+}
+
+// The routing policies.
+pub enum Policy {
+    Exact,
+    Return,
+    Traversal,
+    Midpoint,
+    Composite,
+}
+
+// A stock record: a cell, the article in it and how much of it.
+pub struct StockRecord {
+    pub aisle: usize,
+    pub cell: usize,
+    pub article: usize,
+    pub quantity: usize,
+}
+
+// An order line ("list line"): an article and how much of it is ordered.
+pub struct OrderLine {
+    pub article: usize,
+    pub quantity: usize,
+}
+
+// What a plan does in one aisle.
+pub enum Action {
+    Void,
+    Bottom(usize),
+    Top(usize),
+    Gap(usize, usize),
+    Once,
+    Twice,
+}
+
+// How often a plan treads the back and the front cross-aisle between two neighbouring aisles.
+pub enum Passage {
+    P00,
+    P02,
+    P11,
+    P20,
+    P22,
+}
+
+// A step of a walk ("B, F, L, R"), in the order of the alphabet.
+pub enum Direction {
+    Back,
+    Front,
+    Left,
+    Right,
+}
+
+// What is taken from one cell.
+pub struct Pick {
+    pub aisle: usize,
+    pub cell: usize,
+    pub article: usize,
+    pub quantity: usize,
+}
+
+// The causes of a refusal, in the order of document 01's table.
+pub enum Refusal {
+    WorkArea,
+    NotAJobFile,
+    LayoutBounds,
+    StockBounds,
+    CellTwice,
+    ListBounds,
+    ArticleTwice,
+    TooHeavy,
+    ShortOfStock,
+    SheetSpace,
+}
+
+// What a call answers: the sheet's byte count, or the cause of the refusal.
+pub enum Reply {
+    Served(usize),
+    Refused(Refusal),
+}
