@@ -1,7 +1,8 @@
 -- Document 01, "Policies", the walk: of all closed walks from the depot that tread each edge exactly as the plan says,
 -- the one whose letters come first in the alphabet.
 use Prim.Native.Nat.{ℕ, zero, suc, _-_}
-use mathlib.Core.List.{List, [], _∷_, map}
+use mathlib.Core.Path.{_≡_}
+use mathlib.Core.List.{List, [], _∷_}
 use mathlib.Core.Bool.{Bool, true, false, cond, _&&_}
 use mathlib.Core.Option.{Option, none, some, Option·getD}
 use lib.Dec.{ltb}
@@ -9,9 +10,14 @@ use Rattle.rules.specs.declared.Layout.{Layout}
 use Rattle.rules.specs.declared.Direction.{Direction}
 use Rattle.rules.specs.declared.Direction.the-variants.{Back, Front, Left, Right}
 use Rattle.rules.specs.Lists.{sumOf}
-use Rattle.rules.specs.Store.{Point, Edge, edgesOf, depotPoint, samePoint}
+use Rattle.rules.specs.Store.{Point, Edge, InStore, edgesOf, depotPoint, samePoint}
 use Rattle.rules.specs.Plans.{Plan, multiplicity}
-use Rattle.rules.specs.Walks.{Walk, canStep, stepTo, stepEdge, one}
+use Rattle.rules.specs.Walks.{Walk, ClosedWalk, walkTreads, canStep, stepTo, stepEdge, one}
+
+-- a closed walk from the depot that treads each edge exactly as the plan says
+pub record WalkOf (z : Layout) (plan : Plan) (walk : Walk) : Type 0 where
+  pub is-closed : ClosedWalk z walk
+  pub treads : (e : Edge) → InStore z e → walkTreads z walk e ≡ multiplicity plan e
 
 -- the treads that are left after one tread of an edge
 unfoldable pub without : (Edge → ℕ) → Edge → Edge → ℕ

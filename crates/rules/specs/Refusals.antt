@@ -1,5 +1,6 @@
 -- Document 01, the bounds of "The store" and the table of refusals: the first that applies.
-use Prim.Native.Nat.{ℕ, suc, _+_}
+use Prim.Native.Nat.{ℕ, suc, _+_, _≤_}
+use mathlib.Core.Path.{_≡_}
 use mathlib.Core.List.{List, [], _∷_}
 use mathlib.Core.Bool.{Bool, true, false, cond, _&&_, not}
 use mathlib.Core.Option.{Option, none, some}
@@ -85,3 +86,13 @@ jobRows job =
 -- the refusal of a job that could be read: the first that applies, or none
 unfoldable pub jobRefusal : Job → Option Refusal
 jobRefusal job = firstRow (jobRows job)
+
+-- a job to which none of these refusals applies
+pub record Admitted (job : Job) : Type 0 where
+  pub layout : layoutInBounds (job .layout) ≡ true
+  pub stock : stockInBounds job ≡ true
+  pub cells-once : anyTwo sameCell (job .stock) ≡ false
+  pub list : listInBounds job ≡ true
+  pub articles-once : anyTwo sameArticle (job .lines) ≡ false
+  pub light : weight (job .lines) ≤ 256
+  pub in-stock : shortOfStock job ≡ false
