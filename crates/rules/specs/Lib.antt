@@ -14,3 +14,4 @@ pub mod Picks
 pub mod FirstWalk
 pub mod Sheet
 pub mod Answers
+pub mod Examples

@@ -1,0 +1,112 @@
+-- Document 01's cases 1 to 14 hold of the definitions, and the worked example is printed byte for byte.
+-- The plans are computed the faster way, which gives the same (Pruning). Assumes nothing.
+use Prim.Native.Nat.{ℕ}
+use mathlib.Core.Path.{_≡_, refl, _∙_, ap}
+use mathlib.Core.List.{List, [], _∷_}
+use mathlib.Core.Option.{Option, none, some, Option·getD}
+use Rattle.rules.specs.declared.Action.{Action}
+use Rattle.rules.specs.declared.Action.the-variants.{Bottom}
+use Rattle.rules.specs.declared.Passage.{Passage}
+use Rattle.rules.specs.declared.Passage.the-variants.{P02}
+use Rattle.rules.specs.declared.Refusal.the-variants.{ShortOfStock, ListBounds, TooHeavy}
+use Rattle.rules.specs.Jobs.{Job}
+use Rattle.rules.specs.Plans.{Plan}
+use Rattle.rules.specs.BestPlan.{firstShortest, servingPlans}
+use Rattle.rules.specs.Examples.{tour, walked, HasTour, Meets, AllHold, Holds}
+use Rattle.rules.specs.Sheet.{Run, runsOf}
+use Rattle.rules.proofs.Pruning.{fastServing, fast-serving}
+use Rattle.rules.specs.Answers.{cleared, refused, written, answerJob, answerBytes, answer, hostAnswer, output}
+use Rattle.rules.specs.BestPlan.{actionsOf, passagesInOrder, single, prepend, shorterOf, emptyPlan, bestPlan}
+use Rattle.rules.specs.Examples.{stocked, _of_, alpha, beta, steps, roundTrip, cases, gamma, topTie, workedJob, workedSheet}
+use Rattle.rules.specs.FirstWalk.{without, stepsOf, firstWalk}
+use Rattle.rules.specs.JobFile.{numeral, field, header, sectionText, isDigit, isNumber, readField, readHeader, readPolicyAs, readPolicy, readLayout, readRecord, readLine, readSection, readLayoutSection, readSections, readJob}
+use Rattle.rules.specs.Jobs.{listed, holdsListed}
+use Rattle.rules.specs.Machine.{actionPossible, actionStep, passageStep, accepts}
+use Rattle.rules.specs.Picks.{cellsOf, lackOf, lessOf, recordAt, taken, passedRecords, picksOf}
+use Rattle.rules.specs.Plans.{actionAt, passageAt, multiplicity, lengthOf, planLength, planPasses}
+use Rattle.rules.specs.Policies.{inFrontHalf, inBackHalf}
+use Rattle.rules.specs.Refusals.{recordInBounds, stockInBounds, sameCell, lineInBounds, listInBounds, sameArticle, weight, allStock, shortOfStock, jobRows, jobRefusal}
+use Rattle.rules.specs.Serving.{supply, serves}
+use Rattle.rules.specs.Sheet.{totalText, passageText, pickText, runText, sheetOf, sheetText}
+use Rattle.rules.specs.Store.{aisleLength, position, backHeight, depotPoint, distance, edgesOf, within, layoutInBounds, sameEdge, samePoint}
+use Rattle.rules.specs.Walks.{isCrossing, canStep, stepTo, stepEdge, one}
+
+-- the best plan of a job, found the faster way
+fastBest : Job → Plan
+fastBest job = Option·getD (firstShortest (planLength (job .layout)) (fastServing job)) (emptyPlan (job .layout))
+
+fast-best : (job : Job) → bestPlan job ≡ fastBest job
+unfolding bestPlan fastBest
+fast-best job = ap (λ plans. Option·getD (firstShortest (planLength (job .layout)) plans) (emptyPlan (job .layout))) (fast-serving job)
+
+module _ (job : Job) (n : ℕ) (actions : List Action) (passages : List Passage) (admitted : jobRefusal job ≡ none) where
+  abbrev plan : Plan
+  plan = record { actions = actions; passages = passages }
+
+  -- a plan that the faster way finds is the best plan, and its length is the tour's
+  tour-met : fastBest job ≡ plan → planLength (job .layout) plan ≡ n → Meets job (tour n actions passages)
+  tour-met found its-length =
+      let e : bestPlan job ≡ plan = fast-best job ∙ found in
+      (record { admitted = admitted; length = ap (planLength (job .layout)) e ∙ its-length }, e)
+
+  walk-met : fastBest job ≡ plan → planLength (job .layout) plan ≡ n → (runs : List Run) → runsOf (firstWalk (job .layout) plan) ≡ runs → Meets job (walked n actions passages runs)
+  walk-met found its-length runs its-walk =
+      let m = tour-met found its-length in
+      (m .0, m .1, ap (λ p. runsOf (firstWalk (job .layout) p)) (m .1) ∙ its-walk)
+
+-- the table of the cases 1 to 14
+pub cases-hold : AllHold cases
+unfolding cleared refused written answerJob answerBytes answer hostAnswer output actionsOf passagesInOrder single prepend shorterOf emptyPlan bestPlan stocked _of_ alpha beta steps roundTrip cases gamma topTie workedJob workedSheet without stepsOf firstWalk numeral field header sectionText isDigit isNumber readField readHeader readPolicyAs readPolicy readLayout readRecord readLine readSection readLayoutSection readSections readJob listed holdsListed actionPossible actionStep passageStep accepts cellsOf lackOf lessOf recordAt taken passedRecords picksOf actionAt passageAt multiplicity lengthOf planLength planPasses inFrontHalf inBackHalf recordInBounds stockInBounds sameCell lineInBounds listInBounds sameArticle weight allStock shortOfStock jobRows jobRefusal supply serves totalText passageText pickText runText sheetOf sheetText aisleLength position backHeight depotPoint distance edgesOf within layoutInBounds sameEdge samePoint isCrossing canStep stepTo stepEdge one fastBest fastServing
+cases-hold = (
+  tour-met _ _ _ _ refl refl refl,
+  (
+    tour-met _ _ _ _ refl refl refl,
+    (
+      tour-met _ _ _ _ refl refl refl,
+      (
+        walk-met _ _ _ _ refl refl refl _ refl,
+        (
+          tour-met _ _ _ _ refl refl refl,
+          (
+            λ policy. (ShortOfStock, refl, refl),
+            (
+              tour-met _ _ _ _ refl refl refl,
+              (
+                tour-met _ _ _ _ refl refl refl,
+                (
+                  tour-met _ _ _ _ refl refl refl,
+                  (
+                    (tour-met _ 26 (Bottom 3 ∷ Bottom 5 ∷ Bottom 3 ∷ []) (P02 ∷ P02 ∷ []) refl refl refl) .0,
+                    (
+                      λ policy. (ShortOfStock, refl, refl),
+                      (
+                        λ policy. (ListBounds, refl, refl),
+                        (
+                          λ policy. (TooHeavy, refl, refl),
+                          (
+                            λ policy. (ListBounds, refl, refl),
+                            tt,
+                          ),
+                        ),
+                      ),
+                    ),
+                  ),
+                ),
+              ),
+            ),
+          ),
+        ),
+      ),
+    ),
+  ),
+)
+
+-- a case of our own
+pub top-tie-holds : Holds topTie
+unfolding cleared refused written answerJob answerBytes answer hostAnswer output actionsOf passagesInOrder single prepend shorterOf emptyPlan bestPlan stocked _of_ alpha beta steps roundTrip cases gamma topTie workedJob workedSheet without stepsOf firstWalk numeral field header sectionText isDigit isNumber readField readHeader readPolicyAs readPolicy readLayout readRecord readLine readSection readLayoutSection readSections readJob listed holdsListed actionPossible actionStep passageStep accepts cellsOf lackOf lessOf recordAt taken passedRecords picksOf actionAt passageAt multiplicity lengthOf planLength planPasses inFrontHalf inBackHalf recordInBounds stockInBounds sameCell lineInBounds listInBounds sameArticle weight allStock shortOfStock jobRows jobRefusal supply serves totalText passageText pickText runText sheetOf sheetText aisleLength position backHeight depotPoint distance edgesOf within layoutInBounds sameEdge samePoint isCrossing canStep stepTo stepEdge one fastBest fastServing
+top-tie-holds = tour-met _ _ _ _ refl refl refl
+
+-- the worked example, byte for byte
+pub worked-example : output workedJob ≡ workedSheet
+unfolding cleared refused written answerJob answerBytes answer hostAnswer output actionsOf passagesInOrder single prepend shorterOf emptyPlan bestPlan stocked _of_ alpha beta steps roundTrip cases gamma topTie workedJob workedSheet without stepsOf firstWalk numeral field header sectionText isDigit isNumber readField readHeader readPolicyAs readPolicy readLayout readRecord readLine readSection readLayoutSection readSections readJob listed holdsListed actionPossible actionStep passageStep accepts cellsOf lackOf lessOf recordAt taken passedRecords picksOf actionAt passageAt multiplicity lengthOf planLength planPasses inFrontHalf inBackHalf recordInBounds stockInBounds sameCell lineInBounds listInBounds sameArticle weight allStock shortOfStock jobRows jobRefusal supply serves totalText passageText pickText runText sheetOf sheetText aisleLength position backHeight depotPoint distance edgesOf within layoutInBounds sameEdge samePoint isCrossing canStep stepTo stepEdge one servingPlans
+worked-example = refl
