@@ -3,11 +3,10 @@ use Prim.Native.Nat.{ℕ, zero, suc, _+_, _*_, _-_, _≤_, _<_, _/_, _%_}
 use mathlib.Core.Path.{_≡_, refl, sym, _∙_, ap}
 use mathlib.Core.List.{List, [], _∷_, _++_, append-assoc, append-nil}
 use mathlib.Core.Bool.{Bool, true, false, not, _&&_}
-use mathlib.Core.Logic.{_⊎_, inl, inr}
 use native.Mathlib.Omega.{arith}
-use lib.Dec.{ltb, leb, eqb}
+use lib.Dec.{ltb, leb}
 use lib.ListN.{length, drop, length-append}
-use borrow.Author.Tests.{ltb-true, ltb-false, leb-true, leb-false, lt-ltb, le-ltb, le-leb, lt-leb, eqb-false, ne-eqb, not-true}
+use borrow.Author.Tests.{ltb-true, ltb-false, leb-true, lt-ltb, le-ltb, le-leb, eqb-false, ne-eqb, not-true}
 use Rattle.rules.specs.JobFile.{numeral, numeralBy, isDigit, leadingDigits, valueOf, badStart, isNumber}
 
 -- the last digit of a number
@@ -28,6 +27,7 @@ module _ (P : ℕ → List ℕ → Type 0) (small : (n : ℕ) → n < 10 → P n
   unfolding numeral
   numeral-induction n = with-fuel n n (omega arith)
 
+-- the two cases of a numeral, whatever the fuel
 numeralBy-small : (k n : ℕ) → n < 10 → numeralBy k n ≡ (48 + n) ∷ []
 numeralBy-small zero n h = refl
 numeralBy-small (suc k) n h = rw (lt-ltb n 10 h, numeralBy)
@@ -56,14 +56,16 @@ abbrev pub Digits : List ℕ → Type 0
 Digits [] = Unit {0}
 Digits (c ∷ s) = (48 ≤ c) × (c ≤ 57) × Digits s
 
+-- digits behind digits
 digits-append : (s t : List ℕ) → Digits s → Digits t → Digits (s ++ t)
 digits-append [] t p q = q
 digits-append (c ∷ s) t p q = (p .0, p .1, digits-append s t (p .2) q)
 
 -- a numeral has only digits
 pub numeral-digits : (n : ℕ) → Digits (numeral n)
-numeral-digits = numeral-induction (λ (n : ℕ) (s : List ℕ). Digits s) (λ n h. (omega arith, omega arith, tt)) (λ n s h p. digits-append s (lastDigit n) p (omega arith, omega arith, tt))
+numeral-digits = numeral-induction (λ (n : ℕ) (s : List ℕ). Digits s) (λ n h. omega arith) (λ n s h p. digits-append s (lastDigit n) p (omega arith))
 
+-- digits in two parts, read one part after the other
 valueOf-append : (v : ℕ) (s t : List ℕ) → valueOf v (s ++ t) ≡ valueOf (valueOf v s) t
 valueOf-append v [] t = refl
 valueOf-append v (c ∷ s) t = valueOf-append (v * 10 + (c - 48)) s t
@@ -72,13 +74,18 @@ valueOf-append v (c ∷ s) t = valueOf-append (v * 10 + (c - 48)) s t
 pub valueOf-numeral : (n : ℕ) → valueOf 0 (numeral n) ≡ n
 valueOf-numeral = numeral-induction (λ (n : ℕ) (s : List ℕ). valueOf 0 s ≡ n) (λ n h. omega arith) (λ n s h p. rw (valueOf-append 0 s (lastDigit n), p) (omega arith))
 
--- the first digit of a positive number is no zero
-numeral-head : (n : ℕ) → 1 ≤ n → (c : ℕ) × (s : List ℕ) × (numeral n ≡ c ∷ s) × (48 < c)
-numeral-head = numeral-induction (λ (n : ℕ) (t : List ℕ). 1 ≤ n → (c : ℕ) × (s : List ℕ) × (t ≡ c ∷ s) × (48 < c)) (λ n h l. (48 + n, [], refl, omega arith)) large
+-- bytes that start with a digit other than zero
+abbrev PositiveStart : List ℕ → Type 0
+PositiveStart t = (c : ℕ) × (s : List ℕ) × (t ≡ c ∷ s) × (48 < c)
+
+-- the numeral of a positive number starts with a digit other than zero
+numeral-positive : (n : ℕ) → 1 ≤ n → PositiveStart (numeral n)
+numeral-positive = numeral-induction (λ (n : ℕ) (t : List ℕ). 1 ≤ n → PositiveStart t) (λ n h l. (48 + n, [], refl, omega arith)) large
   where
-    large : (n : ℕ) (t : List ℕ) → 10 ≤ n → (1 ≤ n / 10 → (c : ℕ) × (s : List ℕ) × (t ≡ c ∷ s) × (48 < c)) → 1 ≤ n → (c : ℕ) × (s : List ℕ) × (t ++ lastDigit n ≡ c ∷ s) × (48 < c)
+    large : (n : ℕ) (t : List ℕ) → 10 ≤ n → (1 ≤ n / 10 → PositiveStart t) → 1 ≤ n → PositiveStart (t ++ lastDigit n)
     large n t h p l = let q = p (omega arith) in (q .0, q .1 ++ lastDigit n, ap (λ (u : List ℕ). u ++ lastDigit n) (q .2), q .3)
 
+-- such bytes start as a number must
 no-zero-start : (c : ℕ) (s : List ℕ) → 48 < c → badStart (c ∷ s) ≡ false
 no-zero-start c [] h = refl
 no-zero-start c (d ∷ s) h = ne-eqb c 48 (λ e. omega arith)
@@ -86,7 +93,7 @@ no-zero-start c (d ∷ s) h = ne-eqb c 48 (λ e. omega arith)
 -- a numeral starts as a number must
 pub numeral-start : (n : ℕ) → badStart (numeral n) ≡ false
 numeral-start zero = rw (numeral-small 0 (omega arith))
-numeral-start (suc n) = let q = numeral-head (suc n) (omega arith) in rw (q .2) (no-zero-start (q .0) (q .1) (q .3))
+numeral-start (suc n) = let q = numeral-positive (suc n) (omega arith) in rw (q .2) (no-zero-start (q .0) (q .1) (q .3))
 
 -- ten times the bound costs one digit more
 one-digit-more : (b d : ℕ) → ((n : ℕ) → n < b → length (numeral n) ≤ suc d) → (n : ℕ) → n < 10 * b → length (numeral n) ≤ suc (suc d)
@@ -108,6 +115,7 @@ numeral-snoc v c h l m =
     let digit : 48 + n % 10 ≡ c = omega arith in
     numeral-large n (omega arith) ∙ rw (tenth, digit)
 
+-- digits behind a positive number's numeral
 numeral-valueOf-from : (v : ℕ) (s : List ℕ) → 1 ≤ v → Digits s → numeral (valueOf v s) ≡ numeral v ++ s
 numeral-valueOf-from v [] h p = sym (append-nil (numeral v))
 numeral-valueOf-from v (c ∷ s) h p =
@@ -115,29 +123,32 @@ numeral-valueOf-from v (c ∷ s) h p =
     ∙ ap (λ (t : List ℕ). t ++ s) (numeral-snoc v c h (p .0) (p .1))
     ∙ append-assoc (numeral v) (c ∷ []) s
 
+-- one digit is the numeral of its value
+numeral-digit : (c : ℕ) → 48 ≤ c → c ≤ 57 → numeral (0 + (c - 48)) ≡ c ∷ []
+numeral-digit c l m =
+    let same : 48 + (0 + (c - 48)) ≡ c = omega arith in
+    numeral-small (0 + (c - 48)) (omega arith) ∙ rw same
+
 -- the digits of a number are the numeral of their value
 pub numeral-valueOf : (s : List ℕ) → Digits s → badStart s ≡ false → numeral (valueOf 0 s) ≡ s
 numeral-valueOf [] p h = cc
-numeral-valueOf (c ∷ []) p h =
-    let same : 48 + (0 + (c - 48)) ≡ c = omega arith in
-    numeral-small (0 + (c - 48)) (omega arith) ∙ ap (λ (x : ℕ). x ∷ []) same
+numeral-valueOf (c ∷ []) p h = numeral-digit c (p .0) (p .1)
 numeral-valueOf (c ∷ d ∷ s) p h =
-    let first = eqb-false c 48 h in
-    let same : 48 + (0 + (c - 48)) ≡ c = omega arith in
-    numeral-valueOf-from (0 + (c - 48)) (d ∷ s) (omega (arith, first)) (p .2)
-    ∙ ap (λ (t : List ℕ). t ++ d ∷ s) (numeral-small (0 + (c - 48)) (omega arith) ∙ ap (λ (x : ℕ). x ∷ []) same)
+    numeral-valueOf-from (0 + (c - 48)) (d ∷ s) (omega (arith, eqb-false c 48 h)) (p .2)
+    ∙ ap (λ (t : List ℕ). t ++ d ∷ s) (numeral-digit c (p .0) (p .1))
 
 -- both tests of a conjunction hold
 pub both-true : (a b : Bool) → a && b ≡ true → (a ≡ true) × (b ≡ true)
 both-true true b h = (refl, h)
 both-true false b h = (h, cc)
 
--- a decimal digit, told by its byte
-digit-true : (c : ℕ) → 48 ≤ c → c ≤ 57 → isDigit c ≡ true
+-- a byte from 48 to 57 is a digit
+pub digit-true : (c : ℕ) → 48 ≤ c → c ≤ 57 → isDigit c ≡ true
 unfolding isDigit
 digit-true c l m = rw (le-leb 48 c l, le-leb c 57 m)
 
-digit-bounds : (c : ℕ) → isDigit c ≡ true → (48 ≤ c) × (c ≤ 57)
+-- a digit is a byte from 48 to 57
+pub digit-bounds : (c : ℕ) → isDigit c ≡ true → (48 ≤ c) × (c ≤ 57)
 unfolding isDigit
 digit-bounds c h = let t = both-true (leb 48 c) (leb c 57) h in (leb-true 48 c (t .0), leb-true c 57 (t .1))
 

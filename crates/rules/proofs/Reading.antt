@@ -1,5 +1,5 @@
 -- Job files: text and reading are inverse.
-use Prim.Native.Nat.{ℕ, zero, suc, _+_, _≤_, _<_}
+use Prim.Native.Nat.{ℕ, zero, suc, _≤_}
 use mathlib.Core.Path.{_≡_, refl, sym, _∙_, ap, subst, subst₂, fun-ext}
 use mathlib.Core.List.{List, [], _∷_, _++_, append-assoc, append-nil, List·Memᴰ, List·Memᴰ·head, List·Memᴰ·tail, List·Memᴰ·cases-cons, List·Memᴰ·not-nil}
 use mathlib.Core.Bool.{Bool, true, false}
@@ -13,8 +13,6 @@ use borrow.Author.Tests.{leb-true, le-leb, eqb-true, eq-eqb}
 use Rattle.rules.specs.declared.Layout.{Layout}
 use Rattle.rules.specs.declared.Policy.{Policy}
 use Rattle.rules.specs.declared.Policy.the-variants.{Exact, Return, Traversal, Midpoint, Composite}
-use Rattle.rules.specs.declared.StockRecord.{StockRecord}
-use Rattle.rules.specs.declared.OrderLine.{OrderLine}
 use Rattle.rules.specs.Lists.{concatOf}
 use Rattle.rules.specs.Jobs.{Job}
 use Rattle.rules.specs.JobFile.{Reading, _>>=_, space, lineFeed, numeral, field, header, isDigit, leadingDigits, valueOf, isNumber, readByte, readField, readHeader, readWord, policyWord, readPolicyAs, orElse, readPolicy, layoutText, readLayout, recordText, readRecord, lineText, readLine, readLines, sectionText, readSection, letterL, letterS, letterD, readLayoutSection, jobText, readSections, atEnd, jobFileLimit, readJob, WritableLayout, WritableRecord, WritableLine, WritableSection, Writable}
@@ -29,21 +27,26 @@ pub record Inverse {A : Type 0} (read : List ℕ → Reading A) (text : A → Li
 valid-as : {A : Type 0} {read : List ℕ → Reading A} {t : A → List ℕ} {P Q : A → Type 0} → ((x : A) → P x ↔ Q x) → Inverse read t P → Inverse read t Q
 valid-as same i = record { reads = λ x rest q. i .reads x rest (same x .1 q); written = λ s x rest e. let w = i .written s x rest e in (w .0, same x .0 (w .1)) }
 
+-- anything follows from nothing having been read as something
 nothing-read : {A : Type 0} {C : Type 0} {x : A} → none ≡ some x → C
 nothing-read e = let z : _≡_ {A = ℕ} 0 1 = cc in absurd (omega arith)
 
+-- equal readings have equal values and equal bytes behind them
 same-reading : {A : Type 0} {x y : A} {s rest : List ℕ} → _≡_ {A = Reading A} (some (x, s)) (some (y, rest)) → (x ≡ y) × (s ≡ rest)
 same-reading {A} {x} {y} {s} {rest} e =
     let p : _≡_ {A = A × List ℕ} (x, s) (y, rest) = cc in
     (ap (λ (q : A × List ℕ). q .0) p, ap (λ (q : A × List ℕ). q .1) p)
 
+-- reading on gives something only if there was something to read on from
 read-some : {A B : Type 0} (r : Reading A) (next : A × List ℕ → Reading B) {z : B × List ℕ} → r >>= next ≡ some z → (p : A × List ℕ) × (r ≡ some p) × (next p ≡ some z)
 read-some none next e = nothing-read e
 read-some (some p) next e = (p, refl, e)
 
 module _ {A B : Type 0} {read : List ℕ → Reading A} {t : A → List ℕ} {P : A → Type 0} where
   -- one reader behind another, where what is read first is a part of what is read in all
-  bind : {next : A → List ℕ → Reading B} {u : B → List ℕ} {Q : A → B → Type 0} (part : B → A) → Inverse read t P → ((a : A) → Inverse (next a) u (Q a)) → ((a : A) (y : B) → P a → Q a y → part y ≡ a) → Inverse (λ (s : List ℕ). read s >>= λ r. next (r .0) (r .1)) (λ (y : B). t (part y) ++ u y) (λ (y : B). P (part y) × Q (part y) y)
+  bind : {next : A → List ℕ → Reading B} {u : B → List ℕ} {Q : A → B → Type 0} (part : B → A)
+      → Inverse read t P → ((a : A) → Inverse (next a) u (Q a)) → ((a : A) (y : B) → P a → Q a y → part y ≡ a)
+      → Inverse (λ (s : List ℕ). read s >>= λ r. next (r .0) (r .1)) (λ (y : B). t (part y) ++ u y) (λ (y : B). P (part y) × Q (part y) y)
   bind {next} {u} {Q} part i j told = record {
     reads = λ y rest v. rw (append-assoc, i .reads (part y) (u y ++ rest) (v .0)) (j (part y) .reads y rest (v .1));
     written = λ s y rest e. let w = read-some (read s) (λ r. next (r .0) (r .1)) e in go s y rest (w .0 .0) (w .0 .1) (w .1) (w .2);
@@ -57,12 +60,15 @@ module _ {A B : Type 0} {read : List ℕ → Reading A} {t : A → List ℕ} {P 
           (rw (append-assoc, same) (f .0 ∙ ap (λ (z : List ℕ). t a ++ z) (g .0)), rw same (f .1, g .1))
 
   -- the same where the value in all is made of the part and of what is read behind it
-  bind-part : {next : A → List ℕ → Reading B} {u : B → List ℕ} {Q : B → Type 0} {whole : A → B → B} (part : B → A) → ((a : A) (y : B) → part (whole a y) ≡ a) → Inverse read t P → ((a : A) → Inverse (next a) u (λ (y : B). (y ≡ whole a y) × Q y)) → Inverse (λ (s : List ℕ). read s >>= λ r. next (r .0) (r .1)) (λ (y : B). t (part y) ++ u y) (λ (y : B). (y ≡ whole (part y) y) × (P (part y) × Q y))
+  bind-part : {next : A → List ℕ → Reading B} {u : B → List ℕ} {Q : B → Type 0} {whole : A → B → B} (part : B → A)
+      → ((a : A) (y : B) → part (whole a y) ≡ a) → Inverse read t P → ((a : A) → Inverse (next a) u (λ (y : B). (y ≡ whole a y) × Q y))
+      → Inverse (λ (s : List ℕ). read s >>= λ r. next (r .0) (r .1)) (λ (y : B). t (part y) ++ u y) (λ (y : B). (y ≡ whole (part y) y) × (P (part y) × Q y))
   bind-part part told i j =
       valid-as (λ y. (λ v. (v .1 .0, (v .0, v .1 .1)), λ v. (v .1 .0, (v .0, v .1 .1)))) (bind part i j (λ a y p q. ap part (q .0) ∙ told a y))
 
   -- the last part, which makes the value
-  made : (whole : A → B) (part : B → A) → ((a : A) → P a → part (whole a) ≡ a) → Inverse read t P → Inverse (λ (s : List ℕ). read s >>= λ r. some (whole (r .0), r .1)) (λ (y : B). t (part y)) (λ (y : B). (y ≡ whole (part y)) × P (part y))
+  made : (whole : A → B) (part : B → A) → ((a : A) → P a → part (whole a) ≡ a) → Inverse read t P
+      → Inverse (λ (s : List ℕ). read s >>= λ r. some (whole (r .0), r .1)) (λ (y : B). t (part y)) (λ (y : B). (y ≡ whole (part y)) × P (part y))
   made whole part told i = record {
     reads = λ y rest v. let e = v .0 in rw (i .reads (part y) rest (v .1)) (cc);
     written = λ s y rest e. let w = read-some (read s) (λ r. some (whole (r .0), r .1)) e in go s y rest (w .0 .0) (w .0 .1) (w .1) (w .2);
@@ -133,6 +139,7 @@ header-inverse letter =
     (λ n. (λ v. v .1 .1, λ v. (refl, (refl, v))))
     (bind (λ n. letter) (byte-inverse letter) (λ c. bind (λ n. space) (byte-inverse space) (λ d. line-field) (λ d n p q. sym p)) (λ c n p q. sym p))
 
+-- a word, byte for byte
 word-inverse : (w : List ℕ) → Inverse (readWord w) (λ (x : List ℕ). w) (λ (x : List ℕ). x ≡ w)
 word-inverse [] = record { reads = λ x rest e. cc; written = λ s x rest e. (same-reading e .1, sym (same-reading e .0)) }
 word-inverse (c ∷ w) =
@@ -144,11 +151,13 @@ word-inverse (c ∷ w) =
 unfoldable pub policyText : Policy → List ℕ
 policyText policy = policyWord policy ++ (lineFeed ∷ [])
 
+-- the word of a given policy and the line feed behind it
 policyAs-inverse : (policy : Policy) → Inverse (readPolicyAs policy) (λ (p : Policy). policyText policy) (λ (p : Policy). p ≡ policy)
 unfolding readPolicyAs policyText
 policyAs-inverse policy =
     valid-as (λ p. (λ v. v .0, λ v. (v, refl))) (made (λ word. policy) (λ p. policyText policy) (λ word e. sym e) (word-inverse (policyText policy)))
 
+-- one of two readings gave what either of them gives
 or-else : {A C : Type 0} {a b : Option A} {x : A} → (a ≡ some x → C) → (b ≡ some x → C) → orElse a b ≡ some x → C
 or-else {a = none} f g e = g e
 or-else {a = some y} f g e = f e
@@ -211,6 +220,7 @@ abbrev ValidLines : {A : Type 0} → (A → Type 0) → ℕ → List A → Type 
 ValidLines {A} P n xs = (length xs ≡ n) × ((x : A) → List·Memᴰ x xs → P x)
 
 module _ {A : Type 0} {read : List ℕ → Reading A} {text : A → List ℕ} {P : A → Type 0} (i : Inverse read text P) where
+  -- the text of n valid lines is read as them
   lines-reads : (n : ℕ) (xs : List A) (rest : List ℕ) → ValidLines P n xs → readLines read n (concatOf text xs ++ rest) ≡ some (xs, rest)
   lines-reads zero [] rest v = refl
   lines-reads zero (x ∷ xs) rest v = absurd (omega arith)
@@ -219,6 +229,7 @@ module _ {A : Type 0} {read : List ℕ → Reading A} {text : A → List ℕ} {P
       let first = i .reads x (concatOf text xs ++ rest) (v .1 x (List·Memᴰ·head refl)) in
       rw (append-assoc, first, lines-reads n xs rest (omega arith, λ y m. v .1 y (List·Memᴰ·tail m)))
 
+  -- one line more that stood there as text
   cons-written : (n : ℕ) (s behind rest : List ℕ) (x : A) (xs : List A) → (s ≡ text x ++ behind) × P x → (behind ≡ concatOf text xs ++ rest) × ValidLines P n xs → (s ≡ concatOf text (x ∷ xs) ++ rest) × ValidLines P (suc n) (x ∷ xs)
   cons-written n s behind rest x xs p q = (rw append-assoc (p .0 ∙ ap (λ (z : List ℕ). text x ++ z) (q .0)), (omega arith, λ y m. go y (List·Memᴰ·cases-cons m)))
     where
@@ -226,6 +237,7 @@ module _ {A : Type 0} {read : List ℕ → Reading A} {text : A → List ℕ} {P
       go y (inl e) = rw e (p .1)
       go y (inr m) = q .1 .1 y m
 
+  -- lines that are read stood there as text
   lines-written : (n : ℕ) (s : List ℕ) (xs : List A) (rest : List ℕ) → readLines read n s ≡ some (xs, rest) → (s ≡ concatOf text xs ++ rest) × ValidLines P n xs
   lines-written zero s xs rest e = let same = same-reading e in rw (← same .0) (same .1, (refl, λ x m. absurd (List·Memᴰ·not-nil m)))
   lines-written (suc n) s ys rest e =
@@ -249,6 +261,7 @@ section-inverse letter i =
     (λ xs. (λ v. record { count = v .0; each = v .1 .1 }, λ v. (v .count, (refl, v .each))))
     (bind (λ xs. length xs) (header-inverse letter) (λ n. lines-inverse i n) (λ n xs p q. q .0))
 
+-- a reader that reads only if the test holds
 if-inverse : {A : Type 0} {read : List ℕ → Reading A} {text : A → List ℕ} {P : A → Type 0} (b : Bool) → Inverse read text P → Inverse (λ (s : List ℕ). elim b [ true ↦ read s | false ↦ none ]) text (λ (x : A). (b ≡ true) × P x)
 if-inverse true i = valid-as (λ x. (λ v. (refl, v), λ v. v .1)) i
 if-inverse false i = record { reads = λ x rest v. let e = v .0 in cc; written = λ s x rest e. nothing-read e }
@@ -272,6 +285,7 @@ sections-inverse =
     bind-part (λ job. job .stock) (λ a job. refl) (section-inverse letterS record-inverse) (λ records.
     made (λ lines. record { layout = z .0; policy = z .1; stock = records; lines = lines }) (λ job. job .lines) (λ a v. refl) (section-inverse letterD line-inverse)))))
 
+-- what is read to the end leaves no bytes behind it
 at-end : {A : Type 0} {r : Reading A} {x : A} → atEnd r ≡ some x → r ≡ some (x, [])
 at-end {r = none} e = nothing-read e
 at-end {r = some (a, [])} e = cc

@@ -242,7 +242,7 @@ jobFileLimit = 16384
 unfoldable pub readJob : List ℕ → Option Job
 readJob s = elim (leb (length s) jobFileLimit) [ true ↦ atEnd (readSections s) | false ↦ none ]
 
--- numbers that can be written in a job file: each is at most 65,535
+-- a layout whose numbers can be written in a job file
 pub record WritableLayout (z : Layout) : Type 0 where
   pub aisles : z .aisles ≤ 65535
   pub cells : z .cells ≤ 65535
@@ -252,17 +252,19 @@ pub record WritableLayout (z : Layout) : Type 0 where
   pub width : z .width ≤ 65535
   pub depot : z .depot ≤ 65535
 
+-- a stock record whose numbers can be written in a job file
 pub record WritableRecord (r : StockRecord) : Type 0 where
   pub aisle : r .aisle ≤ 65535
   pub cell : r .cell ≤ 65535
   pub article : r .article ≤ 65535
   pub quantity : r .quantity ≤ 65535
 
+-- an order line whose numbers can be written in a job file
 pub record WritableLine (l : OrderLine) : Type 0 where
   pub article : l .article ≤ 65535
   pub quantity : l .quantity ≤ 65535
 
--- lines that a section can hold: at most 65,535, each writable
+-- a list that can be written as a section: its length and each of its lines can be written
 pub record WritableSection {A : Type 0} (Line : A → Type 0) (xs : List A) : Type 0 where
   pub count : length xs ≤ 65535
   pub each : (x : A) → List·Memᴰ x xs → Line x
