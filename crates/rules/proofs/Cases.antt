@@ -15,7 +15,7 @@ use Rattle.rules.specs.BestPlan.{firstShortest, servingPlans}
 use Rattle.rules.specs.Examples.{tour, walked, HasTour, Meets, AllHold, Holds}
 use Rattle.rules.specs.Sheet.{Run, runsOf}
 use Rattle.rules.proofs.Pruning.{fastServing, fast-serving}
-use Rattle.rules.specs.Answers.{cleared, refused, written, answerJob, answerBytes, answer, hostAnswer, output}
+use Rattle.rules.specs.Answers.{cleared, refused, written, answerChecked, answer, hostAnswer, output}
 use Rattle.rules.specs.BestPlan.{actionsOf, passagesInOrder, single, prepend, shorterOf, emptyPlan, bestPlan}
 use Rattle.rules.specs.Examples.{stocked, _of_, alpha, beta, steps, roundTrip, cases, gamma, topTie, workedJob, workedSheet}
 use Rattle.rules.specs.FirstWalk.{without, stepsOf, firstWalk}
@@ -25,7 +25,7 @@ use Rattle.rules.specs.Machine.{actionPossible, actionStep, passageStep,
 use Rattle.rules.specs.Picks.{cellsOf, lackOf, lessOf, recordAt, taken, passedRecords, picksOf}
 use Rattle.rules.specs.Plans.{actionAt, passageAt, multiplicity, lengthOf, planLength, planPasses}
 use Rattle.rules.specs.Policies.{inFrontHalf, inBackHalf}
-use Rattle.rules.specs.Refusals.{recordInBounds, stockInBounds, sameCell, lineInBounds, listInBounds, sameArticle, weight, allStock, shortOfStock, jobRows, jobRefusal}
+use Rattle.rules.specs.Refusals.{recordInBounds, stockInBounds, sameCell, lineInBounds, listInBounds, sameArticle, weight, allStock, shortOfStock, jobRows, jobRefusal, checkJob, checkBytes}
 use Rattle.rules.specs.Serving.{supply, serves}
 use Rattle.rules.specs.Sheet.{totalText, passageText, pickText, runText, sheetOf, sheetText}
 use Rattle.rules.specs.Store.{aisleLength, position, backHeight, depotPoint, distance, edgesOf, within, layoutInBounds, sameEdge, samePoint}
@@ -56,7 +56,7 @@ module _ (job : Job) (n : ℕ) (actions : List Action) (passages : List Passage)
 
 -- the table of the cases 1 to 14
 pub cases-hold : AllHold cases
-unfolding cleared refused written answerJob answerBytes answer hostAnswer output actionsOf passagesInOrder single prepend shorterOf emptyPlan bestPlan stocked _of_ alpha beta steps roundTrip cases gamma topTie workedJob workedSheet without stepsOf firstWalk numeral field header sectionText isDigit isNumber readField readHeader readPolicyAs readPolicy readLayout readRecord readLine readSection readLayoutSection readSections readJob listed holdsListed actionPossible actionStep passageStep accepts cellsOf lackOf lessOf recordAt taken passedRecords picksOf actionAt passageAt multiplicity lengthOf planLength planPasses inFrontHalf inBackHalf recordInBounds stockInBounds sameCell lineInBounds listInBounds sameArticle weight allStock shortOfStock jobRows jobRefusal supply serves totalText passageText pickText runText sheetOf sheetText aisleLength position backHeight depotPoint distance edgesOf within layoutInBounds sameEdge samePoint isCrossing canStep stepTo stepEdge one fastBest fastServing
+unfolding cleared refused written answerChecked checkBytes checkJob answer hostAnswer output actionsOf passagesInOrder single prepend shorterOf emptyPlan bestPlan stocked _of_ alpha beta steps roundTrip cases gamma topTie workedJob workedSheet without stepsOf firstWalk numeral field header sectionText isDigit isNumber readField readHeader readPolicyAs readPolicy readLayout readRecord readLine readSection readLayoutSection readSections readJob listed holdsListed actionPossible actionStep passageStep accepts cellsOf lackOf lessOf recordAt taken passedRecords picksOf actionAt passageAt multiplicity lengthOf planLength planPasses inFrontHalf inBackHalf recordInBounds stockInBounds sameCell lineInBounds listInBounds sameArticle weight allStock shortOfStock jobRows jobRefusal supply serves totalText passageText pickText runText sheetOf sheetText aisleLength position backHeight depotPoint distance edgesOf within layoutInBounds sameEdge samePoint isCrossing canStep stepTo stepEdge one fastBest fastServing
 cases-hold = (
   tour-met _ _ _ _ refl refl refl,
   (
@@ -103,10 +103,10 @@ cases-hold = (
 
 -- a case of our own
 pub top-tie-holds : Holds topTie
-unfolding cleared refused written answerJob answerBytes answer hostAnswer output actionsOf passagesInOrder single prepend shorterOf emptyPlan bestPlan stocked _of_ alpha beta steps roundTrip cases gamma topTie workedJob workedSheet without stepsOf firstWalk numeral field header sectionText isDigit isNumber readField readHeader readPolicyAs readPolicy readLayout readRecord readLine readSection readLayoutSection readSections readJob listed holdsListed actionPossible actionStep passageStep accepts cellsOf lackOf lessOf recordAt taken passedRecords picksOf actionAt passageAt multiplicity lengthOf planLength planPasses inFrontHalf inBackHalf recordInBounds stockInBounds sameCell lineInBounds listInBounds sameArticle weight allStock shortOfStock jobRows jobRefusal supply serves totalText passageText pickText runText sheetOf sheetText aisleLength position backHeight depotPoint distance edgesOf within layoutInBounds sameEdge samePoint isCrossing canStep stepTo stepEdge one fastBest fastServing
+unfolding cleared refused written answerChecked checkBytes checkJob answer hostAnswer output actionsOf passagesInOrder single prepend shorterOf emptyPlan bestPlan stocked _of_ alpha beta steps roundTrip cases gamma topTie workedJob workedSheet without stepsOf firstWalk numeral field header sectionText isDigit isNumber readField readHeader readPolicyAs readPolicy readLayout readRecord readLine readSection readLayoutSection readSections readJob listed holdsListed actionPossible actionStep passageStep accepts cellsOf lackOf lessOf recordAt taken passedRecords picksOf actionAt passageAt multiplicity lengthOf planLength planPasses inFrontHalf inBackHalf recordInBounds stockInBounds sameCell lineInBounds listInBounds sameArticle weight allStock shortOfStock jobRows jobRefusal supply serves totalText passageText pickText runText sheetOf sheetText aisleLength position backHeight depotPoint distance edgesOf within layoutInBounds sameEdge samePoint isCrossing canStep stepTo stepEdge one fastBest fastServing
 top-tie-holds = tour-met _ _ _ _ refl refl refl
 
 -- the worked example, byte for byte
 pub worked-example : output workedJob ≡ workedSheet
-unfolding cleared refused written answerJob answerBytes answer hostAnswer output actionsOf passagesInOrder single prepend shorterOf emptyPlan bestPlan stocked _of_ alpha beta steps roundTrip cases gamma topTie workedJob workedSheet without stepsOf firstWalk numeral field header sectionText isDigit isNumber readField readHeader readPolicyAs readPolicy readLayout readRecord readLine readSection readLayoutSection readSections readJob listed holdsListed actionPossible actionStep passageStep accepts cellsOf lackOf lessOf recordAt taken passedRecords picksOf actionAt passageAt multiplicity lengthOf planLength planPasses inFrontHalf inBackHalf recordInBounds stockInBounds sameCell lineInBounds listInBounds sameArticle weight allStock shortOfStock jobRows jobRefusal supply serves totalText passageText pickText runText sheetOf sheetText aisleLength position backHeight depotPoint distance edgesOf within layoutInBounds sameEdge samePoint isCrossing canStep stepTo stepEdge one servingPlans
+unfolding cleared refused written answerChecked checkBytes checkJob answer hostAnswer output actionsOf passagesInOrder single prepend shorterOf emptyPlan bestPlan stocked _of_ alpha beta steps roundTrip cases gamma topTie workedJob workedSheet without stepsOf firstWalk numeral field header sectionText isDigit isNumber readField readHeader readPolicyAs readPolicy readLayout readRecord readLine readSection readLayoutSection readSections readJob listed holdsListed actionPossible actionStep passageStep accepts cellsOf lackOf lessOf recordAt taken passedRecords picksOf actionAt passageAt multiplicity lengthOf planLength planPasses inFrontHalf inBackHalf recordInBounds stockInBounds sameCell lineInBounds listInBounds sameArticle weight allStock shortOfStock jobRows jobRefusal supply serves totalText passageText pickText runText sheetOf sheetText aisleLength position backHeight depotPoint distance edgesOf within layoutInBounds sameEdge samePoint isCrossing canStep stepTo stepEdge one servingPlans
 worked-example = refl

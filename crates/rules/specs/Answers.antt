@@ -2,16 +2,14 @@
 use Prim.Native.Nat.{ℕ, _+_}
 use mathlib.Core.List.{List, [], _∷_, _++_}
 use mathlib.Core.Bool.{Bool, true, false}
-use mathlib.Core.Option.{Option, none, some}
 use lib.Dec.{ltb}
 use lib.ListN.{length, take, drop, replicate}
 use Rattle.rules.specs.declared.Refusal.{Refusal}
-use Rattle.rules.specs.declared.Refusal.the-variants.{WorkArea, NotAJobFile, LayoutBounds, StockBounds, CellTwice, ListBounds, ArticleTwice, TooHeavy, ShortOfStock, SheetSpace}
+use Rattle.rules.specs.declared.Refusal.the-variants.{WorkArea, SheetSpace}
 use Rattle.rules.specs.declared.Reply.{Reply}
 use Rattle.rules.specs.declared.Reply.the-variants.{Served, Refused}
-use Rattle.rules.specs.Jobs.{Job}
-use Rattle.rules.specs.JobFile.{lineFeed, header, field, readJob}
-use Rattle.rules.specs.Refusals.{numberOf, jobRefusal}
+use Rattle.rules.specs.JobFile.{lineFeed, header, field}
+use Rattle.rules.specs.Refusals.{Checked, good, bad, numberOf, checkBytes}
 use Rattle.rules.specs.Sheet.{sheetText}
 
 -- what a call answers, and what the lent sheet and the lent work area hold after it
@@ -50,18 +48,15 @@ written text sheet work =
       | false ↦ record { reply = Served (length text); sheet = text ++ drop (length text) sheet; work = cleared work }
     ]
 
--- a job that could be read: the refusal that applies, or its sheet
-unfoldable pub answerJob : Job → List ℕ → List ℕ → Answer
-answerJob job sheet work = elim (jobRefusal job) [ none ↦ written (sheetText job) sheet work | some r ↦ refused r sheet work ]
-
--- the bytes as a job file
-unfoldable pub answerBytes : List ℕ → List ℕ → List ℕ → Answer
-answerBytes bytes sheet work = elim (readJob bytes) [ none ↦ refused NotAJobFile sheet work | some job ↦ answerJob job sheet work ]
+-- the job's sheet, or the refusal that applies
+unfoldable pub answerChecked : Checked → List ℕ → List ℕ → Answer
+answerChecked (good job) sheet work = written (sheetText job) sheet work
+answerChecked (bad r) sheet work = refused r sheet work
 
 -- the library call on job bytes, lent sheet and lent work area
 unfoldable pub answer : List ℕ → List ℕ → List ℕ → Answer
 answer bytes sheet work =
-    elim (ltb (length work) workLimit) [ true ↦ refused WorkArea sheet work | false ↦ answerBytes bytes sheet work ]
+    elim (ltb (length work) workLimit) [ true ↦ refused WorkArea sheet work | false ↦ answerChecked (checkBytes bytes) sheet work ]
 
 -- the planning host's call brings its own work area
 unfoldable pub hostAnswer : List ℕ → List ℕ → Answer

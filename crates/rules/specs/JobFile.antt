@@ -1,8 +1,7 @@
 -- Document 01, "Job file": the text of a job, and reading bytes as a job.
 use Prim.Native.Nat.{ℕ, zero, suc, _+_, _*_, _-_, _≤_, _/_, _%_}
-use mathlib.Core.Path.{_≡_}
-use mathlib.Core.List.{List, [], _∷_, _++_}
-use mathlib.Core.Bool.{Bool, true, false, cond, _&&_, _||_, not}
+use mathlib.Core.List.{List, [], _∷_, _++_, List·Memᴰ}
+use mathlib.Core.Bool.{Bool, true, false, _&&_, not}
 use mathlib.Core.Option.{Option, none, some}
 use lib.Dec.{ltb, leb, eqb}
 use lib.ListN.{length, drop}
@@ -241,3 +240,36 @@ jobFileLimit = 16384
 -- the bytes read as a job, or nothing where they are not a job file
 unfoldable pub readJob : List ℕ → Option Job
 readJob s = elim (leb (length s) jobFileLimit) [ true ↦ atEnd (readSections s) | false ↦ none ]
+
+-- a layout whose numbers can be written in a job file
+pub record WritableLayout (z : Layout) : Type 0 where
+  pub aisles : z .aisles ≤ 65535
+  pub cells : z .cells ≤ 65535
+  pub front : z .front ≤ 65535
+  pub pitch : z .pitch ≤ 65535
+  pub back : z .back ≤ 65535
+  pub width : z .width ≤ 65535
+  pub depot : z .depot ≤ 65535
+
+-- a stock record whose numbers can be written in a job file
+pub record WritableRecord (r : StockRecord) : Type 0 where
+  pub aisle : r .aisle ≤ 65535
+  pub cell : r .cell ≤ 65535
+  pub article : r .article ≤ 65535
+  pub quantity : r .quantity ≤ 65535
+
+-- an order line whose numbers can be written in a job file
+pub record WritableLine (l : OrderLine) : Type 0 where
+  pub article : l .article ≤ 65535
+  pub quantity : l .quantity ≤ 65535
+
+-- a list that can be written as a section: its length and each of its lines can be written
+pub record WritableSection {A : Type 0} (Line : A → Type 0) (xs : List A) : Type 0 where
+  pub count : length xs ≤ 65535
+  pub each : (x : A) → List·Memᴰ x xs → Line x
+
+-- a job whose numbers can be written in a job file: each is at most 65,535
+pub record Writable (job : Job) : Type 0 where
+  pub layout : WritableLayout (job .layout)
+  pub stock : WritableSection WritableRecord (job .stock)
+  pub lines : WritableSection WritableLine (job .lines)

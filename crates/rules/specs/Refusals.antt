@@ -13,6 +13,7 @@ use Rattle.rules.specs.declared.Refusal.the-variants.{WorkArea, NotAJobF
 use Rattle.rules.specs.Lists.{sumOf, productOf, allOf, anyOf, anyTwo}
 use Rattle.rules.specs.Store.{within, layoutInBounds}
 use Rattle.rules.specs.Jobs.{Job}
+use Rattle.rules.specs.JobFile.{readJob}
 
 -- the number of a refusal
 abbrev pub numberOf : Refusal → ℕ
@@ -86,6 +87,19 @@ jobRows job =
 -- the refusal of a job that could be read: the first that applies, or none
 unfoldable pub jobRefusal : Job → Option Refusal
 jobRefusal job = firstRow (jobRows job)
+
+-- what the bytes of a job file come to: a job to which no refusal applies, or the first refusal
+pub data Checked : Type 0 where
+  good : Job → Checked
+  bad : Refusal → Checked
+
+-- a job that could be read
+unfoldable pub checkJob : Job → Checked
+checkJob job = elim (jobRefusal job) [ none ↦ good job | some r ↦ bad r ]
+
+-- the refusals 1 to 8, in table order
+unfoldable pub checkBytes : List ℕ → Checked
+checkBytes bytes = elim (readJob bytes) [ none ↦ bad NotAJobFile | some job ↦ checkJob job ]
 
 -- a job to which none of these refusals applies
 pub record Admitted (job : Job) : Type 0 where

@@ -1,0 +1,316 @@
+-- Job files: text and reading are inverse.
+use Prim.Native.Nat.{ℕ, zero, suc, _≤_}
+use mathlib.Core.Path.{_≡_, refl, sym, _∙_, ap, subst, subst₂, fun-ext}
+use mathlib.Core.List.{List, [], _∷_, _++_, append-assoc, append-nil, List·Memᴰ, List·Memᴰ·head, List·Memᴰ·tail, List·Memᴰ·cases-cons, List·Memᴰ·not-nil}
+use mathlib.Core.Bool.{Bool, true, false}
+use mathlib.Core.Option.{Option, none, some}
+use mathlib.Core.Logic.{_↔_, _⊎_, inl, inr}
+use native.Mathlib.Omega.{arith}
+use lib.Dec.{leb, eqb}
+use lib.ListN.{length, drop}
+use lib.Seq.{drop-append-seam}
+use borrow.Author.Tests.{leb-true, le-leb, eqb-true, eq-eqb}
+use Rattle.rules.specs.declared.Layout.{Layout}
+use Rattle.rules.specs.declared.Policy.{Policy}
+use Rattle.rules.specs.declared.Policy.the-variants.{Exact, Return, Traversal, Midpoint, Composite}
+use Rattle.rules.specs.Lists.{concatOf}
+use Rattle.rules.specs.Jobs.{Job}
+use Rattle.rules.specs.JobFile.{Reading, _>>=_, space, lineFeed, numeral, field, header, isDigit, leadingDigits, valueOf, isNumber, readByte, readField, readHeader, readWord, policyWord, readPolicyAs, orElse, readPolicy, layoutText, readLayout, recordText, readRecord, lineText, readLine, readLines, sectionText, readSection, letterL, letterS, letterD, readLayoutSection, jobText, readSections, atEnd, jobFileLimit, readJob, WritableLayout, WritableRecord, WritableLine, WritableSection, Writable}
+use Rattle.rules.proofs.Numbers.{numeral-digits, valueOf-numeral, isNumber-numeral, numeral-isNumber, leadingDigits-append, leadingDigits-digits, leadingDigits-drop}
+
+-- a reader and a text are inverse: the text of each valid value is read as it, and whatever is read is such a text
+pub record Inverse {A : Type 0} (read : List ℕ → Reading A) (text : A → List ℕ) (Valid : A → Type 0) : Type 0 where
+  pub reads : (x : A) (rest : List ℕ) → Valid x → read (text x ++ rest) ≡ some (x, rest)
+  pub written : (s : List ℕ) (x : A) (rest : List ℕ) → read s ≡ some (x, rest) → (s ≡ text x ++ rest) × Valid x
+
+-- the same with the valid values said in another way
+valid-as : {A : Type 0} {read : List ℕ → Reading A} {t : A → List ℕ} {P Q : A → Type 0} → ((x : A) → P x ↔ Q x) → Inverse read t P → Inverse read t Q
+valid-as same i = record { reads = λ x rest q. i .reads x rest (same x .1 q); written = λ s x rest e. let w = i .written s x rest e in (w .0, same x .0 (w .1)) }
+
+-- anything follows from nothing having been read as something
+nothing-read : {A : Type 0} {C : Type 0} {x : A} → none ≡ some x → C
+nothing-read e = let z : _≡_ {A = ℕ} 0 1 = cc in absurd (omega arith)
+
+-- equal readings have equal values and equal bytes behind them
+same-reading : {A : Type 0} {x y : A} {s rest : List ℕ} → _≡_ {A = Reading A} (some (x, s)) (some (y, rest)) → (x ≡ y) × (s ≡ rest)
+same-reading {A} {x} {y} {s} {rest} e =
+    let p : _≡_ {A = A × List ℕ} (x, s) (y, rest) = cc in
+    (ap (λ (q : A × List ℕ). q .0) p, ap (λ (q : A × List ℕ). q .1) p)
+
+-- reading on gives something only if there was something to read on from
+read-some : {A B : Type 0} (r : Reading A) (next : A × List ℕ → Reading B) {z : B × List ℕ} → r >>= next ≡ some z → (p : A × List ℕ) × (r ≡ some p) × (next p ≡ some z)
+read-some none next e = nothing-read e
+read-some (some p) next e = (p, refl, e)
+
+module _ {A B : Type 0} {read : List ℕ → Reading A} {t : A → List ℕ} {P : A → Type 0} where
+  -- one reader behind another, where what is read first is a part of what is read in all
+  bind : {next : A → List ℕ → Reading B} {u : B → List ℕ} {Q : A → B → Type 0} (part : B → A)
+      → Inverse read t P → ((a : A) → Inverse (next a) u (Q a)) → ((a : A) (y : B) → P a → Q a y → part y ≡ a)
+      → Inverse (λ (s : List ℕ). read s >>= λ r. next (r .0) (r .1)) (λ (y : B). t (part y) ++ u y) (λ (y : B). P (part y) × Q (part y) y)
+  bind {next} {u} {Q} part i j told = record {
+    reads = λ y rest v. rw (append-assoc, i .reads (part y) (u y ++ rest) (v .0)) (j (part y) .reads y rest (v .1));
+    written = λ s y rest e. let w = read-some (read s) (λ r. next (r .0) (r .1)) e in go s y rest (w .0 .0) (w .0 .1) (w .1) (w .2);
+  }
+    where
+      go : (s : List ℕ) (y : B) (rest : List ℕ) (a : A) (behind : List ℕ) → read s ≡ some (a, behind) → next a behind ≡ some (y, rest) → (s ≡ t (part y) ++ u y ++ rest) × (P (part y) × Q (part y) y)
+      go s y rest a behind p q =
+          let f = i .written s a behind p in
+          let g = j a .written behind y rest q in
+          let same = told a y (f .1) (g .1) in
+          (rw (append-assoc, same) (f .0 ∙ ap (λ (z : List ℕ). t a ++ z) (g .0)), rw same (f .1, g .1))
+
+  -- the same where the value in all is made of the part and of what is read behind it
+  bind-part : {next : A → List ℕ → Reading B} {u : B → List ℕ} {Q : B → Type 0} {whole : A → B → B} (part : B → A)
+      → ((a : A) (y : B) → part (whole a y) ≡ a) → Inverse read t P → ((a : A) → Inverse (next a) u (λ (y : B). (y ≡ whole a y) × Q y))
+      → Inverse (λ (s : List ℕ). read s >>= λ r. next (r .0) (r .1)) (λ (y : B). t (part y) ++ u y) (λ (y : B). (y ≡ whole (part y) y) × (P (part y) × Q y))
+  bind-part part told i j =
+      valid-as (λ y. (λ v. (v .1 .0, (v .0, v .1 .1)), λ v. (v .1 .0, (v .0, v .1 .1)))) (bind part i j (λ a y p q. ap part (q .0) ∙ told a y))
+
+  -- the last part, which makes the value
+  made : (whole : A → B) (part : B → A) → ((a : A) → P a → part (whole a) ≡ a) → Inverse read t P
+      → Inverse (λ (s : List ℕ). read s >>= λ r. some (whole (r .0), r .1)) (λ (y : B). t (part y)) (λ (y : B). (y ≡ whole (part y)) × P (part y))
+  made whole part told i = record {
+    reads = λ y rest v. let e = v .0 in rw (i .reads (part y) rest (v .1)) (cc);
+    written = λ s y rest e. let w = read-some (read s) (λ r. some (whole (r .0), r .1)) e in go s y rest (w .0 .0) (w .0 .1) (w .1) (w .2);
+  }
+    where
+      go : (s : List ℕ) (y : B) (rest : List ℕ) (a : A) (behind : List ℕ) → read s ≡ some (a, behind) → _≡_ {A = Reading B} (some (whole a, behind)) (some (y, rest)) → (s ≡ t (part y) ++ rest) × ((y ≡ whole (part y)) × P (part y))
+      go s y rest a behind p q =
+          let f = i .written s a behind p in
+          let g = same-reading q in
+          let same : part y ≡ a = ap part (sym (g .0)) ∙ told a (f .1) in
+          rw same (f .0 ∙ ap (λ (z : List ℕ). t a ++ z) (g .1), (sym (g .0), f .1))
+
+-- the byte that must come next
+pub byte-inverse : (b : ℕ) → Inverse (readByte b) (λ (c : ℕ). c ∷ []) (λ (c : ℕ). c ≡ b)
+byte-inverse b = record { reads = λ c rest e. rw (readByte, eq-eqb c b e); written = written }
+  where
+    written : (s : List ℕ) (c : ℕ) (rest : List ℕ) → readByte b s ≡ some (c, rest) → (s ≡ c ∷ rest) × (c ≡ b)
+    written [] c rest e = nothing-read e
+    written (d ∷ s) c rest e = go (eqb d b) refl e
+      where
+        go : (t : Bool) → eqb d b ≡ t → _≡_ {A = Reading ℕ} (elim t [ true ↦ some (d, s) | false ↦ none ]) (some (c, rest)) → (d ∷ s ≡ c ∷ rest) × (c ≡ b)
+        go true h e = let same = same-reading e in (cc (same .0, same .1), sym (same .0) ∙ eqb-true d b h)
+        go false h e = nothing-read e
+
+-- reading a number, once its digits are known and tested
+abbrev readAs : ℕ → List ℕ → List ℕ → Bool → Reading ℕ
+readAs sep ds s b = elim b [ true ↦ readByte sep (drop (length ds) s) >>= (λ r. some (valueOf 0 ds, r .1)) | false ↦ none ]
+
+-- a number and the separator behind it
+pub field-inverse : (sep : ℕ) → isDigit sep ≡ false → Inverse (readField sep) (field sep) (λ (n : ℕ). n ≤ 65535)
+unfolding readField field
+field-inverse sep h = record { reads = reads; written = written }
+  where
+    reads : (n : ℕ) (rest : List ℕ) → n ≤ 65535 → readField sep (field sep n ++ rest) ≡ some (n, rest)
+    reads n rest l =
+        let s = numeral n ++ sep ∷ rest in
+        let digits = leadingDigits-append (numeral n) sep rest (numeral-digits n) h in
+        rw append-assoc (ap (λ (ds : List ℕ). readAs sep ds s (isNumber ds)) digits ∙ rw (isNumber-numeral n l, drop-append-seam (numeral n) (sep ∷ rest), readByte, eq-eqb sep sep refl, valueOf-numeral n))
+
+    written : (s : List ℕ) (n : ℕ) (rest : List ℕ) → readField sep s ≡ some (n, rest) → (s ≡ field sep n ++ rest) × (n ≤ 65535)
+    written s n rest e = go (isNumber (leadingDigits s)) refl e
+      where
+        go : (b : Bool) → isNumber (leadingDigits s) ≡ b → readAs sep (leadingDigits s) s b ≡ some (n, rest) → (s ≡ numeral n ++ (sep ∷ []) ++ rest) × (n ≤ 65535)
+        go true h e =
+            let ds = leadingDigits s in
+            let w = read-some (readByte sep (drop (length ds) s)) (λ r. some (valueOf 0 ds, r .1)) e in
+            let ended = byte-inverse sep .written (drop (length ds) s) (w .0 .0) (w .0 .1) (w .1) in
+            let same = same-reading (w .2) in
+            let number = numeral-isNumber ds (leadingDigits-digits s) h in
+            (cc (leadingDigits-drop s, append-assoc (numeral n) (sep ∷ []) rest), rw (same .0) at (number .1))
+        go false h e = nothing-read e
+
+-- a number and a space
+pub space-field : Inverse (readField space) (field space) (λ (n : ℕ). n ≤ 65535)
+unfolding isDigit
+space-field = field-inverse space refl
+
+-- a number and a line feed
+pub line-field : Inverse (readField lineFeed) (field lineFeed) (λ (n : ℕ). n ≤ 65535)
+unfolding isDigit
+line-field = field-inverse lineFeed refl
+
+-- a section's first line
+pub header-inverse : (letter : ℕ) → Inverse (readHeader letter) (header letter) (λ (n : ℕ). n ≤ 65535)
+unfolding readHeader header
+header-inverse letter =
+    valid-as
+    (λ n. (λ v. v .1 .1, λ v. (refl, (refl, v))))
+    (bind (λ n. letter) (byte-inverse letter) (λ c. bind (λ n. space) (byte-inverse space) (λ d. line-field) (λ d n p q. sym p)) (λ c n p q. sym p))
+
+-- a word, byte for byte
+word-inverse : (w : List ℕ) → Inverse (readWord w) (λ (x : List ℕ). w) (λ (x : List ℕ). x ≡ w)
+word-inverse [] = record { reads = λ x rest e. cc; written = λ s x rest e. (same-reading e .1, sym (same-reading e .0)) }
+word-inverse (c ∷ w) =
+    valid-as
+    (λ x. (λ v. v .1 .0, λ v. (refl, (v, refl))))
+    (bind (λ x. c) (byte-inverse c) (λ b. made (λ word. b ∷ word) (λ x. w) (λ word e. sym e) (word-inverse w)) (λ b x p q. sym p))
+
+-- the word of a policy and the line feed behind it
+unfoldable pub policyText : Policy → List ℕ
+policyText policy = policyWord policy ++ (lineFeed ∷ [])
+
+-- the word of a given policy and the line feed behind it
+policyAs-inverse : (policy : Policy) → Inverse (readPolicyAs policy) (λ (p : Policy). policyText policy) (λ (p : Policy). p ≡ policy)
+unfolding readPolicyAs policyText
+policyAs-inverse policy =
+    valid-as (λ p. (λ v. v .0, λ v. (v, refl))) (made (λ word. policy) (λ p. policyText policy) (λ word e. sym e) (word-inverse (policyText policy)))
+
+-- one of two readings gave what either of them gives
+or-else : {A C : Type 0} {a b : Option A} {x : A} → (a ≡ some x → C) → (b ≡ some x → C) → orElse a b ≡ some x → C
+or-else {a = none} f g e = g e
+or-else {a = some y} f g e = f e
+
+-- the word of any policy and the line feed behind it
+pub policy-inverse : Inverse readPolicy policyText (λ (p : Policy). Unit {0})
+unfolding readPolicy readPolicyAs policyText
+policy-inverse = record { reads = reads; written = written }
+  where
+    reads : (p : Policy) (rest : List ℕ) → Unit {0} → readPolicy (policyText p ++ rest) ≡ some (p, rest)
+    reads Exact rest v = refl
+    reads Return rest v = refl
+    reads Traversal rest v = refl
+    reads Midpoint rest v = refl
+    reads Composite rest v = refl
+
+    written : (s : List ℕ) (p : Policy) (rest : List ℕ) → readPolicy s ≡ some (p, rest) → (s ≡ policyText p ++ rest) × Unit {0}
+    written s p rest = or-else (one Exact) (or-else (one Return) (or-else (one Traversal) (or-else (one Midpoint) (one Composite))))
+      where
+        one : (q : Policy) → readPolicyAs q s ≡ some (p, rest) → (s ≡ policyText p ++ rest) × Unit {0}
+        one q e = let w = policyAs-inverse q .written s p rest e in (rw (w .1) (w .0), tt)
+
+-- the line of the L section
+pub layout-inverse : Inverse readLayout (λ (z : Layout × Policy). layoutText (z .0) (z .1)) (λ (z : Layout × Policy). WritableLayout (z .0))
+unfolding readLayout layoutText policyText
+layout-inverse =
+    valid-as
+    (λ z. (λ v. omega arith, λ v. (refl, omega arith)))
+    (bind-part (λ z. z .0 .aisles) (λ a z. refl) space-field (λ m.
+    bind-part (λ z. z .0 .cells) (λ a z. refl) space-field (λ c.
+    bind-part (λ z. z .0 .front) (λ a z. refl) space-field (λ f.
+    bind-part (λ z. z .0 .pitch) (λ a z. refl) space-field (λ p.
+    bind-part (λ z. z .0 .back) (λ a z. refl) space-field (λ b.
+    bind-part (λ z. z .0 .width) (λ a z. refl) space-field (λ w.
+    bind-part (λ z. z .0 .depot) (λ a z. refl) space-field (λ d.
+    made (λ word. (record { aisles = m; cells = c; front = f; pitch = p; back = b; width = w; depot = d }, word)) (λ z. z .1) (λ a v. refl) policy-inverse))))))))
+
+-- a line of the S section
+pub record-inverse : Inverse readRecord recordText WritableRecord
+unfolding readRecord recordText
+record-inverse =
+    valid-as
+    (λ r. (λ v. omega arith, λ v. (refl, omega arith)))
+    (bind-part (λ r. r .aisle) (λ a r. refl) space-field (λ j.
+    bind-part (λ r. r .cell) (λ a r. refl) space-field (λ c.
+    bind-part (λ r. r .article) (λ a r. refl) space-field (λ a.
+    made (λ q. record { aisle = j; cell = c; article = a; quantity = q }) (λ r. r .quantity) (λ q v. refl) line-field))))
+
+-- a line of the D section
+pub line-inverse : Inverse readLine lineText WritableLine
+unfolding readLine lineText
+line-inverse =
+    valid-as
+    (λ l. (λ v. omega arith, λ v. (refl, omega arith)))
+    (bind-part (λ l. l .article) (λ a l. refl) space-field (λ a.
+    made (λ q. record { article = a; quantity = q }) (λ l. l .quantity) (λ q v. refl) line-field))
+
+-- n lines, each valid
+abbrev ValidLines : {A : Type 0} → (A → Type 0) → ℕ → List A → Type 0
+ValidLines {A} P n xs = (length xs ≡ n) × ((x : A) → List·Memᴰ x xs → P x)
+
+module _ {A : Type 0} {read : List ℕ → Reading A} {text : A → List ℕ} {P : A → Type 0} (i : Inverse read text P) where
+  -- the text of n valid lines is read as them
+  lines-reads : (n : ℕ) (xs : List A) (rest : List ℕ) → ValidLines P n xs → readLines read n (concatOf text xs ++ rest) ≡ some (xs, rest)
+  lines-reads zero [] rest v = refl
+  lines-reads zero (x ∷ xs) rest v = absurd (omega arith)
+  lines-reads (suc n) [] rest v = absurd (omega arith)
+  lines-reads (suc n) (x ∷ xs) rest v =
+      let first = i .reads x (concatOf text xs ++ rest) (v .1 x (List·Memᴰ·head refl)) in
+      rw (append-assoc, first, lines-reads n xs rest (omega arith, λ y m. v .1 y (List·Memᴰ·tail m)))
+
+  -- one line more that stood there as text
+  cons-written : (n : ℕ) (s behind rest : List ℕ) (x : A) (xs : List A) → (s ≡ text x ++ behind) × P x → (behind ≡ concatOf text xs ++ rest) × ValidLines P n xs → (s ≡ concatOf text (x ∷ xs) ++ rest) × ValidLines P (suc n) (x ∷ xs)
+  cons-written n s behind rest x xs p q = (rw append-assoc (p .0 ∙ ap (λ (z : List ℕ). text x ++ z) (q .0)), (omega arith, λ y m. go y (List·Memᴰ·cases-cons m)))
+    where
+      go : (y : A) → (y ≡ x) ⊎ List·Memᴰ y xs → P y
+      go y (inl e) = rw e (p .1)
+      go y (inr m) = q .1 .1 y m
+
+  -- lines that are read stood there as text
+  lines-written : (n : ℕ) (s : List ℕ) (xs : List A) (rest : List ℕ) → readLines read n s ≡ some (xs, rest) → (s ≡ concatOf text xs ++ rest) × ValidLines P n xs
+  lines-written zero s xs rest e = let same = same-reading e in rw (← same .0) (same .1, (refl, λ x m. absurd (List·Memᴰ·not-nil m)))
+  lines-written (suc n) s ys rest e =
+      let w = read-some (read s) (λ r. readLines read n (r .1) >>= λ q. some (r .0 ∷ q .0, q .1)) e in
+      let (x, behind) = w .0 in
+      let v = read-some (readLines read n behind) (λ q. some (x ∷ q .0, q .1)) (w .2) in
+      let (xs, last) = v .0 in
+      let same = same-reading (v .2) in
+      subst₂ (λ (zs : List A) (end : List ℕ). (s ≡ concatOf text zs ++ end) × ValidLines P (suc n) zs) (same .0) (same .1)
+      (cons-written n s behind last x xs (i .written s x behind (w .1)) (lines-written n behind xs last (v .1)))
+
+  -- a number of lines
+  pub lines-inverse : (n : ℕ) → Inverse (readLines read n) (concatOf text) (ValidLines P n)
+  lines-inverse n = record { reads = lines-reads n; written = lines-written n }
+
+-- a section of lines
+pub section-inverse : {A : Type 0} {read : List ℕ → Reading A} {text : A → List ℕ} {P : A → Type 0} (letter : ℕ) → Inverse read text P → Inverse (readSection letter read) (sectionText letter text) (WritableSection P)
+unfolding readSection sectionText
+section-inverse letter i =
+    valid-as
+    (λ xs. (λ v. record { count = v .0; each = v .1 .1 }, λ v. (v .count, (refl, v .each))))
+    (bind (λ xs. length xs) (header-inverse letter) (λ n. lines-inverse i n) (λ n xs p q. q .0))
+
+-- a reader that reads only if the test holds
+if-inverse : {A : Type 0} {read : List ℕ → Reading A} {text : A → List ℕ} {P : A → Type 0} (b : Bool) → Inverse read text P → Inverse (λ (s : List ℕ). elim b [ true ↦ read s | false ↦ none ]) text (λ (x : A). (b ≡ true) × P x)
+if-inverse true i = valid-as (λ x. (λ v. (refl, v), λ v. v .1)) i
+if-inverse false i = record { reads = λ x rest v. let e = v .0 in cc; written = λ s x rest e. nothing-read e }
+
+-- the L section
+pub layout-section-inverse : Inverse readLayoutSection (λ (z : Layout × Policy). header letterL 1 ++ layoutText (z .0) (z .1)) (λ (z : Layout × Policy). WritableLayout (z .0))
+unfolding readLayoutSection
+layout-section-inverse =
+    valid-as
+    (λ z. (λ v. v .1 .1, λ v. (omega arith, (refl, v))))
+    (bind (λ z. 1) (header-inverse letterL) (λ n. if-inverse (eqb n 1) layout-inverse) (λ n z p q. sym (eqb-true n 1 (q .0))))
+
+-- the three sections
+pub sections-inverse : Inverse readSections jobText Writable
+unfolding readSections jobText
+sections-inverse =
+    subst (λ (t : Job → List ℕ). Inverse readSections t Writable) (fun-ext (λ job. append-assoc (header letterL 1) (layoutText (job .layout) (job .policy)) (sectionText letterS recordText (job .stock) ++ sectionText letterD lineText (job .lines))))
+    (valid-as
+    (λ job. (λ v. record { layout = v .1 .0; stock = v .1 .1 .0; lines = v .1 .1 .1 }, λ v. (refl, (v .layout, (v .stock, v .lines)))))
+    (bind-part (λ job. (job .layout, job .policy)) (λ a job. refl) layout-section-inverse (λ z.
+    bind-part (λ job. job .stock) (λ a job. refl) (section-inverse letterS record-inverse) (λ records.
+    made (λ lines. record { layout = z .0; policy = z .1; stock = records; lines = lines }) (λ job. job .lines) (λ a v. refl) (section-inverse letterD line-inverse)))))
+
+-- what is read to the end leaves no bytes behind it
+at-end : {A : Type 0} {r : Reading A} {x : A} → atEnd r ≡ some x → r ≡ some (x, [])
+at-end {r = none} e = nothing-read e
+at-end {r = some (a, [])} e = cc
+at-end {r = some (a, c ∷ s)} e = nothing-read e
+
+-- the text of a writable job, if it is at most 16,384 bytes, is read as the job
+pub read-text : (job : Job) → Writable job → length (jobText job) ≤ jobFileLimit → readJob (jobText job) ≡ some job
+unfolding readJob
+read-text job v l =
+    let read = ap readSections (sym (append-nil (jobText job))) ∙ sections-inverse .reads job [] v in
+    rw (readJob, le-leb (length (jobText job)) jobFileLimit l, read)
+
+-- bytes are read as a job exactly if they are at most 16,384 and the text of the job, whose numbers can be written
+pub job-file : (s : List ℕ) (job : Job) → (readJob s ≡ some job) ↔ (Writable job × (length s ≤ jobFileLimit) × (jobText job ≡ s))
+unfolding readJob
+job-file s job = (go (leb (length s) jobFileLimit) refl, λ v. subst (λ (t : List ℕ). readJob t ≡ some job) (v .2) (read-text job (v .0) (rw (v .2) (v .1))))
+  where
+    go : (b : Bool) → leb (length s) jobFileLimit ≡ b → _≡_ {A = Option Job} (elim b [ true ↦ atEnd (readSections s) | false ↦ none ]) (some job) → Writable job × (length s ≤ jobFileLimit) × (jobText job ≡ s)
+    go true h e = let w = sections-inverse .written s job [] (at-end e) in (w .1, leb-true (length s) jobFileLimit h, sym (w .0 ∙ append-nil (jobText job)))
+    go false h e = nothing-read e
+
+-- bytes that are read as a job are its text
+pub text-of-read : (s : List ℕ) (job : Job) → readJob s ≡ some job → jobText job ≡ s
+text-of-read s job e = job-file s job .0 e .2
+
+-- a job that is read can be written, and was read from at most 16,384 bytes
+pub readable : (s : List ℕ) (job : Job) → readJob s ≡ some job → Writable job × (length s ≤ jobFileLimit)
+readable s job e = let v = job-file s job .0 e in (v .0, v .1)
