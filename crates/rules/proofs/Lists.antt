@@ -1,13 +1,13 @@
 -- Laws of lists: sums, membership, order.
-use Prim.Native.Nat.{ℕ, zero, suc, _+_, _*_, _-_, _≤_, _<_}
+use Prim.Native.Nat.{ℕ, zero, suc, _+_, _*_, _≤_, _<_}
 use mathlib.Core.Path.{_≡_, refl, sym, _∙_, ap, ap₂, subst}
 use mathlib.Core.Logic.{_⊎_, inl, inr, _↔_}
-use mathlib.Core.List.{List, [], _∷_, _++_, map, List·Memᴰ, List·Memᴰ·head, List·Memᴰ·tail, List·Memᴰ·not-nil, List·Memᴰ·append-cases, Memᴰ·append-left, Memᴰ·append-right, Memᴰ·map, Memᴰ·of-map, Memᴰ·cast}
+use mathlib.Core.List.{List, [], _∷_, _++_, map, List·Memᴰ, List·Memᴰ·head, List·Memᴰ·tail, List·Memᴰ·not-nil, List·Memᴰ·append-cases, Memᴰ·append-left, Memᴰ·append-right, Memᴰ·map, Memᴰ·of-map}
 use mathlib.Core.Bool.{Bool, true, false, cond, _||_, true≢false, false≢true, and-eq-true-iff}
 use native.Mathlib.Nat.{eq-or-lt-of-le, suc-mul}
 use native.Mathlib.Omega.{arith}
 use lib.ListN.{length}
-use Rattle.rules.specs.Lists.{from, sumOf, concatOf, nth, allOf, anyOf}
+use Rattle.rules.specs.Lists.{from, sumOf, concatOf, nth, allOf, anyOf, select}
 
 -- tests joined by "or"
 or-false : (a b : Bool) → (a || b) ≡ false → (a ≡ false) × (b ≡ false)
@@ -149,3 +149,86 @@ module _ {A : Type 0} where
       some-true : {y : A} {ys : List A} → List·Memᴰ y ys → t y ≡ true → anyOf t ys ≡ true
       some-true (List·Memᴰ·head e) h = rw (← e, h)
       some-true (List·Memᴰ·tail {x} {xs} m) h = rw (some-true m h) (or-right (t x))
+
+  -- the selected elements are those of which the test holds
+  pub member-select : {x : A} (t : A → Bool) (xs : List A) → List·Memᴰ x (select t xs) ↔ (List·Memᴰ x xs × (t x ≡ true))
+  member-select {x} t xs = (taken xs, λ p. kept p.0 p.1)
+    where
+      taken : (ys : List A) → List·Memᴰ x (select t ys) → List·Memᴰ x ys × (t x ≡ true)
+      taken [] m = absurd (List·Memᴰ·not-nil m)
+      taken (y ∷ ys) m = go (t y) refl m (taken ys)
+        where
+          go : (b : Bool) → t y ≡ b → List·Memᴰ x (cond b (y ∷ select t ys) (select t ys)) → (List·Memᴰ x (select t ys) → List·Memᴰ x ys × (t x ≡ true)) → List·Memᴰ x (y ∷ ys) × (t x ≡ true)
+          go true e (List·Memᴰ·head h) rest = (List·Memᴰ·head h, ap t h ∙ e)
+          go true e (List·Memᴰ·tail l) rest = let r = rest l in (List·Memᴰ·tail r.0, r .1)
+          go false e l rest = let r = rest l in (List·Memᴰ·tail r.0, r .1)
+
+      kept : {ys : List A} → List·Memᴰ x ys → t x ≡ true → List·Memᴰ x (select t ys)
+      kept (List·Memᴰ·head {x = y} e) h = let held : t y ≡ true = ap t (sym e) ∙ h in rw held (List·Memᴰ·head e)
+      kept (List·Memᴰ·tail {x = y} {xs} m) h = go (t y) (kept m h)
+        where
+          go : (b : Bool) → List·Memᴰ x (select t xs) → List·Memᴰ x (cond b (y ∷ select t xs) (select t xs))
+          go true l = List·Memᴰ·tail l
+          go false l = l
+
+module _ {A B : Type 0} where
+  -- a member of several lists, one behind the other, is a member of one of them
+  pub member-concat : {y : B} (f : A → List B) (xs : List A) → List·Memᴰ y (concatOf f xs) → (x : A) × List·Memᴰ x xs × List·Memᴰ y (f x)
+  member-concat f [] m = absurd (List·Memᴰ·not-nil m)
+  member-concat {y} f (x ∷ xs) m = go (List·Memᴰ·append-cases (f x) m) (member-concat f xs)
+    where
+      go : List·Memᴰ y (f x) ⊎ List·Memᴰ y (concatOf f xs) → (List·Memᴰ y (concatOf f xs) → (w : A) × List·Memᴰ w xs × List·Memᴰ y (f w)) → (w : A) × List·Memᴰ w (x ∷ xs) × List·Memᴰ y (f w)
+      go (inl l) rest = (x, List·Memᴰ·head refl, l)
+      go (inr l) rest = let r = rest l in (r .0, List·Memᴰ·tail r.1, r .2)
+
+  pub concat-member : {x : A} {y : B} {xs : List A} (f : A → List B) → List·Memᴰ x xs → List·Memᴰ y (f x) → List·Memᴰ y (concatOf f xs)
+  concat-member {y = y} f (List·Memᴰ·head {xs} e) l = Memᴰ·append-left (concatOf f xs) (subst (λ w. List·Memᴰ y (f w)) e l)
+  concat-member f (List·Memᴰ·tail {x = w} m) l = Memᴰ·append-right (f w) (concat-member f m l)
+
+module _ {A : Type 0} where
+  -- each element stands in the relation to all later ones
+  abbrev pub Sorted : (A → A → Type 0) → List A → Type 0
+  Sorted R [] = Unit {0}
+  Sorted R (x ∷ xs) = ((y : A) → List·Memᴰ y xs → R x y) × Sorted R xs
+
+  -- two sorted lists, one behind the other
+  pub sorted-append : (R : A → A → Type 0) (xs ys : List A) → Sorted R xs → Sorted R ys → ((x y : A) → List·Memᴰ x xs → List·Memᴰ y ys → R x y) → Sorted R (xs ++ ys)
+  sorted-append R [] ys s r h = r
+  sorted-append R (x ∷ xs) ys s r h =
+      (λ y m. go y (List·Memᴰ·append-cases xs m), sorted-append R xs ys s.1 r (λ w y l. h w y (List·Memᴰ·tail l)))
+    where
+      go : (y : A) → List·Memᴰ y xs ⊎ List·Memᴰ y ys → R x y
+      go y (inl l) = s .0 y l
+      go y (inr l) = h x y (List·Memᴰ·head refl) l
+
+  -- what is selected of a sorted list is sorted
+  pub sorted-select : (R : A → A → Type 0) (t : A → Bool) (xs : List A) → Sorted R xs → Sorted R (select t xs)
+  sorted-select R t [] s = s
+  sorted-select R t (x ∷ xs) s = go (t x) (sorted-select R t xs s.1)
+    where
+      go : (b : Bool) → Sorted R (select t xs) → Sorted R (cond b (x ∷ select t xs) (select t xs))
+      go true r = (λ y m. s .0 y (member-select t xs .0 m .0), r)
+      go false r = r
+
+module _ {A B : Type 0} where
+  -- a sorted list, mapped
+  pub sorted-map : (R : A → A → Type 0) (S : B → B → Type 0) (f : A → B) (xs : List A) → ((x y : A) → R x y → S (f x) (f y)) → Sorted R xs → Sorted S (map f xs)
+  sorted-map R S f [] h s = s
+  sorted-map R S f (x ∷ xs) h s =
+      (λ y m. let p = Memᴰ·of-map f xs m in subst (S (f x)) p.2 (h x (p .0) (s .0 (p .0) p.1)), sorted-map R S f xs h s.1)
+
+  -- a list whose images are sorted
+  pub sorted-by : (f : A → B) (S : B → B → Type 0) (xs : List A) → Sorted S (map f xs) → Sorted (λ x y. S (f x) (f y)) xs
+  sorted-by f S [] s = s
+  sorted-by f S (x ∷ xs) s = (λ y m. s .0 (f y) (Memᴰ·map f m), sorted-by f S xs s.1)
+
+  -- several sorted lists, one behind the other
+  pub sorted-concat : (R : A → A → Type 0) (S : B → B → Type 0) (f : A → List B) (xs : List A) → Sorted R xs → ((x : A) → Sorted S (f x)) → ((x y : A) (u v : B) → R x y → List·Memᴰ u (f x) → List·Memᴰ v (f y) → S u v) → Sorted S (concatOf f xs)
+  sorted-concat R S f [] s each h = s
+  sorted-concat R S f (x ∷ xs) s each h =
+      sorted-append S (f x) (concatOf f xs) (each x) (sorted-concat R S f xs s.1 each h) (λ u v l m. let p = member-concat f xs m in h x (p .0) u v (s .0 (p .0) p.1) l p.2)
+
+-- the numbers from a upwards grow
+pub sorted-from : (a n : ℕ) → Sorted _<_ (from a n)
+sorted-from a zero = tt
+sorted-from a (suc n) = (λ k m. member-from (suc a) n m .0, sorted-from (suc a) n)
