@@ -21,7 +21,7 @@ use Rattle.rules.specs.BestPlan.{downFrom, actionsOf, passagesInOrder, s
 use Rattle.rules.specs.Jobs.{Job}
 use Rattle.rules.specs.Serving.{serves, PlanServes}
 use Rattle.rules.specs.Machine.{accepts}
-use Rattle.rules.proofs.Lists.{member-from, from-member, place-member, place-beyond, member-concat, concat-member, member-select, Sorted, sorted-append, sorted-select, sorted-map, sorted-by, sorted-concat, sorted-from}
+use Rattle.rules.proofs.Lists.{member-from, from-member, place-member, place-beyond, member-concat, concat-member, member-select, Sorted, sorted-append, sorted-split, sorted-select, sorted-map, sorted-by, sorted-concat, sorted-from}
 use Rattle.rules.proofs.Lengths.{well-formed-fits}
 use Rattle.rules.proofs.Serving.{serves-test}
 
@@ -301,14 +301,10 @@ module _ {A : Type 0} (len : A → ℕ) where
   pub first-shortest-first : (R : A → A → Type 0) {xs : List A} {x : A} → Sorted R xs → FirstShortest len xs x → (y : A) → List·Memᴰ y xs → len y ≤ len x → (y ≡ x) ⊎ R x y
   first-shortest-first R {xs} {x} s f y m le = go (List·Memᴰ·append-cases (f .before) (subst (List·Memᴰ y) (f .split) m))
     where
-      behind : (zs : List A) → Sorted R (zs ++ (x ∷ f .after)) → List·Memᴰ y (f .after) → R x y
-      behind [] t l = t .0 y l
-      behind (z ∷ zs) t l = behind zs t.1 l
-
       go : List·Memᴰ y (f .before) ⊎ List·Memᴰ y (x ∷ f .after) → (y ≡ x) ⊎ R x y
       go (inl l) = absurd (omega (arith, f .longer-before y l))
       go (inr (List·Memᴰ·head e)) = inl e
-      go (inr (List·Memᴰ·tail l)) = inr (behind (f .before) (subst (Sorted R) (f .split) s) l)
+      go (inr (List·Memᴰ·tail l)) = inr (sorted-split R (f .before) (subst (Sorted R) (f .split) s) y l)
 
   -- a list with an element has a first of its shortest elements, and the function gives it
   pub first-shortest-some : (w : A) (ws : List A) → (x : A) × (firstShortest len (w ∷ ws) ≡ some x) × FirstShortest len (w ∷ ws) x

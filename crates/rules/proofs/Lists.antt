@@ -7,7 +7,7 @@ use mathlib.Core.Bool.{Bool, true, false, cond, _||_, true≢false, false≢true
 use native.Mathlib.Nat.{eq-or-lt-of-le, suc-mul}
 use native.Mathlib.Omega.{arith}
 use lib.ListN.{length}
-use Rattle.rules.specs.Lists.{from, sumOf, concatOf, nth, allOf, anyOf, select}
+use Rattle.rules.specs.Lists.{from, sumOf, concatOf, nth, allOf, anyOf, anyTwo, select}
 
 -- tests joined by "or"
 or-false : (a b : Bool) → (a || b) ≡ false → (a ≡ false) × (b ≡ false)
@@ -65,12 +65,13 @@ sum-from-append f a b (suc n) k e =
     let one-less : suc n + k ≡ suc (n + k) = omega arith in
     rw one-less (omega (arith, sum-from-append f (suc a) b n k (omega arith)))
 
--- the numbers of a list from a upwards
+-- the members of the numbers from a upwards
 pub member-from : {k : ℕ} (a n : ℕ) → List·Memᴰ k (from a n) → (a ≤ k) × (k < a + n)
 member-from a zero m = absurd (List·Memᴰ·not-nil m)
 member-from a (suc n) (List·Memᴰ·head e) = omega arith
 member-from a (suc n) (List·Memᴰ·tail m) = let h = member-from (suc a) n m in omega arith
 
+-- and the other way round
 pub from-member : (k a n : ℕ) → a ≤ k → k < a + n → List·Memᴰ k (from a n)
 from-member k a zero low high = absurd (omega arith)
 from-member k a (suc n) low high = go (eq-or-lt-of-le low) (from-member k (suc a) n)
@@ -181,6 +182,7 @@ module _ {A B : Type 0} where
       go (inl l) rest = (x, List·Memᴰ·head refl, l)
       go (inr l) rest = let r = rest l in (r .0, List·Memᴰ·tail r.1, r .2)
 
+  -- and the other way round
   pub concat-member : {x : A} {y : B} {xs : List A} (f : A → List B) → List·Memᴰ x xs → List·Memᴰ y (f x) → List·Memᴰ y (concatOf f xs)
   concat-member {y = y} f (List·Memᴰ·head {xs} e) l = Memᴰ·append-left (concatOf f xs) (subst (λ w. List·Memᴰ y (f w)) e l)
   concat-member f (List·Memᴰ·tail {x = w} m) l = Memᴰ·append-right (f w) (concat-member f m l)
@@ -191,6 +193,11 @@ module _ {A : Type 0} where
   Sorted R [] = Unit {0}
   Sorted R (x ∷ xs) = ((y : A) → List·Memᴰ y xs → R x y) × Sorted R xs
 
+  -- sorted by one relation, so by one that follows from it
+  pub sorted-imply : (R S : A → A → Type 0) → ((x y : A) → R x y → S x y) → (xs : List A) → Sorted R xs → Sorted S xs
+  sorted-imply R S h [] s = s
+  sorted-imply R S h (x ∷ xs) s = (λ y m. h x y (s .0 y m), sorted-imply R S h xs s.1)
+
   -- two sorted lists, one behind the other
   pub sorted-append : (R : A → A → Type 0) (xs ys : List A) → Sorted R xs → Sorted R ys → ((x y : A) → List·Memᴰ x xs → List·Memᴰ y ys → R x y) → Sorted R (xs ++ ys)
   sorted-append R [] ys s r h = r
@@ -200,6 +207,42 @@ module _ {A : Type 0} where
       go : (y : A) → List·Memᴰ y xs ⊎ List·Memᴰ y ys → R x y
       go y (inl l) = s .0 y l
       go y (inr l) = h x y (List·Memᴰ·head refl) l
+
+  -- what stands behind an element
+  pub sorted-split : (R : A → A → Type 0) (xs : List A) {x : A} {ys : List A} → Sorted R (xs ++ (x ∷ ys)) → (y : A) → List·Memᴰ y ys → R x y
+  sorted-split R [] s y m = s .0 y m
+  sorted-split R (w ∷ xs) s y m = sorted-split R xs s.1 y m
+
+  -- of two members one stands before the other, unless they are the same
+  pub sorted-members : (R : A → A → Type 0) (xs : List A) → Sorted R xs → (x y : A) → List·Memᴰ x xs → List·Memᴰ y xs → (x ≡ y) ⊎ (R x y ⊎ R y x)
+  sorted-members R [] s x y l m = absurd (List·Memᴰ·not-nil l)
+  sorted-members R (w ∷ ws) s x y (List·Memᴰ·head e) (List·Memᴰ·head f) = inl (e ∙ sym f)
+  sorted-members R (w ∷ ws) s x y (List·Memᴰ·head e) (List·Memᴰ·tail m) = inr (inl (subst (λ v. R v y) (sym e) (s .0 y m)))
+  sorted-members R (w ∷ ws) s x y (List·Memᴰ·tail l) (List·Memᴰ·head f) = inr (inr (subst (λ v. R v x) (sym f) (s .0 x l)))
+  sorted-members R (w ∷ ws) s x y (List·Memᴰ·tail l) (List·Memᴰ·tail m) = sorted-members R ws s.1 x y l m
+
+  -- no two places are alike
+  pub no-two-alike : (alike : A → A → Bool) (xs : List A) → (anyTwo alike xs ≡ false) ↔ Sorted (λ x y. alike x y ≡ false) xs
+  no-two-alike alike xs = (apart xs, whole xs)
+    where
+      apart : (ys : List A) → anyTwo alike ys ≡ false → Sorted (λ x y. alike x y ≡ false) ys
+      apart [] h = tt
+      apart (y ∷ ys) h =
+          let p = or-false (anyOf (alike y) ys) (anyTwo alike ys) h in
+          (any-false (alike y) ys .0 p.0, apart ys p.1)
+
+      whole : (ys : List A) → Sorted (λ x y. alike x y ≡ false) ys → anyTwo alike ys ≡ false
+      whole [] s = refl
+      whole (y ∷ ys) s = rw (any-false (alike y) ys .1 s.0) (whole ys s.1)
+
+  -- two members that are alike are the same
+  pub alike-members : (alike : A → A → Bool) (xs : List A) → anyTwo alike xs ≡ false → (x y : A) → List·Memᴰ x xs → List·Memᴰ y xs → alike x y ≡ true → alike y x ≡ true → x ≡ y
+  alike-members alike xs h x y l m e f = go (sorted-members (λ v w. alike v w ≡ false) xs (no-two-alike alike xs .0 h) x y l m)
+    where
+      go : (x ≡ y) ⊎ ((alike x y ≡ false) ⊎ (alike y x ≡ false)) → x ≡ y
+      go (inl p) = p
+      go (inr (inl p)) = absurd (true≢false (sym e ∙ p))
+      go (inr (inr p)) = absurd (true≢false (sym f ∙ p))
 
   -- what is selected of a sorted list is sorted
   pub sorted-select : (R : A → A → Type 0) (t : A → Bool) (xs : List A) → Sorted R xs → Sorted R (select t xs)
