@@ -153,7 +153,7 @@ pub actions-ordered : (cells : ℕ) → Sorted (ActionBefore cells) (actionsOf c
 actions-ordered cells = all-actions cells .1
 
 -- every passage is listed
-passages-complete : (p : Passage) → List·Memᴰ p passagesInOrder
+pub passages-complete : (p : Passage) → List·Memᴰ p passagesInOrder
 unfolding passagesInOrder
 passages-complete P00 = List·Memᴰ·head refl
 passages-complete P02 = List·Memᴰ·tail (List·Memᴰ·head refl)
@@ -162,7 +162,7 @@ passages-complete P20 = List·Memᴰ·tail (List·Memᴰ·tail (List·Memᴰ·ta
 passages-complete P22 = List·Memᴰ·tail (List·Memᴰ·tail (List·Memᴰ·tail (List·Memᴰ·tail (List·Memᴰ·head refl))))
 
 -- the passages are listed in rank order
-passages-ordered : Sorted (λ p q. passageRank p < passageRank q) passagesInOrder
+pub passages-ordered : Sorted (λ p q. passageRank p < passageRank q) passagesInOrder
 unfolding passagesInOrder
 passages-ordered = sorted-by passageRank _<_ passagesInOrder (sorted-from 0 5)
 
@@ -210,7 +210,8 @@ sound-from cells (suc (suc n)) plan m =
     go a b other f h (List·Memᴰ·head e) = subst (Fits cells) (sym e) f
     go a b other f h (List·Memᴰ·tail l) = h a l
 
-nth-fits : (cells : ℕ) (xs : List Action) → ((a : Action) → List·Memᴰ a xs → Fits cells a) → (j : ℕ) → Fits cells (nth xs j Void)
+-- where every action of a list fits, the action of each aisle does
+pub nth-fits : (cells : ℕ) (xs : List Action) → ((a : Action) → List·Memᴰ a xs → Fits cells a) → (j : ℕ) → Fits cells (nth xs j Void)
 nth-fits cells xs h zero = tt
 nth-fits cells xs h (suc j) = go (ltb j (length xs)) refl
   where
