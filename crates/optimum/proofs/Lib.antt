@@ -1,2 +1,4 @@
 pub mod Choice
 pub mod Table
+pub mod Demand
+pub mod Shortest
