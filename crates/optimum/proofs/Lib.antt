@@ -2,3 +2,4 @@ pub mod Choice
 pub mod Table
 pub mod Demand
 pub mod Shortest
+pub mod Optimum

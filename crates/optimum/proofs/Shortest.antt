@@ -19,7 +19,7 @@ module _ {A : Type 0} (ok : A → Bool) (len : A → ℕ) where
   counted x = cond (ok x) (len x) noTour
 
   -- the length of what was found
-  abbrev foundLength : Option A → ℕ
+  abbrev pub foundLength : Option A → ℕ
   foundLength none = noTour
   foundLength (some x) = len x
 

@@ -17,17 +17,17 @@ use Rattle.optimum.specs.Demand.{gains, less, met, wholeDemand}
 -- the problem of a job, with the actions that are tried in each aisle
 abbrev pub routing : Job → (ℕ → List Action) → Problem
 routing job candidates =
-    record
-    { State = State
-    ; Demand = List ℕ
-    ; candidates = candidates
-    ; passages = passagesInOrder
-    ; act = actionStep job
-    ; cross = passageStep job
-    ; fetch = λ j a q. less q (gains job j a)
-    ; actionCost = λ j a. actionLength (job .layout) a
-    ; passageCost = λ j p. passageLength (job .layout) p
-    ; done = λ s q. isClosed s && met q
+    record {
+      State = State;
+      Demand = List ℕ;
+      candidates = candidates;
+      passages = passagesInOrder;
+      act = actionStep job;
+      cross = passageStep job;
+      fetch = λ j a q. less q (gains job j a);
+      actionCost = λ j a. actionLength (job .layout) a;
+      passageCost = λ j p. passageLength (job .layout) p;
+      done = λ s q. isClosed s && met q;
     }
 
 -- all actions, in every aisle

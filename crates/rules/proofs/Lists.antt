@@ -3,7 +3,7 @@ use Prim.Native.Nat.{ℕ, zero, suc, _+_, _*_, _≤_, _<_}
 use mathlib.Core.Path.{_≡_, refl, sym, _∙_, ap, ap₂, subst}
 use mathlib.Core.Logic.{_⊎_, inl, inr, _↔_}
 use mathlib.Core.List.{List, [], _∷_, _++_, map, List·Memᴰ, List·Memᴰ·head, List·Memᴰ·tail, List·Memᴰ·not-nil, List·Memᴰ·append-cases, Memᴰ·append-left, Memᴰ·append-right, Memᴰ·map, Memᴰ·of-map}
-use mathlib.Core.Bool.{Bool, true, false, cond, _||_, true≢false, false≢true, and-eq-true-iff}
+use mathlib.Core.Bool.{Bool, true, false, cond, _&&_, _||_, true≢false, false≢true, and-eq-true-iff}
 use native.Mathlib.Nat.{eq-or-lt-of-le, suc-mul}
 use native.Mathlib.Omega.{arith}
 use lib.ListN.{length}
@@ -275,3 +275,59 @@ module _ {A B : Type 0} where
 pub sorted-from : (a n : ℕ) → Sorted _<_ (from a n)
 sorted-from a zero = tt
 sorted-from a (suc n) = (λ k m. member-from (suc a) n m .0, sorted-from (suc a) n)
+
+-- selecting, mapping and joining lists
+module _ {A : Type 0} where
+  pub select-append : (t : A → Bool) (xs ys : List A) → select t (xs ++ ys) ≡ select t xs ++ select t ys
+  select-append t [] ys = refl
+  select-append t (x ∷ xs) ys = go (t x) (select-append t xs ys)
+    where
+      go : (b : Bool) → select t (xs ++ ys) ≡ select t xs ++ select t ys → cond b (x ∷ select t (xs ++ ys)) (select t (xs ++ ys)) ≡ cond b (x ∷ select t xs) (select t xs) ++ select t ys
+      go true e = ap (λ l. x ∷ l) e
+      go false e = e
+
+  pub select-none : (t : A → Bool) → ((x : A) → t x ≡ false) → (xs : List A) → select t xs ≡ []
+  select-none t none-holds [] = refl
+  select-none t none-holds (x ∷ xs) = rw (none-holds x) (select-none t none-holds xs)
+
+  pub select-both : (s t : A → Bool) (xs : List A) → select (λ x. s x && t x) xs ≡ select t (select s xs)
+  select-both s t [] = refl
+  select-both s t (x ∷ xs) = go (s x) (select-both s t xs)
+    where
+      go : (b : Bool) → select (λ y. s y && t y) xs ≡ select t (select s xs) → cond (b && t x) (x ∷ select (λ y. s y && t y) xs) (select (λ y. s y && t y) xs) ≡ select t (cond b (x ∷ select s xs) (select s xs))
+      go true e = ap (λ l. cond (t x) (x ∷ l) l) e
+      go false e = e
+
+module _ {A B : Type 0} where
+  pub map-append : (f : A → B) (xs ys : List A) → map f (xs ++ ys) ≡ map f xs ++ map f ys
+  map-append f [] ys = refl
+  map-append f (x ∷ xs) ys = ap (λ l. f x ∷ l) (map-append f xs ys)
+
+  pub select-concat : (t : B → Bool) (f : A → List B) (xs : List A) → select t (concatOf f xs) ≡ concatOf (λ x. select t (f x)) xs
+  select-concat t f [] = refl
+  select-concat t f (x ∷ xs) = select-append t (f x) (concatOf f xs) ∙ ap (λ l. select t (f x) ++ l) (select-concat t f xs)
+
+  pub select-map : (t : B → Bool) (f : A → B) (xs : List A) → select t (map f xs) ≡ map f (select (λ x. t (f x)) xs)
+  select-map t f [] = refl
+  select-map t f (x ∷ xs) = go (t (f x)) (select-map t f xs)
+    where
+      go : (b : Bool) → select t (map f xs) ≡ map f (select (λ y. t (f y)) xs) → cond b (f x ∷ select t (map f xs)) (select t (map f xs)) ≡ map f (cond b (x ∷ select (λ y. t (f y)) xs) (select (λ y. t (f y)) xs))
+      go true e = ap (λ l. f x ∷ l) e
+      go false e = e
+
+  pub concat-cong : (f g : A → List B) → ((x : A) → f x ≡ g x) → (xs : List A) → concatOf f xs ≡ concatOf g xs
+  concat-cong f g e [] = refl
+  concat-cong f g e (x ∷ xs) = ap₂ (λ k l. k ++ l) (e x) (concat-cong f g e xs)
+
+  pub concat-none : (f : A → List B) → ((x : A) → f x ≡ []) → (xs : List A) → concatOf f xs ≡ []
+  concat-none f e [] = refl
+  concat-none f e (x ∷ xs) = rw (e x) (concat-none f e xs)
+
+module _ {A B C : Type 0} where
+  pub map-map : (f : B → C) (g : A → B) (xs : List A) → map f (map g xs) ≡ map (λ x. f (g x)) xs
+  map-map f g [] = refl
+  map-map f g (x ∷ xs) = ap (λ l. f (g x) ∷ l) (map-map f g xs)
+
+  pub map-concat : (f : B → C) (g : A → List B) (xs : List A) → map f (concatOf g xs) ≡ concatOf (λ x. map f (g x)) xs
+  map-concat f g [] = refl
+  map-concat f g (x ∷ xs) = map-append f (g x) (concatOf g xs) ∙ ap (λ l. map f (g x) ++ l) (map-concat f g xs)
