@@ -3,3 +3,4 @@ pub mod Table
 pub mod Demand
 pub mod Shortest
 pub mod Optimum
+pub mod Radix
