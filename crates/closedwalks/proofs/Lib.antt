@@ -1,0 +1,5 @@
+pub mod Splits
+pub mod Steps
+pub mod Sums
+pub mod Parity
+pub mod Euler
