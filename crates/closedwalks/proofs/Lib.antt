@@ -3,3 +3,5 @@ pub mod Steps
 pub mod Sums
 pub mod Parity
 pub mod Euler
+pub mod Degrees
+pub mod Walked

@@ -14,11 +14,11 @@ use Rattle.rules.specs.Walks.{canStep, stepTo, stepEdge, isCrossing, crossEdge,
 use Rattle.closedwalks.specs.Ways.{PointOf, share, degree, same}
 
 -- both parts of a conjunction of tests
-both-true : (a b : Bool) → (a && b) ≡ true → (a ≡ true) × (b ≡ true)
+pub both-true : (a b : Bool) → (a && b) ≡ true → (a ≡ true) × (b ≡ true)
 both-true true b h = (refl, h)
 both-true false b h = (h, absurd (let bad : _≡_ {A = ℕ} 0 1 = cc in omega arith))
 
-true-both : (a b : Bool) → a ≡ true → b ≡ true → (a && b) ≡ true
+pub true-both : (a b : Bool) → a ≡ true → b ≡ true → (a && b) ≡ true
 true-both a b p q = cc
 
 two-equal : (a b c d : ℕ) → (eqb a b && eqb c d) ≡ true → (a ≡ b) × (c ≡ d)
@@ -93,7 +93,7 @@ one-sym e f = go (edge-split e f) (edge-split f e)
     go (inr p) (inr q) = cc
 
 -- the height of the front crossings (true) or of the back ones
-abbrev level : Layout → Bool → ℕ
+abbrev pub level : Layout → Bool → ℕ
 level z true = 0
 level z false = suc (z .cells)
 
@@ -118,7 +118,7 @@ unfolding isCrossing backHeight
 crossing-level z x true c h = eqb-true (x .height) 0 h
 crossing-level z x false c h = eqb-true (x .height) (suc (z .cells)) (subst (λ (t : Bool). (t || eqb (x .height) (suc (z .cells))) ≡ true) h c)
 
-level-crossing : (z : Layout) (x : Point) (b : Bool) → x .height ≡ level z b → (isCrossing z x ≡ true) × (eqb (x .height) 0 ≡ b)
+pub level-crossing : (z : Layout) (x : Point) (b : Bool) → x .height ≡ level z b → (isCrossing z x ≡ true) × (eqb (x .height) 0 ≡ b)
 unfolding isCrossing backHeight
 level-crossing z x true h = let t = eq-eqb (x .height) 0 h in (rw t, t)
 level-crossing z x false h =
