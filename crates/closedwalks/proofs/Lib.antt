@@ -5,3 +5,6 @@ pub mod Parity
 pub mod Euler
 pub mod Degrees
 pub mod Walked
+pub mod Links
+pub mod Aisles
+pub mod Reading
