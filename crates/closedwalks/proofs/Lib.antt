@@ -8,3 +8,4 @@ pub mod Walked
 pub mod Links
 pub mod Aisles
 pub mod Reading
+pub mod WalkReads

@@ -39,13 +39,17 @@ sift-none : (p : Bool) → cond {A = ℕ} p 0 0 ≡ 0
 sift-none true = refl
 sift-none false = refl
 
+pub same-point : (x y : Point) → samePoint x y ≡ true → x ≡ y
+unfolding samePoint
+same-point x y h = let t = two-equal (x .aisle) (y .aisle) (x .height) (y .height) h in λ i. record { aisle = t .0 i; height = t .1 i }
+
 -- two points are the same, or they are told apart
 pub point-split : (x y : Point) → ((x ≡ y) × (same x y ≡ 1)) ⊎ ((same x y ≡ 0) × (x ≡ y → ⊥))
 unfolding same samePoint
 point-split x y = go (samePoint x y) refl
   where
     go : (b : Bool) → samePoint x y ≡ b → ((x ≡ y) × (same x y ≡ 1)) ⊎ ((same x y ≡ 0) × (x ≡ y → ⊥))
-    go true h = let t = two-equal (x .aisle) (y .aisle) (x .height) (y .height) h in inl (λ i. record { aisle = t .0 i; height = t .1 i }, rw h)
+    go true h = inl (same-point x y h, rw h)
     go false h = inr (rw h, λ e. let bad : _≡_ {A = ℕ} 0 1 = cc (equal-two (x .aisle) (y .aisle) (x .height) (y .height) (ap (λ (p : Point). p .aisle) e) (ap (λ (p : Point). p .height) e)) in omega arith)
 
 pub same-refl : (x : Point) → same x x ≡ 1
