@@ -9,3 +9,4 @@ pub mod Links
 pub mod Aisles
 pub mod Reading
 pub mod WalkReads
+pub mod Determined
