@@ -10,3 +10,5 @@ pub mod Aisles
 pub mod Reading
 pub mod WalkReads
 pub mod Determined
+pub mod Counts
+pub mod Serving

@@ -8,6 +8,8 @@ use Rattle.rules.specs.declared.Layout.{Layout}
 use Rattle.rules.specs.Lists.{sumOf, from, concatOf}
 use Rattle.closedwalks.proofs.Splits.{equal-or-below}
 use Rattle.rules.specs.Store.{Edge, along, front, back, InStore, edgesOf}
+use Rattle.rules.specs.Walks.{one}
+use Rattle.closedwalks.proofs.Steps.{edge-split, one-refl}
 
 -- a property of every element
 abbrev All : {A : Type 0} → (A → Type 0) → List A → Type 0
@@ -106,6 +108,13 @@ module _ (z : Layout) where
         sum-none (λ i. f (front i)) (from 1 cross) (λ i. g (front i) (λ e. let bad : _≡_ {A = ℕ} 0 1 = cc in omega arith)),
         sum-from (λ i. f (back i)) j 1 cross (h .0) (omega arith) (λ i p. g (back i) (λ e. p cc)))
 
+  -- a sum over the edges to which each adds at most b
+  pub sum-bound : (f : Edge → ℕ) (b : ℕ) → ((e : Edge) → f e ≤ b) → sumOf f (edgesOf z) ≤ z .aisles * (suc (z .cells) * b) + (cross * b + cross * b)
+  sum-bound f b h =
+      omega (arith, edges-sum f,
+        sum-from-le (λ j. sumOf (λ k. f (along j k)) (from 0 (suc (z .cells)))) (suc (z .cells) * b) 1 (z .aisles) (λ j. sum-from-le (λ k. f (along j k)) b 0 (suc (z .cells)) (λ k. h (along j k))),
+        sum-from-le (λ j. f (front j)) b 1 cross (λ j. h (front j)), sum-from-le (λ j. f (back j)) b 1 cross (λ j. h (back j)))
+
   edges-in : All (InStore z) (edgesOf z)
   unfolding edgesOf InStore
   edges-in =
@@ -122,3 +131,12 @@ module _ (z : Layout) where
 
   pub sum-same : (f g : Edge → ℕ) → ((e : Edge) → InStore z e → f e ≡ g e) → sumOf f (edgesOf z) ≡ sumOf g (edgesOf z)
   sum-same f g h = omega (arith, sum-le f g (λ e p. omega (arith, h e p)), sum-le g f (λ e p. omega (arith, h e p)))
+
+  -- where no edge adds more to one sum than to the other, and the sums are equal, each adds the same
+  pub sum-exact : (f g : Edge → ℕ) → ((e : Edge) → InStore z e → f e ≤ g e) → sumOf f (edgesOf z) ≡ sumOf g (edgesOf z) → (s : Edge) → InStore z s → f s ≡ g s
+  sum-exact f g h eq s i =
+      let more : Edge → ℕ = λ e. one e s * (g s - f s) in
+      let single = sum-single more s i (λ e n. elim (edge-split e s) [ inl q ↦ absurd (n (q .0)) | inr q ↦ rw (q .0) (omega arith) ]) in
+      let at : more s ≡ g s - f s = rw (one-refl s) (omega arith) in
+      let part : (e : Edge) → InStore z e → f e + more e ≤ g e = λ e k. elim (edge-split e s) [ inl q ↦ rw (q .1, q .0) (omega (arith, h s i)) | inr q ↦ rw (q .0) (omega (arith, h e k)) ] in
+      omega (arith, h s i, sum-le (λ e. f e + more e) g part, sum-add f more (edgesOf z), single, at)
