@@ -12,3 +12,5 @@ pub mod WalkReads
 pub mod Determined
 pub mod Counts
 pub mod Serving
+pub mod First
+pub mod Greedily

@@ -43,6 +43,10 @@ pub same-point : (x y : Point) → samePoint x y ≡ true → x ≡ y
 unfolding samePoint
 same-point x y h = let t = two-equal (x .aisle) (y .aisle) (x .height) (y .height) h in λ i. record { aisle = t .0 i; height = t .1 i }
 
+pub point-same : (x y : Point) → x ≡ y → samePoint x y ≡ true
+unfolding samePoint
+point-same x y e = equal-two (x .aisle) (y .aisle) (x .height) (y .height) (ap (λ (p : Point). p .aisle) e) (ap (λ (p : Point). p .height) e)
+
 -- two points are the same, or they are told apart
 pub point-split : (x y : Point) → ((x ≡ y) × (same x y ≡ 1)) ⊎ ((same x y ≡ 0) × (x ≡ y → ⊥))
 unfolding same samePoint
@@ -50,11 +54,11 @@ point-split x y = go (samePoint x y) refl
   where
     go : (b : Bool) → samePoint x y ≡ b → ((x ≡ y) × (same x y ≡ 1)) ⊎ ((same x y ≡ 0) × (x ≡ y → ⊥))
     go true h = inl (same-point x y h, rw h)
-    go false h = inr (rw h, λ e. let bad : _≡_ {A = ℕ} 0 1 = cc (equal-two (x .aisle) (y .aisle) (x .height) (y .height) (ap (λ (p : Point). p .aisle) e) (ap (λ (p : Point). p .height) e)) in omega arith)
+    go false h = inr (rw h, λ e. let bad : _≡_ {A = ℕ} 0 1 = cc (point-same x y e) in omega arith)
 
 pub same-refl : (x : Point) → same x x ≡ 1
-unfolding same samePoint
-same-refl x = rw (equal-two (x .aisle) (x .aisle) (x .height) (x .height) refl refl)
+unfolding same
+same-refl x = rw (point-same x x refl)
 
 -- two edges are the same, or they are told apart
 same-edge-refl : (e : Edge) → sameEdge e e ≡ true
