@@ -17,24 +17,28 @@ use Rattle.closedwalks.proofs.Splits.{none-or-some, equal-or-below, bel
 first-none : (a : ℕ → ℕ) (n : ℕ) → ((k : ℕ) → k < n → 0 < a k) ⊎ ((h : ℕ) × (h < n) × (a h ≡ 0) × ((k : ℕ) → k < h → 0 < a k))
 first-none a zero = inl (λ k h. absurd (omega arith))
 first-none a (suc n) =
-    elim (first-none a n)
-      [ inl f ↦ elim (none-or-some (a n))
-          [ inl e ↦ inr (n, omega arith, e, f)
-          | inr p ↦ inl (λ k h. elim (equal-or-below k n (omega arith)) [ inl e ↦ subst (λ (i : ℕ). 0 < a i) (sym e) p | inr l ↦ f k l ]) ]
-      | inr t ↦ inr (t .0, (let l = t .1 in omega arith), t .2, t .3) ]
+    elim (first-none a n) [
+      | inl f ↦ elim (none-or-some (a n)) [
+        | inl e ↦ inr (n, omega arith, e, f)
+        | inr p ↦ inl (λ k h. elim (equal-or-below k n (omega arith)) [ inl e ↦ subst (λ (i : ℕ). 0 < a i) (sym e) p | inr l ↦ f k l ])
+      ]
+      | inr t ↦ inr (t .0, (let l = t .1 in omega arith), t .2, t .3)
+    ]
 
 last-none : (a : ℕ → ℕ) (h n : ℕ) → h < n → a h ≡ 0 → (l : ℕ) × (h ≤ l) × (l < n) × (a l ≡ 0) × ((k : ℕ) → l < k → k < n → 0 < a k)
 last-none a h zero p e = absurd (omega arith)
 last-none a h (suc n) p e =
-    elim (none-or-some (a n))
-      [ inl f ↦ (n, omega arith, omega arith, f, λ k u v. absurd (omega arith))
-      | inr s ↦ elim (equal-or-below h n (omega arith))
-          [ inl q ↦ absurd (omega (arith, ap a q))
-          | inr l ↦
-              let t = last-none a h n l e in
-              let low = t .1 in
-              let top = t .2 in
-              (t .0, low, omega arith, t .3, λ k u v. elim (equal-or-below k n (omega arith)) [ inl q ↦ subst (λ (i : ℕ). 0 < a i) (sym q) s | inr m ↦ t .4 k u m ]) ] ]
+    elim (none-or-some (a n)) [
+      | inl f ↦ (n, omega arith, omega arith, f, λ k u v. absurd (omega arith))
+      | inr s ↦ elim (equal-or-below h n (omega arith)) [
+        | inl q ↦ absurd (omega (arith, ap a q))
+        | inr l ↦
+            let t = last-none a h n l e in
+            let low = t .1 in
+            let top = t .2 in
+            (t .0, low, omega arith, t .3, λ k u v. elim (equal-or-below k n (omega arith)) [ inl q ↦ subst (λ (i : ℕ). 0 < a i) (sym q) s | inr m ↦ t .4 k u m ])
+      ]
+    ]
 
 or-false : (b : Bool) → cond {A = ℕ} (b || false) 2 0 ≡ cond b 2 0
 or-false true = refl
@@ -51,6 +55,7 @@ module _ (cells : ℕ) (a : ℕ → ℕ) (few : (k : ℕ) → k ≤ cells → a 
     where
       behind : l ≡ cells → (k : ℕ) → k ≤ cells → leb (suc l) k ≡ false
       behind e k r = lt-leb (suc l) k (omega arith)
+
       go : (h ≡ 0) ⊎ (0 < h) → (l ≡ cells) ⊎ (l < cells) → Read cells a
       go (inl e) (inl f) = (Void, tt, λ k r. rw (le-ltb k h (omega arith), behind f k r) at (shape k r))
       go (inl e) (inr f) = (Top (suc l), (omega arith, omega arith), λ k r. rw (le-ltb k h (omega arith)) at (shape k r))
@@ -68,11 +73,14 @@ module _ (cells : ℕ) (a : ℕ → ℕ) (few : (k : ℕ) → k ≤ cells → a 
       where
         full : a 0 % 2 ≡ 0 → (k : ℕ) → k ≤ cells → 0 < a k → 2 ≡ a k
         full e k r s = omega (arith, few k r, all-alike k r)
+
         between : (h l k : ℕ) → h ≤ k → k ≤ l → l ≤ cells → a h ≡ 0 → a l ≡ 0 → a k ≡ 0
         between h l k p q r f g =
-            elim (equal-or-below h k p)
-              [ inl e ↦ ap a (sym e) ∙ f
-              | inr u ↦ elim (equal-or-below k l q) [ inl e ↦ ap a e ∙ g | inr v ↦ whole h k l u v r f g ] ]
+            elim (equal-or-below h k p) [
+              | inl e ↦ ap a (sym e) ∙ f
+              | inr u ↦ elim (equal-or-below k l q) [ inl e ↦ ap a e ∙ g | inr v ↦ whole h k l u v r f g ]
+            ]
+
         even : a 0 % 2 ≡ 0 → (h : ℕ) → h < suc cells → a h ≡ 0 → ((k : ℕ) → k < h → 0 < a k)
             → (l : ℕ) × (h ≤ l) × (l < suc cells) × (a l ≡ 0) × ((k : ℕ) → l < k → k < suc cells → 0 < a k) → Read cells a
         even e h p f front u =
@@ -80,11 +88,14 @@ module _ (cells : ℕ) (a : ℕ → ℕ) (few : (k : ℕ) → k ≤ cells → a 
             let low = u .1 in
             let top : l ≤ cells = omega (arith, u .2) in
             read-even h l low top
-              (λ k r. elim (below-or-from k h)
-                [ inl v ↦ rw (lt-ltb k h v) (full e k r (front k v))
-                | inr v ↦ elim (below-or-from l k)
-                    [ inl w ↦ rw (le-ltb k h v, le-leb (suc l) k w) (full e k r (u .4 k w (omega arith)))
-                    | inr w ↦ rw (le-ltb k h v, lt-leb (suc l) k (omega arith)) (sym (between h l k v w top f (u .3))) ] ])
+            (λ k r. elim (below-or-from k h) [
+              | inl v ↦ rw (lt-ltb k h v) (full e k r (front k v))
+              | inr v ↦ elim (below-or-from l k) [
+                | inl w ↦ rw (le-ltb k h v, le-leb (suc l) k w) (full e k r (u .4 k w (omega arith)))
+                | inr w ↦ rw (le-ltb k h v, lt-leb (suc l) k (omega arith)) (sym (between h l k v w top f (u .3)))
+              ]
+            ])
+
         go : (r : ℕ) → a 0 % 2 ≡ r → ((k : ℕ) → k < suc cells → 0 < a k) ⊎ ((h : ℕ) × (h < suc cells) × (a h ≡ 0) × ((k : ℕ) → k < h → 0 < a k)) → Read cells a
         go (suc r) e f = (Once, tt, λ k r. omega (arith, few k r, all-alike k r))
         go zero e (inl f) = (Twice, tt, λ k r. full e k r (f k (omega arith)))

@@ -66,8 +66,10 @@ module _ (z : Layout) (treads : Edge → ℕ) (j : ℕ) where
     where
       inner : isCrossing z (cellAt c) ≡ false
       inner = unfold isCrossing backHeight in rw (ne-eqb c 0 (omega arith), ne-eqb c (suc (z .cells)) (omega arith))
+
       side-left : share z treads (cellAt c) Left ≡ 0
       side-left = unfold canStep in rw inner
+
       side-right : share z treads (cellAt c) Right ≡ 0
       side-right = unfold canStep in rw inner
 
@@ -129,8 +131,10 @@ pub each-point : (z : Layout) (P : Point → Type 0)
     → ((j : ℕ) → 1 ≤ j → j ≤ z .aisles → P (record { aisle = j; height = suc (z .cells) }))
     → (p : Point) → PointOf z p → P p
 each-point z P f c b p o =
-    elim (none-or-some (p .height))
-      [ inl e ↦ subst (λ (h : ℕ). P (record { aisle = p .aisle; height = h })) (sym e) (f (p .aisle) (o .first) (o .last))
-      | inr s ↦ elim (equal-or-below (p .height) (suc (z .cells)) (o .high))
-          [ inl e ↦ subst (λ (h : ℕ). P (record { aisle = p .aisle; height = h })) (sym e) (b (p .aisle) (o .first) (o .last))
-          | inr l ↦ c (p .aisle) (p .height) (o .first) (o .last) s (omega arith) ] ]
+    elim (none-or-some (p .height)) [
+      | inl e ↦ subst (λ (h : ℕ). P (record { aisle = p .aisle; height = h })) (sym e) (f (p .aisle) (o .first) (o .last))
+      | inr s ↦ elim (equal-or-below (p .height) (suc (z .cells)) (o .high)) [
+        | inl e ↦ subst (λ (h : ℕ). P (record { aisle = p .aisle; height = h })) (sym e) (b (p .aisle) (o .first) (o .last))
+        | inr l ↦ c (p .aisle) (p .height) (o .first) (o .last) s (omega arith)
+      ]
+    ]

@@ -166,7 +166,7 @@ plan-determined z plan other f g e =
     let s = f .passages in
     let t = g .passages in
     let acts = same-list Void (plan .actions) (other .actions) (omega arith)
-          (λ j p q. action-determined (z .cells) (nth (plan .actions) j Void) (nth (other .actions) j Void) (f .fits j) (g .fits j) (λ k h. e (along j k) (p, omega arith, h))) in
+    (λ j p q. action-determined (z .cells) (nth (plan .actions) j Void) (nth (other .actions) j Void) (f .fits j) (g .fits j) (λ k h. e (along j k) (p, omega arith, h))) in
     let pass = same-list P00 (plan .passages) (other .passages) (omega arith)
-          (λ j p q. passage-determined (nth (plan .passages) j P00) (nth (other .passages) j P00) (e (back j) (p, omega arith)) (e (front j) (p, omega arith))) in
+    (λ j p q. passage-determined (nth (plan .passages) j P00) (nth (other .passages) j P00) (e (back j) (p, omega arith)) (e (front j) (p, omega arith))) in
     λ i. record { actions = acts i; passages = pass i }

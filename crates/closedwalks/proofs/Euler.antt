@@ -15,6 +15,7 @@ use Rattle.rules.specs.FirstWalk.{without, stepsOf}
 use Rattle.closedwalks.specs.Ways.{PointOf, share, degree, same, Balanced, Leads, treadsFrom, On, Joined}
 use Rattle.closedwalks.proofs.Splits.{none-or-some}
 use Rattle.closedwalks.proofs.Steps.{point-split, same-refl, Stepped, stepped, StepBy, step-forth, step-along}
+use Rattle.closedwalks.proofs.Links.{joins-turn}
 use Rattle.closedwalks.proofs.Parity.{taken, degree-add, degree-none, degree-same, degree-at, degree-step, balanced-step, total-step, total-le}
 
 -- no edge at the point is left
@@ -40,6 +41,7 @@ module _ (z : Layout) where
     where
       Shut : Direction → Type 0
       Shut d = canStep z x d ≡ true → left (stepEdge x d) ≡ 0
+
       one? : (d : Direction) → Free z left x ⊎ Shut d
       one? d = go (canStep z x d) refl (none-or-some (left (stepEdge x d)))
         where
@@ -47,11 +49,13 @@ module _ (z : Layout) where
           go b c (inl n) = inr (λ t. n)
           go true c (inr n) = inl (d, c, n)
           go false c (inr n) = inr (λ t. let bad : _≡_ {A = ℕ} 0 1 = cc in omega arith)
+
       every : Shut Back → Shut Front → Shut Left → Shut Right → Stuck z left x
       every b f l r Back = b
       every b f l r Front = f
       every b f l r Left = l
       every b f l r Right = r
+
       all : Free z left x ⊎ Shut Back → Free z left x ⊎ Shut Front → Free z left x ⊎ Shut Left → Free z left x ⊎ Shut Right → Free z left x ⊎ Stuck z left x
       all (inl a) f l r = inl a
       all (inr b) (inl a) l r = inl a
@@ -77,9 +81,10 @@ module _ (z : Layout) where
   stuck-trail : (left : Edge → ℕ) (x y : Point) → PointOf z x → Balanced z left x y → Stuck z left x → Trail z left x y
   stuck-trail left x y p b s =
       let nothing : degree z left x ≡ 0 = degree-stuck in
-      elim (point-split x y)
-        [ inl e ↦ record { walk = []; rest = left; leads = e .0; parts = λ e. omega arith; even = λ q o. omega (arith, b q o, ap (same q) (e .0)); spent = λ q o. subst (Stuck z left) (sym o) s }
-        | inr n ↦ absurd (omega (arith, b x p, same-refl x, n .0)) ]
+      elim (point-split x y) [
+        | inl e ↦ record { walk = []; rest = left; leads = e .0; parts = λ e. omega arith; even = λ q o. omega (arith, b q o, ap (same q) (e .0)); spent = λ q o. subst (Stuck z left) (sym o) s }
+        | inr n ↦ absurd (omega (arith, b x p, same-refl x, n .0))
+      ]
     where
       shut : (d : Direction) → share z left x d ≡ 0
       shut d = go (canStep z x d) refl
@@ -87,6 +92,7 @@ module _ (z : Layout) where
           go : (c : Bool) → canStep z x d ≡ c → cond c (left (stepEdge x d)) 0 ≡ 0
           go true c = s d c
           go false c = refl
+
       degree-stuck : degree z left x ≡ 0
       degree-stuck = omega (arith, shut Back, shut Front, shut Left, shut Right)
 
@@ -98,53 +104,56 @@ module _ (z : Layout) where
   splice : (left : Edge → ℕ) (x y : Point) (d : Direction) → canStep z x d ≡ true → 0 < left (stepEdge x d)
       → (first : Trail z (without left (stepEdge x d)) (stepTo x d) y) → Trail z (first .rest) x x → Trail z left x y
   splice left x y d c h first round =
-      record
-        { walk = round .walk ++ (d ∷ first .walk);
-          rest = round .rest;
-          leads = leads-append x x y (round .walk) (d ∷ first .walk) (round .leads) (c, first .leads);
-          parts = λ e. omega (arith, taken left (stepEdge x d) e h, first .parts e, round .parts e, treads-append x x (round .walk) (d ∷ first .walk) e (round .leads));
-          even = round .even;
-          spent = λ p o. elim (on-append x x p (round .walk) (d ∷ first .walk) (round .leads) o)
-            [ inl a ↦ round .spent p a
-            | inr a ↦ elim a [ inl e ↦ round .spent p (subst (On x (round .walk)) (sym e) (on-start x (round .walk))) | inr a ↦ λ f g. omega (arith, first .spent p a f g, round .parts (stepEdge p f)) ] ] }
+      record {
+        walk = round .walk ++ (d ∷ first .walk);
+        rest = round .rest;
+        leads = leads-append x x y (round .walk) (d ∷ first .walk) (round .leads) (c, first .leads);
+        parts = λ e. omega (arith, taken left (stepEdge x d) e h, first .parts e, round .parts e, treads-append x x (round .walk) (d ∷ first .walk) e (round .leads));
+        even = round .even;
+        spent = λ p o. elim (on-append x x p (round .walk) (d ∷ first .walk) (round .leads) o) [
+          | inl a ↦ round .spent p a
+          | inr a ↦ elim a [ inl e ↦ round .spent p (subst (On x (round .walk)) (sym e) (on-start x (round .walk))) | inr a ↦ λ f g. omega (arith, first .spent p a f g, round .parts (stepEdge p f)) ]
+        ];
+      }
 
   trail : (n : ℕ) (left : Edge → ℕ) (x y : Point) → PointOf z x → stepsOf z left ≤ n → Balanced z left x y → Trail z left x y
   trail zero left x y p h b =
-      elim (free? left x)
-        [ inl f ↦ absurd (omega (arith, total-step z x p (f .0) (f .1) left (f .2)))
-        | inr s ↦ stuck-trail left x y p b s ]
+      elim (free? left x) [
+        | inl f ↦ absurd (omega (arith, total-step z x p (f .0) (f .1) left (f .2)))
+        | inr s ↦ stuck-trail left x y p b s
+      ]
   trail (suc n) left x y p h b =
-      elim (free? left x)
-        [ inl f ↦
+      elim (free? left x) [
+        | inl f ↦
             let s = stepEdge x (f .0) in
             let fewer = total-step z x p (f .0) (f .1) left (f .2) in
             let first = trail n (without left s) (stepTo x (f .0)) y (stepped z x p (f .0) (f .1) .end) (omega arith) (balanced-step z x p (f .0) (f .1) left y (f .2) b) in
             let less = total-le z (first .rest) (without left s) (λ e i. omega (arith, first .parts e)) in
             let round = trail n (first .rest) x x p (omega arith) (λ q o. omega (arith, first .even q o)) in
             splice left x y (f .0) (f .1) (f .2) first round
-        | inr s ↦ stuck-trail left x y p b s ]
+        | inr s ↦ stuck-trail left x y p b s
+      ]
 
   -- a point with a trodden edge lies on the walk
   degree-on : (x : Point) (walk : Walk) (y p : Point) → PointOf z x → Leads z x walk y → 0 < degree z (treadsFrom x walk) p → On x walk p
   degree-on x [] y p o l h = absurd (omega (arith, degree-none z p))
   degree-on x (d ∷ walk) y p o l h =
-      elim (point-split p x)
-        [ inl e ↦ inl (e .0)
-        | inr n ↦ elim (point-split p (stepTo x d))
-            [ inl e ↦ inr (subst (On (stepTo x d) walk) (sym (e .0)) (on-start (stepTo x d) walk))
-            | inr m ↦ inr (degree-on (stepTo x d) walk y p (stepped z x o d (l .0) .end) (l .1)
-                (omega (arith, degree-add z (λ e. one e (stepEdge x d)) (treadsFrom (stepTo x d) walk) p, degree-step z x o d (l .0) p, n .0, m .0))) ] ]
+      elim (point-split p x) [
+        | inl e ↦ inl (e .0)
+        | inr n ↦ elim (point-split p (stepTo x d)) [
+          | inl e ↦ inr (subst (On (stepTo x d) walk) (sym (e .0)) (on-start (stepTo x d) walk))
+          | inr m ↦ inr (degree-on (stepTo x d) walk y p (stepped z x o d (l .0) .end) (l .1)
+              (omega (arith, degree-add z (λ e. one e (stepEdge x d)) (treadsFrom (stepTo x d) walk) p, degree-step z x o d (l .0) p, n .0, m .0)))
+        ]
+      ]
 
   module _ (left : Edge → ℕ) (x y : Point) (p : PointOf z x) (t : Trail z left x y) where
     -- where a trail has been, everything that is linked to it has been trodden
     linked-on : (m n : Point) → Linked z left n m → On x (t .walk) m → On x (t .walk) n
-    unfolding Trodden Joins
+    unfolding Trodden
     linked-on m n here o = o
-    linked-on m n (step {w} e tr j k) o = linked-on w n k (next (step-along z e m w (tr .0) j) (step-along z e w m (tr .0) (turn j)))
+    linked-on m n (step {w} e tr j k) o = linked-on w n k (next (step-along z e m w (tr .0) j) (step-along z e w m (tr .0) (joins-turn z e m w j)))
       where
-        turn : Joins z e m w → Joins z e w m
-        turn (inl j) = inr j
-        turn (inr j) = inl j
         next : StepBy z e m w → StepBy z e w m → On x (t .walk) w
         next f g =
             let empty = ap (t .rest) (sym (f .by)) ∙ t .spent m o (f .letter) (f .can) in
@@ -153,12 +162,13 @@ module _ (z : Layout) where
     all-trodden : Joined z left x → (e : Edge) → InStore z e → treadsFrom x (t .walk) e ≡ left e
     unfolding Joined Trodden
     all-trodden j e i =
-        elim (none-or-some (left e))
-          [ inl n ↦ omega (arith, t .parts e)
+        elim (none-or-some (left e)) [
+          | inl n ↦ omega (arith, t .parts e)
           | inr h ↦
               let on = linked-on x (startOf z e) (j e (i, h)) (on-start x (t .walk)) in
               let f = step-forth z e i in
-              omega (arith, t .parts e, ap (t .rest) (sym (f .by)) ∙ t .spent (startOf z e) on (f .letter) (f .can)) ]
+              omega (arith, t .parts e, ap (t .rest) (sym (f .by)) ∙ t .spent (startOf z e) on (f .letter) (f .can))
+        ]
 
   -- treads that are balanced between x and y and can all be reached from x are exactly those of some walk from x to y
   pub completed : (left : Edge → ℕ) (x y : Point) → PointOf z x → Balanced z left x y → Joined z left x

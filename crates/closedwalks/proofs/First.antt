@@ -111,28 +111,31 @@ module _ (z : Layout) where
 
     any-way : (walk : Walk) → ways z n left x ≡ some walk → (d : Direction) × Onward d walk
     any-way walk h =
-        elim (way-split (tried z n left x Back) (firstWay (tried z n left x Front) (firstWay (tried z n left x Left) (tried z n left x Right))) walk h)
-          [ inl e ↦ (Back, onward Back walk e)
-          | inr g ↦ elim (way-split (tried z n left x Front) (firstWay (tried z n left x Left) (tried z n left x Right)) walk g)
-              [ inl e ↦ (Front, onward Front walk e)
-              | inr k ↦ elim (way-split (tried z n left x Left) (tried z n left x Right) walk k)
-                  [ inl e ↦ (Left, onward Left walk e)
-                  | inr e ↦ (Right, onward Right walk e) ] ] ]
+        elim (way-split (tried z n left x Back) (firstWay (tried z n left x Front) (firstWay (tried z n left x Left) (tried z n left x Right))) walk h) [
+          | inl e ↦ (Back, onward Back walk e)
+          | inr g ↦ elim (way-split (tried z n left x Front) (firstWay (tried z n left x Left) (tried z n left x Right)) walk g) [
+            | inl e ↦ (Front, onward Front walk e)
+            | inr k ↦ elim (way-split (tried z n left x Left) (tried z n left x Right) walk k) [
+              | inl e ↦ (Left, onward Left walk e)
+              | inr e ↦ (Right, onward Right walk e)
+            ]
+          ]
+        ]
 
     -- the search finds a walk that is not after the one that a letter leads to
     found-by : (d : Direction) (walk : Walk) → Found (tried z n left x d) (d ∷ walk) → Found (ways z n left x) (d ∷ walk)
     found-by Back walk f = way-here (tried z n left x Back) (firstWay (tried z n left x Front) (firstWay (tried z n left x Left) (tried z n left x Right))) (Back ∷ walk) f
     found-by Front walk f =
         way-past Back Front (tried z n left x Back) (firstWay (tried z n left x Front) (firstWay (tried z n left x Left) (tried z n left x Right))) walk (omega arith) (headed Back)
-          (way-here (tried z n left x Front) (firstWay (tried z n left x Left) (tried z n left x Right)) (Front ∷ walk) f)
+        (way-here (tried z n left x Front) (firstWay (tried z n left x Left) (tried z n left x Right)) (Front ∷ walk) f)
     found-by Left walk f =
         way-past Back Left (tried z n left x Back) (firstWay (tried z n left x Front) (firstWay (tried z n left x Left) (tried z n left x Right))) walk (omega arith) (headed Back)
-          (way-past Front Left (tried z n left x Front) (firstWay (tried z n left x Left) (tried z n left x Right)) walk (omega arith) (headed Front)
-            (way-here (tried z n left x Left) (tried z n left x Right) (Left ∷ walk) f))
+        (way-past Front Left (tried z n left x Front) (firstWay (tried z n left x Left) (tried z n left x Right)) walk (omega arith) (headed Front)
+        (way-here (tried z n left x Left) (tried z n left x Right) (Left ∷ walk) f))
     found-by Right walk f =
         way-past Back Right (tried z n left x Back) (firstWay (tried z n left x Front) (firstWay (tried z n left x Left) (tried z n left x Right))) walk (omega arith) (headed Back)
-          (way-past Front Right (tried z n left x Front) (firstWay (tried z n left x Left) (tried z n left x Right)) walk (omega arith) (headed Front)
-            (way-past Left Right (tried z n left x Left) (tried z n left x Right) walk (omega arith) (headed Left) f))
+        (way-past Front Right (tried z n left x Front) (firstWay (tried z n left x Left) (tried z n left x Right)) walk (omega arith) (headed Front)
+        (way-past Left Right (tried z n left x Left) (tried z n left x Right) walk (omega arith) (headed Left) f))
 
   pub at-depot : (x : Point) (walk : Walk) → cond (samePoint x (depotPoint z)) (some []) none ≡ some walk → (x ≡ depotPoint z) × (walk ≡ [])
   at-depot x walk h = go (samePoint x (depotPoint z)) refl h
@@ -162,7 +165,7 @@ module _ (z : Layout) where
       let t = stepped z x p d (f .leads .0) in
       let free : 0 < left s = omega (arith, f .within s (t .edge), one-refl s) in
       let r = first-found n (without left s) (stepTo x d) walk (t .end)
-            (record { leads = f .leads .1; steps = let h = f .steps in omega arith; within = λ e i. omega (arith, taken left s e free, f .within e i) }) in
+      (record { leads = f .leads .1; steps = let h = f .steps in omega arith; within = λ e i. omega (arith, taken left s e free, f .within e i) }) in
       found-by n left x d walk (d ∷ r .0, tried-free n left x d (f .leads .0) free ∙ ap (stepThen d) (r .1), later (r .2))
 
   -- a walk with as many steps as there are treads left treads them all
@@ -179,9 +182,10 @@ module _ (z : Layout) where
     found-first walk w =
         let t = first-found (stepsOf z (multiplicity plan)) (multiplicity plan) (depotPoint z) walk (depot-point z p q) (walk-fits walk w) in
         let f = first-fits (stepsOf z (multiplicity plan)) (multiplicity plan) (depotPoint z) (t .0) (depot-point z p q) (t .1) in
-        let is : t .0 ≡ firstWalk z plan = ap (λ (o : Option Walk). Option·getD o []) (sym (t .1)) in
-        (subst (WalkOf z plan) is (walk-of z plan (t .0) (f .leads) (fits-exactly (stepsOf z (multiplicity plan)) (multiplicity plan) (depotPoint z) (t .0) (depot-point z p q) f refl)),
-          subst (λ (v : Walk). NotAfter v walk) is (t .2))
+        let is : t .0 ≡ firstWalk z plan = ap (λ (o : Option Walk). Option·getD o []) (sym (t .1)) in (
+          subst (WalkOf z plan) is (walk-of z plan (t .0) (f .leads) (fits-exactly (stepsOf z (multiplicity plan)) (multiplicity plan) (depotPoint z) (t .0) (depot-point z p q) f refl)),
+          subst (λ (v : Walk). NotAfter v walk) is (t .2),
+        )
 
     -- the first walk of a lawful plan is one of its walks, and not after any of them
     pub first-walk : WellFormed z plan → Lawful z plan → WalkOf z plan (firstWalk z plan) × ((walk : Walk) → WalkOf z plan walk → NotAfter (firstWalk z plan) walk)

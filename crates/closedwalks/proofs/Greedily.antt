@@ -59,6 +59,10 @@ module _ (z : Layout) where
         let j = joined-same z left (without left s) x still (λ e i u. omega (arith, taken left s e h)) (r .joined) in
         λ e u. step s (t .edge, still s (t .edge) h) (joins-turn z s x (stepTo x d) (t .joins)) (j e u)
 
+  -- the treads of a lawful plan can be walked from the depot
+  pub lawful-ready : (plan : Plan) → 1 ≤ z .depot → z .depot ≤ z .aisles → WellFormed z plan → Lawful z plan → Ready z (multiplicity plan) (depotPoint z)
+  lawful-ready plan p q wf law = record { point = depot-point z p q; balanced = lawful-balanced z plan wf law; joined = lawful-joined z plan wf law }
+
   module _ (test : LetterTest) (right : TellsJoined z test) where
     -- one letter of the search and of the greedy walk, where they agree on what follows
     module _ (n : ℕ) (left : Edge → ℕ) (x : Point) (r : Ready z left x) (e : stepsOf z left ≡ suc n)
@@ -66,11 +70,12 @@ module _ (z : Layout) where
       abbrev onward : Direction → Walk
       onward d = d ∷ greedy z test n (without left (stepEdge x d)) (stepTo x d)
 
-      open-letter : (d : Direction) → canStep z x d ≡ true → 0 < left (stepEdge x d) → Bool → Type 0
-      open-letter d c h b = test left x d ≡ b → tried z n left x d ≡ elim b as (λ t. Option Walk) [ true ↦ some (onward d) | false ↦ none ]
+      -- what the search tries with a letter that is admitted, or is not
+      abbrev Way : Direction → Bool → Type 0
+      Way d b = tried z n left x d ≡ elim b as (λ t. Option Walk) [ true ↦ some (onward d) | false ↦ none ]
 
-      open-way : (d : Direction) (c : canStep z x d ≡ true) (h : 0 < left (stepEdge x d)) (b : Bool) → open-letter d c h b
-      unfolding open-letter TellsJoined
+      open-way : (d : Direction) (c : canStep z x d ≡ true) (h : 0 < left (stepEdge x d)) (b : Bool) → test left x d ≡ b → Way d b
+      unfolding TellsJoined
       open-way d c h true t =
           let j = right left x d r c h .0 t in
           let fewer = total-step z x (r .point) d c left h in
@@ -86,11 +91,10 @@ module _ (z : Layout) where
               let j = found-joined rest (stepTo x d) v (stepped z x (r .point) d c .end) (subst (λ (k : ℕ). firstFrom z k rest (stepTo x d) ≡ some v) size q) in
               absurd (let bad : _≡_ {A = ℕ} 0 1 = cc (right left x d r c h .1 j) in omega arith)
 
-      letter-way : (d : Direction) (b : Bool) → admits z test left x d ≡ b → tried z n left x d ≡ elim b as (λ t. Option Walk) [ true ↦ some (onward d) | false ↦ none ]
-      unfolding open-letter
+      letter-way : (d : Direction) (b : Bool) → admits z test left x d ≡ b → Way d b
       letter-way d b t = go (canStep z x d && ltb 0 (left (stepEdge x d))) refl b t
         where
-          go : (free : Bool) → (canStep z x d && ltb 0 (left (stepEdge x d))) ≡ free → (b : Bool) → (free && test left x d) ≡ b → tried z n left x d ≡ elim b as (λ t. Option Walk) [ true ↦ some (onward d) | false ↦ none ]
+          go : (free : Bool) → (canStep z x d && ltb 0 (left (stepEdge x d))) ≡ free → (b : Bool) → (free && test left x d) ≡ b → Way d b
           go true q b t =
               let u = both-true (canStep z x d) (ltb 0 (left (stepEdge x d))) q in
               open-way d (u .0) (ltb-true 0 (left (stepEdge x d)) (u .1)) b t
@@ -123,5 +127,4 @@ module _ (z : Layout) where
         → greedy z test (stepsOf z (multiplicity plan)) (multiplicity plan) (depotPoint z) ≡ firstWalk z plan
     unfolding firstWalk
     greedy-first plan p q wf law =
-        let r : Ready z (multiplicity plan) (depotPoint z) = record { point = depot-point z p q; balanced = lawful-balanced z plan wf law; joined = lawful-joined z plan wf law } in
-        sym (ap (λ (o : Option Walk). Option·getD o []) (greedy-found (stepsOf z (multiplicity plan)) (multiplicity plan) (depotPoint z) r refl))
+        sym (ap (λ (o : Option Walk). Option·getD o []) (greedy-found (stepsOf z (multiplicity plan)) (multiplicity plan) (depotPoint z) (lawful-ready plan p q wf law) refl))

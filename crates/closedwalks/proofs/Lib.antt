@@ -14,3 +14,4 @@ pub mod Counts
 pub mod Serving
 pub mod First
 pub mod Greedily
+pub mod Statements

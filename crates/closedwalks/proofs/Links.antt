@@ -44,9 +44,10 @@ module _ (z : Layout) where
     touched-linked : (x y : Point) → Joined z t x → Touched z t y → Linked z t y x
     unfolding Joined Touched Joins
     touched-linked x y j h =
-        elim (h .2)
-          [ inl e ↦ subst (λ (p : Point). Linked z t p x) (sym e) (j (h .0) (h .1))
-          | inr e ↦ link-join x (startOf z (h .0)) y (j (h .0) (h .1)) (step (h .0) (h .1) (inl (refl, e)) here) ]
+        elim (h .2) [
+          | inl e ↦ subst (λ (p : Point). Linked z t p x) (sym e) (j (h .0) (h .1))
+          | inr e ↦ link-join x (startOf z (h .0)) y (j (h .0) (h .1)) (step (h .0) (h .1) (inl (refl, e)) here)
+        ]
 
     pub joined-together : (x : Point) → Joined z t x → (p q : Point) → Touched z t p → Touched z t q → Linked z t q p
     joined-together x j p q f g = link-join p x q (link-turn x p (touched-linked x p j f)) (touched-linked x q j g)
@@ -60,9 +61,11 @@ module _ (z : Layout) where
       let g = treadsFrom (stepTo x d) walk in
       let s = stepped z x p d (l .0) in
       let go : (q : Point) → Linked z f q (stepTo x d) → Linked z f q x = λ q k. step (stepEdge x d) (s .edge, omega (arith, one-refl (stepEdge x d))) (s .joins) k in
-      elim (edge-split e (stepEdge x d))
-        [ inl h ↦ elim (s .joins)
-            [ inl j ↦ subst (λ (q : Point). Linked z f q x) (j .0 ∙ ap (startOf z) (sym (h .0))) here
-            | inr j ↦ subst (λ (q : Point). Linked z f q x) (j .0 ∙ ap (startOf z) (sym (h .0))) (go (stepTo x d) here) ]
+      elim (edge-split e (stepEdge x d)) [
+        | inl h ↦ elim (s .joins) [
+          | inl j ↦ subst (λ (q : Point). Linked z f q x) (j .0 ∙ ap (startOf z) (sym (h .0))) here
+          | inr j ↦ subst (λ (q : Point). Linked z f q x) (j .0 ∙ ap (startOf z) (sym (h .0))) (go (stepTo x d) here)
+        ]
         | inr h ↦ go (startOf z e) (link-wider g f (stepTo x d) (startOf z e) (λ e i u. omega arith)
-            (walk-joined (stepTo x d) walk y (s .end) (l .1) e (t .0, omega (arith, t .1, h .0)))) ]
+            (walk-joined (stepTo x d) walk y (s .end) (l .1) e (t .0, omega (arith, t .1, h .0))))
+      ]

@@ -29,9 +29,10 @@ cond-none false = refl
 pub taken : (left : Edge → ℕ) (s e : Edge) → 0 < left s → left e ≡ one e s + without left s e
 unfolding without
 taken left s e h =
-    elim (edge-split e s)
-      [ inl p ↦ omega (arith, p .1, one-sym e s, ap left (p .0))
-      | inr p ↦ omega (arith, p .0, one-sym e s) ]
+    elim (edge-split e s) [
+      | inl p ↦ omega (arith, p .1, one-sym e s, ap left (p .0))
+      | inr p ↦ omega (arith, p .0, one-sym e s)
+    ]
 
 module _ (z : Layout) where
   pub degree-add : (f g : Edge → ℕ) (y : Point) → degree z (λ e. f e + g e) y ≡ degree z f y + degree z g y
@@ -75,9 +76,10 @@ module _ (z : Layout) where
         let s = stepped z x p d c in
         let e = stepEdge x d in
         let l = degree-one z y e (s .edge) in
-        elim (s .joins)
-          [ inl j ↦ omega (arith, l, ap (same y) (j .0), ap (same y) (j .1))
-          | inr j ↦ omega (arith, l, ap (same y) (j .0), ap (same y) (j .1)) ]
+        elim (s .joins) [
+          | inl j ↦ omega (arith, l, ap (same y) (j .0), ap (same y) (j .1))
+          | inr j ↦ omega (arith, l, ap (same y) (j .0), ap (same y) (j .1))
+        ]
 
     pub balanced-step : (left : Edge → ℕ) (y : Point) → 0 < left (stepEdge x d) → Balanced z left x y → Balanced z (without left (stepEdge x d)) (stepTo x d) y
     balanced-step left y h b q o =
@@ -111,5 +113,11 @@ module _ (z : Layout) where
       let t = stepped z x p d (l .0) in
       let single = sum-single z (λ e. one e s * f e) s (t .edge) (λ e n. elim (edge-split e s) [ inl q ↦ absurd (n (q .0)) | inr q ↦ rw (q .0) (omega arith) ]) in
       let first : one s s * f s ≡ f s = rw (one-refl s) (omega arith) in
-      omega (arith, sum-same z (λ e. (one e s + treadsFrom (stepTo x d) walk e) * f e) (λ e. one e s * f e + treadsFrom (stepTo x d) walk e * f e) (λ e i. omega arith),
-        sum-add (λ e. one e s * f e) (λ e. treadsFrom (stepTo x d) walk e * f e) (edgesOf z), single, first, walk-sum f (stepTo x d) walk y (t .end) (l .1))
+      omega (
+        arith,
+        sum-same z (λ e. (one e s + treadsFrom (stepTo x d) walk e) * f e) (λ e. one e s * f e + treadsFrom (stepTo x d) walk e * f e) (λ e i. omega arith),
+        sum-add (λ e. one e s * f e) (λ e. treadsFrom (stepTo x d) walk e * f e) (edgesOf z),
+        single,
+        first,
+        walk-sum f (stepTo x d) walk y (t .end) (l .1),
+      )

@@ -46,9 +46,10 @@ choices {A} d (suc n) P f =
 -- beyond the store an aisle is void
 fits-all : (cells : ℕ) (acts : List Action) → ((j : ℕ) → 1 ≤ j → j ≤ length acts → Fits cells (nth acts j Void)) → (j : ℕ) → Fits cells (nth acts j Void)
 fits-all cells acts f j =
-    elim (none-or-some j)
-      [ inl e ↦ subst (λ (i : ℕ). Fits cells (nth acts i Void)) (sym e) tt
-      | inr p ↦ elim (below-or-from (length acts) j) [ inl l ↦ rw (nth-past acts j Void l) tt | inr l ↦ f j p l ] ]
+    elim (none-or-some j) [
+      | inl e ↦ subst (λ (i : ℕ). Fits cells (nth acts i Void)) (sym e) tt
+      | inr p ↦ elim (below-or-from (length acts) j) [ inl l ↦ rw (nth-past acts j Void l) tt | inr l ↦ f j p l ]
+    ]
 
 -- a point of the aisle j above the height h and not above i
 abbrev Inside : ℕ → ℕ → ℕ → Point → Type 0
@@ -61,9 +62,10 @@ module _ (z : Layout) (t : Edge → ℕ) (j h i : ℕ) (inner : i ≤ z .cells) 
 
   stay : (e : Edge) → 0 < t e → (Inside j h i (startOf z e) → Inside j h i (endOf z e)) × (Inside j h i (endOf z e) → Inside j h i (startOf z e))
   unfolding startOf endOf backHeight
-  stay (along a k) s =
-      (λ o. let (e, p, q) = o in let n = apart a k i e high s in (e, omega arith, omega arith),
-        λ o. let (e, p, q) = o in let n = apart a k h e low s in (e, omega arith, omega arith))
+  stay (along a k) s = (
+    λ o. let (e, p, q) = o in let n = apart a k i e high s in (e, omega arith, omega arith),
+    λ o. let (e, p, q) = o in let n = apart a k h e low s in (e, omega arith, omega arith),
+  )
   stay (front a) s = (λ o. absurd (let p = o .1 in omega arith), λ o. absurd (let p = o .1 in omega arith))
   stay (back a) s = (λ o. absurd (let p = o .2 in omega arith), λ o. absurd (let p = o .2 in omega arith))
 
@@ -80,18 +82,19 @@ module _ (z : Layout) (t : Edge → ℕ) (r : Readable z t) where
   no-island : (j : ℕ) → 1 ≤ j → j ≤ z .aisles → (h k i : ℕ) → h < k → k < i → i ≤ z .cells → t (along j h) ≡ 0 → t (along j i) ≡ 0 → t (along j k) ≡ 0
   unfolding Joined Trodden InStore startOf depotPoint
   no-island j p q h k i u v c f g =
-      elim (none-or-some (t (along j k)))
-        [ inl e ↦ e
+      elim (none-or-some (t (along j k))) [
+        | inl e ↦ e
         | inr s ↦
             let inside = island z t j h i c f g (depotPoint z) (record { aisle = j; height = k }) (r .joined (along j k) ((p, q, omega arith), s)) (refl, u, omega arith) in
-            absurd (let low = inside .1 in omega arith) ]
+            absurd (let low = inside .1 in omega arith)
+      ]
 
   aisle-read : (j : ℕ) → 1 ≤ j → j ≤ z .aisles → Read (z .cells) (λ k. t (along j k))
   unfolding InStore
   aisle-read j p q =
       aisle-reads (z .cells) (λ k. t (along j k)) (λ k h. r .few (along j k) (p, q, h))
-        (λ c u v. rw (degree-cell z t j c u v) at (r .even (record { aisle = j; height = c }) (record { first = p; last = q; high = omega arith })))
-        (no-island j p q)
+      (λ c u v. rw (degree-cell z t j c u v) at (r .even (record { aisle = j; height = c }) (record { first = p; last = q; high = omega arith })))
+      (no-island j p q)
 
   abbrev ReadPassage : ℕ → Passage → Type 0
   ReadPassage j p = (backTreads p ≡ t (back j)) × (frontTreads p ≡ t (front j))
@@ -114,6 +117,7 @@ module _ (z : Layout) (t : Edge → ℕ) (r : Readable z t) where
     where
       plan : Plan
       plan = record { actions = acts; passages = pass }
+
       same : (e : Edge) → InStore z e → multiplicity plan e ≡ t e
       same (along j k) i = f j (i .0) (i .1) .1 k (i .2)
       same (front j) i = g j (i .0) (i .1) .1
@@ -133,11 +137,12 @@ module _ (z : Layout) (t : Edge → ℕ) (r : Readable z t) where
       let to : Covers z t (multiplicity plan) = λ e i h. omega (arith, eq e i) in
       let fro : Covers z (multiplicity plan) t = λ e i h. omega (arith, eq e i) in
       let d = r .touched in
-      record
-        { front-even = λ j p q. rw (← plan-front z plan wf j p q) (evenly (record { aisle = j; height = 0 }) (record { first = p; last = q; high = omega arith }));
-          back-even = λ j p q. rw (← plan-back z plan wf j p q) (evenly (record { aisle = j; height = suc (z .cells) }) (record { first = p; last = q; high = omega arith }));
-          together = joined-together z (multiplicity plan) (depotPoint z) (joined-same z t (multiplicity plan) (depotPoint z) to fro (r .joined));
-          depot-touched = (d .0, (d .1 .0, to (d .0) (d .1 .0) (d .1 .1)), d .2) }
+      record {
+        front-even = λ j p q. rw (← plan-front z plan wf j p q) (evenly (record { aisle = j; height = 0 }) (record { first = p; last = q; high = omega arith }));
+        back-even = λ j p q. rw (← plan-back z plan wf j p q) (evenly (record { aisle = j; height = suc (z .cells) }) (record { first = p; last = q; high = omega arith }));
+        together = joined-together z (multiplicity plan) (depotPoint z) (joined-same z t (multiplicity plan) (depotPoint z) to fro (r .joined));
+        depot-touched = (d .0, (d .1 .0, to (d .0) (d .1 .0) (d .1 .1)), d .2);
+      }
 
   -- such treads are those of a lawful plan
   pub reads : 1 ≤ z .aisles → (plan : Plan) × WellFormed z plan × ((e : Edge) → InStore z e → multiplicity plan e ≡ t e) × Lawful z plan

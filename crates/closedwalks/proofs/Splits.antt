@@ -1,7 +1,7 @@
 -- The case distinctions on numbers that the proofs use.
 use Prim.Native.Nat.{ℕ, zero, suc, _≤_, _<_}
 use native.Mathlib.Omega.{arith}
-use native.Mathlib.Decide.{decLt, decLe}
+use native.Mathlib.Decide.{decLt}
 use mathlib.Core.Path.{_≡_, refl}
 use mathlib.Core.Logic.{_⊎_, inl, inr}
 
@@ -14,6 +14,3 @@ equal-or-below a b h = elim (decLt a b) [ yes l ↦ inr l | no l ↦ inl (omega 
 
 pub below-or-from : (a b : ℕ) → (a < b) ⊎ (b ≤ a)
 below-or-from a b = elim (decLt a b) [ yes l ↦ inl l | no l ↦ inr (omega arith) ]
-
-pub equal-or-not : (a b : ℕ) → (a ≡ b) ⊎ (a ≡ b → ⊥)
-equal-or-not a b = elim (decLt a b) [ yes l ↦ inr (λ e. omega arith) | no l ↦ elim (decLt b a) [ yes m ↦ inr (λ e. omega arith) | no m ↦ inl (omega arith) ] ]

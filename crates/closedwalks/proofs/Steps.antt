@@ -161,14 +161,14 @@ module _ (z : Layout) (y : Point) where
   along-back j k h =
       let within = eqb (y .aisle) j && eqb (y .height) k in
       sift (ltb (y .height) (suc (z .cells))) within within (λ p q. q)
-        (λ r. (lt-ltb (y .height) (suc (z .cells)) (let t = two-equal (y .aisle) j (y .height) k r in omega arith), r))
+      (λ r. (lt-ltb (y .height) (suc (z .cells)) (let t = two-equal (y .aisle) j (y .height) k r in omega arith), r))
 
   along-front : (j k : ℕ) → share z (λ f. one f (along j k)) y Front ≡ same y (record { aisle = j; height = suc k })
   unfolding one same samePoint canStep stepEdge sameEdge
   along-front j k =
       sift (ltb 0 (y .height)) (eqb (y .aisle) j && eqb (y .height - 1) k) (eqb (y .aisle) j && eqb (y .height) (suc k))
-        (λ p q. let t = two-equal (y .aisle) j (y .height - 1) k q in let u = ltb-true 0 (y .height) p in equal-two (y .aisle) j (y .height) (suc k) (t .0) (omega arith))
-        (λ r. let t = two-equal (y .aisle) j (y .height) (suc k) r in (lt-ltb 0 (y .height) (omega arith), equal-two (y .aisle) j (y .height - 1) k (t .0) (omega arith)))
+      (λ p q. let t = two-equal (y .aisle) j (y .height - 1) k q in let u = ltb-true 0 (y .height) p in equal-two (y .aisle) j (y .height) (suc k) (t .0) (omega arith))
+      (λ r. let t = two-equal (y .aisle) j (y .height) (suc k) r in (lt-ltb 0 (y .height) (omega arith), equal-two (y .aisle) j (y .height - 1) k (t .0) (omega arith)))
 
   along-left : (j k : ℕ) → share z (λ f. one f (along j k)) y Left ≡ 0
   unfolding one stepEdge
@@ -192,10 +192,10 @@ module _ (z : Layout) (y : Point) where
   unfolding one same samePoint
   crossing b t i j a to fro =
       sift (isCrossing z y && t) (sameEdge (crossEdge (eqb (y .height) 0) i) (crossEdge b j)) (eqb (y .aisle) a && eqb (y .height) (level z b))
-        (λ p q. let u = both-true (isCrossing z y) t p in let v = cross-same (eqb (y .height) 0) b i j q in
-          equal-two (y .aisle) a (y .height) (level z b) (to (u .1) (v .1)) (crossing-level z y b (u .0) (v .0)))
-        (λ r. let u = two-equal (y .aisle) a (y .height) (level z b) r in let v = level-crossing z y b (u .1) in let w = fro (u .0) in
-          (true-both (isCrossing z y) t (v .0) (w .0), same-cross (eqb (y .height) 0) b i j (v .1) (w .1)))
+      (λ p q. let u = both-true (isCrossing z y) t p in let v = cross-same (eqb (y .height) 0) b i j q in
+      equal-two (y .aisle) a (y .height) (level z b) (to (u .1) (v .1)) (crossing-level z y b (u .0) (v .0)))
+      (λ r. let u = two-equal (y .aisle) a (y .height) (level z b) r in let v = level-crossing z y b (u .1) in let w = fro (u .0) in
+      (true-both (isCrossing z y) t (v .0) (w .0), same-cross (eqb (y .height) 0) b i j (v .1) (w .1)))
 
   cross-left : (b : Bool) (j : ℕ) → 1 ≤ j → share z (λ f. one f (crossEdge b j)) y Left ≡ same y (record { aisle = suc j; height = level z b })
   unfolding canStep stepEdge
@@ -238,8 +238,12 @@ module _ (z : Layout) where
       let x : Point = record { aisle = suc j; height = level z b } in
       let c = level-crossing z x b refl in
       let s : suc j - 1 ≡ j = omega arith in
-      record { letter = Left; can = true-both (isCrossing z x) (ltb 1 (suc j)) (c .0) (lt-ltb 1 (suc j) (omega arith));
-        by = ap₂ crossEdge (c .1) s; to = λ i. record { aisle = s i; height = level z b } }
+      record {
+        letter = Left;
+        can = true-both (isCrossing z x) (ltb 1 (suc j)) (c .0) (lt-ltb 1 (suc j) (omega arith));
+        by = ap₂ crossEdge (c .1) s;
+        to = λ i. record { aisle = s i; height = level z b };
+      }
 
   -- each edge of the store can be stepped along, either way
   pub step-forth : (e : Edge) → InStore z e → StepBy z e (startOf z e) (endOf z e)
@@ -273,10 +277,11 @@ module _ (z : Layout) (x : Point) (p : PointOf z x) where
   step-cross-right c h =
       let b = eqb (x .height) 0 in
       let l = crossing-level z x b c refl in
-      record
-        { edge = in-cross z b (x .aisle) (p .first) h;
-          end = record { first = omega arith; last = h; high = p .high };
-          joins = inl ((λ i. record { aisle = x .aisle; height = l i }) ∙ sym (start-cross z b (x .aisle)), (λ i. record { aisle = suc (x .aisle); height = l i }) ∙ sym (end-cross z b (x .aisle))) }
+      record {
+        edge = in-cross z b (x .aisle) (p .first) h;
+        end = record { first = omega arith; last = h; high = p .high };
+        joins = inl ((λ i. record { aisle = x .aisle; height = l i }) ∙ sym (start-cross z b (x .aisle)), (λ i. record { aisle = suc (x .aisle); height = l i }) ∙ sym (end-cross z b (x .aisle)));
+      }
 
   step-cross-left : isCrossing z x ≡ true → 1 < x .aisle → Stepped z x Left
   unfolding stepEdge stepTo Joins
@@ -285,10 +290,11 @@ module _ (z : Layout) (x : Point) (p : PointOf z x) where
       let l = crossing-level z x b c refl in
       let s : suc (x .aisle - 1) ≡ x .aisle = omega arith in
       let m = p .last in
-      record
-        { edge = in-cross z b (x .aisle - 1) (omega arith) (omega arith);
-          end = record { first = omega arith; last = omega arith; high = p .high };
-          joins = inr ((λ i. record { aisle = x .aisle - 1; height = l i }) ∙ sym (start-cross z b (x .aisle - 1)), (λ i. record { aisle = sym s i; height = l i }) ∙ sym (end-cross z b (x .aisle - 1))) }
+      record {
+        edge = in-cross z b (x .aisle - 1) (omega arith) (omega arith);
+        end = record { first = omega arith; last = omega arith; high = p .high };
+        joins = inr ((λ i. record { aisle = x .aisle - 1; height = l i }) ∙ sym (start-cross z b (x .aisle - 1)), (λ i. record { aisle = sym s i; height = l i }) ∙ sym (end-cross z b (x .aisle - 1)));
+      }
 
   pub stepped : (d : Direction) → canStep z x d ≡ true → Stepped z x d
   unfolding canStep stepEdge stepTo Joins InStore startOf endOf backHeight

@@ -70,9 +70,10 @@ sum-from-past f x a (suc n) h g = omega (arith, g a (λ e. omega arith), sum-fro
 sum-from : (f : ℕ → ℕ) (x a n : ℕ) → a ≤ x → x < a + n → ((k : ℕ) → (k ≡ x → ⊥) → f k ≡ 0) → sumOf f (from a n) ≡ f x
 sum-from f x a zero p q g = absurd (omega arith)
 sum-from f x a (suc n) p q g =
-    elim (equal-or-below a x p)
-      [ inl e ↦ omega (arith, ap f e, sum-from-past f x (suc a) n (omega arith) g)
-      | inr l ↦ omega (arith, g a (λ e. omega arith), sum-from f x (suc a) n l (omega arith) g) ]
+    elim (equal-or-below a x p) [
+      | inl e ↦ omega (arith, ap f e, sum-from-past f x (suc a) n (omega arith) g)
+      | inr l ↦ omega (arith, g a (λ e. omega arith), sum-from f x (suc a) n l (omega arith) g)
+    ]
 
 sum-from-le : (f : ℕ → ℕ) (b a n : ℕ) → ((k : ℕ) → f k ≤ b) → sumOf f (from a n) ≤ n * b
 sum-from-le f b a zero h = omega arith
@@ -95,36 +96,52 @@ module _ (z : Layout) where
   sum-single f (along j k) h g =
       let row : (i : ℕ) → ℕ = λ i. sumOf (λ k. f (along i k)) (from 0 (suc (z .cells))) in
       let others : (i : ℕ) → (i ≡ j → ⊥) → row i ≡ 0 = λ i p. sum-none (λ k. f (along i k)) (from 0 (suc (z .cells))) (λ n. g (along i n) (λ e. p cc)) in
-      omega (arith, edges-sum f, sum-from row j 1 (z .aisles) (h .0) (omega arith) others,
+      omega (
+        arith,
+        edges-sum f,
+        sum-from row j 1 (z .aisles) (h .0) (omega arith) others,
         sum-from (λ n. f (along j n)) k 0 (suc (z .cells)) (omega arith) (omega arith) (λ n p. g (along j n) (λ e. p cc)),
         sum-none (λ i. f (front i)) (from 1 cross) (λ i. g (front i) (λ e. let bad : _≡_ {A = ℕ} 0 1 = cc in omega arith)),
-        sum-none (λ i. f (back i)) (from 1 cross) (λ i. g (back i) (λ e. let bad : _≡_ {A = ℕ} 0 1 = cc in omega arith)))
+        sum-none (λ i. f (back i)) (from 1 cross) (λ i. g (back i) (λ e. let bad : _≡_ {A = ℕ} 0 1 = cc in omega arith)),
+      )
   sum-single f (front j) h g =
-      omega (arith, edges-sum f, no-rows f (λ i k. g (along i k) (λ e. let bad : _≡_ {A = ℕ} 0 1 = cc in omega arith)),
+      omega (
+        arith,
+        edges-sum f,
+        no-rows f (λ i k. g (along i k) (λ e. let bad : _≡_ {A = ℕ} 0 1 = cc in omega arith)),
         sum-from (λ i. f (front i)) j 1 cross (h .0) (omega arith) (λ i p. g (front i) (λ e. p cc)),
-        sum-none (λ i. f (back i)) (from 1 cross) (λ i. g (back i) (λ e. let bad : _≡_ {A = ℕ} 0 1 = cc in omega arith)))
+        sum-none (λ i. f (back i)) (from 1 cross) (λ i. g (back i) (λ e. let bad : _≡_ {A = ℕ} 0 1 = cc in omega arith)),
+      )
   sum-single f (back j) h g =
-      omega (arith, edges-sum f, no-rows f (λ i k. g (along i k) (λ e. let bad : _≡_ {A = ℕ} 0 1 = cc in omega arith)),
+      omega (
+        arith,
+        edges-sum f,
+        no-rows f (λ i k. g (along i k) (λ e. let bad : _≡_ {A = ℕ} 0 1 = cc in omega arith)),
         sum-none (λ i. f (front i)) (from 1 cross) (λ i. g (front i) (λ e. let bad : _≡_ {A = ℕ} 0 1 = cc in omega arith)),
-        sum-from (λ i. f (back i)) j 1 cross (h .0) (omega arith) (λ i p. g (back i) (λ e. p cc)))
+        sum-from (λ i. f (back i)) j 1 cross (h .0) (omega arith) (λ i p. g (back i) (λ e. p cc)),
+      )
 
   -- a sum over the edges to which each adds at most b
   pub sum-bound : (f : Edge → ℕ) (b : ℕ) → ((e : Edge) → f e ≤ b) → sumOf f (edgesOf z) ≤ z .aisles * (suc (z .cells) * b) + (cross * b + cross * b)
   sum-bound f b h =
-      omega (arith, edges-sum f,
+      omega (
+        arith,
+        edges-sum f,
         sum-from-le (λ j. sumOf (λ k. f (along j k)) (from 0 (suc (z .cells)))) (suc (z .cells) * b) 1 (z .aisles) (λ j. sum-from-le (λ k. f (along j k)) b 0 (suc (z .cells)) (λ k. h (along j k))),
-        sum-from-le (λ j. f (front j)) b 1 cross (λ j. h (front j)), sum-from-le (λ j. f (back j)) b 1 cross (λ j. h (back j)))
+        sum-from-le (λ j. f (front j)) b 1 cross (λ j. h (front j)),
+        sum-from-le (λ j. f (back j)) b 1 cross (λ j. h (back j)),
+      )
 
   edges-in : All (InStore z) (edgesOf z)
   unfolding edgesOf InStore
   edges-in =
       let cross-in : (h : ℕ → Edge) → ((j : ℕ) → 1 ≤ j → j < z .aisles → InStore z (h j)) → All (InStore z) (map h (from 1 cross)) =
-            λ h f. all-map (InStore z) h (from 1 cross) (all-from (λ j. InStore z (h j)) 1 cross (λ j p q. f j p (omega arith))) in
+      λ h f. all-map (InStore z) h (from 1 cross) (all-from (λ j. InStore z (h j)) 1 cross (λ j p q. f j p (omega arith))) in
       let row : (j : ℕ) → 1 ≤ j → j < 1 + z .aisles → All (InStore z) (map (along j) (from 0 (suc (z .cells)))) =
-            λ j p q. all-map (InStore z) (along j) (from 0 (suc (z .cells))) (all-from (λ k. InStore z (along j k)) 0 (suc (z .cells)) (λ k u v. (p, omega arith, omega arith))) in
+      λ j p q. all-map (InStore z) (along j) (from 0 (suc (z .cells))) (all-from (λ k. InStore z (along j k)) 0 (suc (z .cells)) (λ k u v. (p, omega arith, omega arith))) in
       all-append (InStore z) (concatOf (λ j. map (along j) (from 0 (suc (z .cells)))) (from 1 (z .aisles))) (map front (from 1 cross) ++ map back (from 1 cross))
-        (all-concat (InStore z) (λ j. map (along j) (from 0 (suc (z .cells)))) (from 1 (z .aisles)) (all-from (λ j. All (InStore z) (map (along j) (from 0 (suc (z .cells))))) 1 (z .aisles) row))
-        (all-append (InStore z) (map front (from 1 cross)) (map back (from 1 cross)) (cross-in front (λ j p q. (p, q))) (cross-in back (λ j p q. (p, q))))
+      (all-concat (InStore z) (λ j. map (along j) (from 0 (suc (z .cells)))) (from 1 (z .aisles)) (all-from (λ j. All (InStore z) (map (along j) (from 0 (suc (z .cells))))) 1 (z .aisles) row))
+      (all-append (InStore z) (map front (from 1 cross)) (map back (from 1 cross)) (cross-in front (λ j p q. (p, q))) (cross-in back (λ j p q. (p, q))))
 
   pub sum-le : (f g : Edge → ℕ) → ((e : Edge) → InStore z e → f e ≤ g e) → sumOf f (edgesOf z) ≤ sumOf g (edgesOf z)
   sum-le f g h = sum-all-le f g (edgesOf z) (all-imp (InStore z) (λ e. f e ≤ g e) (edgesOf z) h edges-in)

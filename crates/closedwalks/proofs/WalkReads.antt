@@ -44,11 +44,13 @@ passage false t j n e = rw e (omega arith)
 -- a step along a cross-aisle changes the side exactly if it treads the passage behind j
 cross-cut : (b : Bool) (j n : ℕ) → (one (front j) (crossEdge b n) + one (back j) (crossEdge b n) + side j n + side j (suc n)) % 2 ≡ 0
 cross-cut b j n =
-    elim (below-or-from j n)
-      [ inl l ↦ rw (passage b false j n (ne-eqb j n (omega arith)), lt-leb n j l, lt-leb (suc n) j (omega arith))
-      | inr l ↦ elim (equal-or-below n j l)
-          [ inl e ↦ rw (passage b true j n (eq-eqb j n (sym e)), le-leb n j l, lt-leb (suc n) j (omega arith))
-          | inr m ↦ rw (passage b false j n (ne-eqb j n (omega arith)), le-leb n j l, le-leb (suc n) j m) ] ]
+    elim (below-or-from j n) [
+      | inl l ↦ rw (passage b false j n (ne-eqb j n (omega arith)), lt-leb n j l, lt-leb (suc n) j (omega arith))
+      | inr l ↦ elim (equal-or-below n j l) [
+        | inl e ↦ rw (passage b true j n (eq-eqb j n (sym e)), le-leb n j l, lt-leb (suc n) j (omega arith))
+        | inr m ↦ rw (passage b false j n (ne-eqb j n (omega arith)), le-leb n j l, le-leb (suc n) j m)
+      ]
+    ]
 
 -- each edge's treads cut down to at most two, odd ones to one, even ones to two or none
 abbrev clamp : ℕ → ℕ
@@ -58,20 +60,24 @@ clamp n = min n (2 - n % 2)
 trodden-passes : (a : Action) (c : ℕ) → 1 ≤ c → 0 < aisleTreads a (c - 1) + aisleTreads a c → passesCell a c ≡ true
 trodden-passes Void c h t = absurd (omega arith)
 trodden-passes (Bottom i) c h t =
-    elim (below-or-from i c)
-      [ inl l ↦ absurd (let none : aisleTreads (Bottom i) (c - 1) + aisleTreads (Bottom i) c ≡ 0 = rw (le-ltb (c - 1) i (omega arith), le-ltb c i (omega arith)) in omega arith)
-      | inr l ↦ le-leb c i l ]
+    elim (below-or-from i c) [
+      | inl l ↦ absurd (let none : aisleTreads (Bottom i) (c - 1) + aisleTreads (Bottom i) c ≡ 0 = rw (le-ltb (c - 1) i (omega arith), le-ltb c i (omega arith)) in omega arith)
+      | inr l ↦ le-leb c i l
+    ]
 trodden-passes (Top i) c h t =
-    elim (below-or-from c i)
-      [ inl l ↦ absurd (let none : aisleTreads (Top i) (c - 1) + aisleTreads (Top i) c ≡ 0 = rw (lt-leb i (c - 1) (omega arith), lt-leb i c l) in omega arith)
-      | inr l ↦ le-leb i c l ]
+    elim (below-or-from c i) [
+      | inl l ↦ absurd (let none : aisleTreads (Top i) (c - 1) + aisleTreads (Top i) c ≡ 0 = rw (lt-leb i (c - 1) (omega arith), lt-leb i c l) in omega arith)
+      | inr l ↦ le-leb i c l
+    ]
 trodden-passes (Gap g i) c h t =
-    elim (below-or-from g c)
-      [ inl l ↦ elim (below-or-from c i)
-          [ inl m ↦ absurd
-              (let none : aisleTreads (Gap g i) (c - 1) + aisleTreads (Gap g i) c ≡ 0 = rw (le-ltb (c - 1) g (omega arith), lt-leb i (c - 1) (omega arith), le-ltb c g (omega arith), lt-leb i c m) in omega arith)
-          | inr m ↦ rw (lt-leb c g l) (le-leb i c m) ]
-      | inr l ↦ rw (le-leb c g l) ]
+    elim (below-or-from g c) [
+      | inl l ↦ elim (below-or-from c i) [
+        | inl m ↦ absurd
+            (let none : aisleTreads (Gap g i) (c - 1) + aisleTreads (Gap g i) c ≡ 0 = rw (le-ltb (c - 1) g (omega arith), lt-leb i (c - 1) (omega arith), le-ltb c g (omega arith), lt-leb i c m) in omega arith)
+        | inr m ↦ rw (lt-leb c g l) (le-leb i c m)
+      ]
+      | inr l ↦ rw (le-leb c g l)
+    ]
 trodden-passes Once c h t = refl
 trodden-passes Twice c h t = refl
 
@@ -103,8 +109,10 @@ module _ (z : Layout) where
     where
       s : Stepped z x d
       s = stepped z x o d (l .0)
+
       more : degree z (treadsFrom x (d ∷ walk)) p ≡ same p x + same p (stepTo x d) + degree z (treadsFrom (stepTo x d) walk) p
       more = omega (arith, degree-add z (λ e. one e (stepEdge x d)) (treadsFrom (stepTo x d) walk) p, degree-step z x o d (l .0) p)
+
       go : (samePoint p (stepTo x d) ≡ true) ⊎ (anyOf (samePoint p) (walkPoints (stepTo x d) walk) ≡ true)
           → (anyOf (samePoint p) (walkPoints (stepTo x d) walk) ≡ true → PointOf z p × (0 < degree z (treadsFrom (stepTo x d) walk) p))
           → PointOf z p × (0 < degree z (treadsFrom x (d ∷ walk)) p)
@@ -160,18 +168,22 @@ module _ (z : Layout) where
     unfolding clamped Touched Trodden
     clamped-readable =
         let d = walk-touched in
-        record
-          { few = λ e i. omega arith;
-            even = clamped-even;
-            joined = joined-same z treads clamped (depotPoint z) (λ e i h. omega arith) (λ e i h. omega arith) joined;
-            cut = λ j u v. omega (arith, cut-even j);
-            touched = (d .0, (d .1 .0, (let h = d .1 .1 in omega arith)), d .2) }
+        record {
+          few = λ e i. omega arith;
+          even = clamped-even;
+          joined = joined-same z treads clamped (depotPoint z) (λ e i h. omega arith) (λ e i h. omega arith) joined;
+          cut = λ j u v. omega (arith, cut-even j);
+          touched = (d .0, (d .1 .0, (let h = d .1 .1 in omega arith)), d .2);
+        }
 
     clamped-length : lengthOf z clamped ≤ walkLength z walk
     unfolding clamped lengthOf walkLength
     clamped-length =
-        omega (arith, walk-sum z (distance z) (depotPoint z) walk (depotPoint z) at leads,
-          sum-le z (λ e. clamped e * distance z e) (λ e. treads e * distance z e) (λ e i. mul-le-mul-right (distance z e) (omega arith)))
+        omega (
+          arith,
+          walk-sum z (distance z) (depotPoint z) walk (depotPoint z) at leads,
+          sum-le z (λ e. clamped e * distance z e) (λ e. treads e * distance z e) (λ e i. mul-le-mul-right (distance z e) (omega arith)),
+        )
 
     clamped-passes : (plan : Plan) → ((e : Edge) → InStore z e → multiplicity plan e ≡ clamped e) → (j c : ℕ) → walkPasses z walk j c ≡ true → 1 ≤ c → c ≤ z .cells → planPasses plan j c ≡ true
     unfolding clamped planPasses walkPasses multiplicity InStore
@@ -180,7 +192,7 @@ module _ (z : Layout) where
         let low = t .0 .first in
         let high = t .0 .last in
         trodden-passes (actionAt plan j) c u
-          (omega (arith, t .1, degree-cell z treads j c u v, eq (along j (c - 1)) (low, high, omega arith), eq (along j c) (low, high, v)))
+        (omega (arith, t .1, degree-cell z treads j c u v, eq (along j (c - 1)) (low, high, omega arith), eq (along j c) (low, high, v)))
 
     -- whatever a closed walk treads, a lawful plan passes the same cells and is no longer
     pub walk-plan : (plan : Plan) × WellFormed z plan × Lawful z plan
@@ -188,6 +200,10 @@ module _ (z : Layout) where
         × (planLength z plan ≤ walkLength z walk)
     unfolding planLength lengthOf
     walk-plan =
-        let r = reads z clamped clamped-readable (omega arith) in
-        (r .0, r .1, r .3, clamped-passes (r .0) (r .2),
-          omega (arith, clamped-length, sum-same z (λ e. multiplicity (r .0) e * distance z e) (λ e. clamped e * distance z e) (λ e i. rw (r .2 e i))))
+        let r = reads z clamped clamped-readable (omega arith) in (
+          r .0,
+          r .1,
+          r .3,
+          clamped-passes (r .0) (r .2),
+          omega (arith, clamped-length, sum-same z (λ e. multiplicity (r .0) e * distance z e) (λ e. clamped e * distance z e) (λ e i. rw (r .2 e i))),
+        )

@@ -48,9 +48,9 @@ module _ (z : Layout) where
     even-point : (p : Point) → PointOf z p → degree z (multiplicity plan) p % 2 ≡ 0
     even-point =
         each-point z (λ p. degree z (multiplicity plan) p % 2 ≡ 0)
-          (λ j p q. rw (plan-front z plan wf j p q) (law .front-even j p q))
-          (λ j c p q r s. rw (degree-cell z (multiplicity plan) j c r s) (unfold multiplicity in treads-alike (actionAt plan j) (c - 1) c))
-          (λ j p q. rw (plan-back z plan wf j p q) (law .back-even j p q))
+        (λ j p q. rw (plan-front z plan wf j p q) (law .front-even j p q))
+        (λ j c p q r s. rw (degree-cell z (multiplicity plan) j c r s) (unfold multiplicity in treads-alike (actionAt plan j) (c - 1) c))
+        (λ j p q. rw (plan-back z plan wf j p q) (law .back-even j p q))
 
     pub lawful-balanced : Balanced z (multiplicity plan) (depotPoint z) (depotPoint z)
     lawful-balanced p o = omega (arith, even-point p o)

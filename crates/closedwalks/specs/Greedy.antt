@@ -35,9 +35,10 @@ admits z test left x d = canStep z x d && ltb 0 (left (stepEdge x d)) && test le
 abbrev pub greedy : Layout → LetterTest → ℕ → (Edge → ℕ) → Point → Walk
 greedy z test zero left x = []
 greedy z test (suc n) left x =
-    elim (firstLetter (admits z test left x Back) (admits z test left x Front) (admits z test left x Left) (admits z test left x Right))
-      [ none ↦ []
-      | some d ↦ d ∷ greedy z test n (without left (stepEdge x d)) (stepTo x d) ]
+    elim (firstLetter (admits z test left x Back) (admits z test left x Front) (admits z test left x Left) (admits z test left x Right)) [
+      | none ↦ []
+      | some d ↦ d ∷ greedy z test n (without left (stepEdge x d)) (stepTo x d)
+    ]
 
 -- what is left can be walked from x to the depot, treading all of it
 pub record Ready (z : Layout) (left : Edge → ℕ) (x : Point) : Type 0 where
