@@ -1,9 +1,9 @@
 -- How many steps a walk of a plan has, and how long it is.
-use Prim.Native.Nat.{ℕ, zero, suc, _+_, _*_, _-_, _≤_, _<_}
+use Prim.Native.Nat.{ℕ, suc, _*_, _≤_}
 use native.Mathlib.Omega.{arith}
 use native.Mathlib.Nat.{mul-le-mul}
-use mathlib.Core.Path.{_≡_, refl, sym, ap, ap₂, _∙_, subst}
-use mathlib.Core.List.{List, [], _∷_}
+use mathlib.Core.Path.{_≡_, refl, _∙_}
+use mathlib.Core.List.{[], _∷_}
 use mathlib.Core.Bool.{Bool, true, false, cond, _&&_, _||_}
 use lib.Dec.{ltb, leb}
 use lib.ListN.{length}
@@ -14,7 +14,7 @@ use Rattle.rules.specs.declared.Action.the-variants.{Void, Bottom, Top, Gap, On
 use Rattle.rules.specs.declared.Passage.{Passage}
 use Rattle.rules.specs.declared.Passage.the-variants.{P00, P02, P11, P20, P22}
 use Rattle.rules.specs.Lists.{sumOf}
-use Rattle.rules.specs.Store.{Point, Edge, along, front, back, InStore, depotPoint, distance, edgesOf, within, layoutInBounds}
+use Rattle.rules.specs.Store.{Point, Edge, along, front, back, InStore, depotPoint, distance, within, layoutInBounds}
 use Rattle.rules.specs.Plans.{Plan, multiplicity, actionAt, passageAt, aisleTreads, backTreads, frontTreads, planLength, lengthOf}
 use Rattle.rules.specs.Walks.{Walk, stepTo, walkEdges, walkLength}
 use Rattle.rules.specs.FirstWalk.{WalkOf, stepsOf}

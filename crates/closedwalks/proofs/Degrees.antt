@@ -1,25 +1,23 @@
 -- The degree of a point, by what it is: a crossing or a cell.
 use Prim.Native.Nat.{ℕ, zero, suc, _+_, _-_, _%_, _≤_, _<_}
 use native.Mathlib.Omega.{arith}
-use mathlib.Core.Path.{_≡_, refl, sym, ap, ap₂, _∙_, subst}
-use mathlib.Core.Logic.{_⊎_, inl, inr}
+use mathlib.Core.Path.{_≡_, refl, sym, ap, _∙_, subst}
+use mathlib.Core.Logic.{inl, inr}
 use mathlib.Core.List.{List, [], _∷_}
-use mathlib.Core.Bool.{Bool, true, false, cond, _&&_, _||_}
-use lib.Dec.{ltb, leb, eqb}
+use mathlib.Core.Bool.{Bool, true, false, cond, _||_}
+use lib.Dec.{ltb, leb}
 use lib.ListN.{length}
-use borrow.Author.Tests.{ltb-true, ltb-false, eqb-true, lt-ltb, le-ltb, ne-eqb}
+use borrow.Author.Tests.{ltb-false, lt-ltb, le-ltb, ne-eqb}
 use Rattle.rules.specs.declared.Layout.{Layout}
 use Rattle.rules.specs.declared.Action.{Action}
 use Rattle.rules.specs.declared.Action.the-variants.{Void, Bottom, Top, Gap, Once, Twice}
-use Rattle.rules.specs.declared.Passage.{Passage}
-use Rattle.rules.specs.declared.Passage.the-variants.{P00, P02, P11, P20, P22}
-use Rattle.rules.specs.declared.Direction.{Direction}
+use Rattle.rules.specs.declared.Passage.the-variants.{P00}
 use Rattle.rules.specs.declared.Direction.the-variants.{Back, Front, Left, Right}
 use Rattle.rules.specs.Lists.{nth}
 use Rattle.rules.specs.Store.{Point, Edge, along, front, back, backHeight, depotPoint}
-use Rattle.rules.specs.Plans.{Plan, WellFormed, multiplicity, aisleTreads, backTreads, frontTreads, actionAt, passageAt}
+use Rattle.rules.specs.Plans.{Plan, WellFormed, multiplicity, aisleTreads, passageAt}
 use Rattle.rules.specs.Lawful.{frontDegree, backDegree}
-use Rattle.rules.specs.Walks.{canStep, stepEdge, stepTo, isCrossing, crossEdge}
+use Rattle.rules.specs.Walks.{canStep, stepEdge, isCrossing, crossEdge}
 use Rattle.closedwalks.specs.Ways.{PointOf, share, degree}
 use Rattle.closedwalks.proofs.Splits.{none-or-some, equal-or-below}
 use Rattle.closedwalks.proofs.Steps.{level, level-crossing}

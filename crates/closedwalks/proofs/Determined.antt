@@ -1,11 +1,8 @@
 -- A plan is determined by how often it treads each edge.
-use Prim.Native.Nat.{ℕ, zero, suc, _+_, _-_, _%_, _≤_, _<_}
+use Prim.Native.Nat.{ℕ, zero, suc, _≤_, _<_}
 use native.Mathlib.Omega.{arith}
 use mathlib.Core.Path.{_≡_, refl, sym, ap, ap₂, _∙_, subst}
-use mathlib.Core.Logic.{_⊎_, inl, inr}
 use mathlib.Core.List.{List, [], _∷_}
-use mathlib.Core.Bool.{Bool, true, false, cond, _||_}
-use lib.Dec.{ltb, leb}
 use lib.ListN.{length}
 use borrow.Author.Tests.{lt-ltb, le-ltb, le-leb, lt-leb}
 use Rattle.rules.specs.declared.Layout.{Layout}
@@ -16,7 +13,6 @@ use Rattle.rules.specs.declared.Passage.the-variants.{P00, P02, P11, P20, P22}
 use Rattle.rules.specs.Lists.{nth}
 use Rattle.rules.specs.Store.{Edge, along, front, back, InStore}
 use Rattle.rules.specs.Plans.{Plan, WellFormed, Fits, multiplicity, actionAt, passageAt, aisleTreads, backTreads, frontTreads}
-use Rattle.closedwalks.proofs.Splits.{below-or-from}
 
 -- lists of the same length with the same elements
 same-list : {A : Type 0} (d : A) (xs ys : List A) → length xs ≡ length ys → ((j : ℕ) → 1 ≤ j → j ≤ length xs → nth xs j d ≡ nth ys j d) → xs ≡ ys

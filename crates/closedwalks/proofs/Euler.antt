@@ -1,22 +1,22 @@
 -- Euler: balanced treads that can all be reached from a point are the treads of a walk from there.
-use Prim.Native.Nat.{ℕ, zero, suc, _+_, _-_, _%_, _≤_, _<_}
+use Prim.Native.Nat.{ℕ, zero, suc, _+_, _%_, _≤_, _<_}
 use native.Mathlib.Omega.{arith}
-use mathlib.Core.Path.{_≡_, refl, sym, ap, ap₂, _∙_, subst}
+use mathlib.Core.Path.{_≡_, refl, sym, ap, _∙_, subst}
 use mathlib.Core.Logic.{_⊎_, inl, inr}
-use mathlib.Core.List.{List, [], _∷_, _++_}
+use mathlib.Core.List.{[], _∷_, _++_}
 use mathlib.Core.Bool.{Bool, true, false, cond}
 use Rattle.rules.specs.declared.Layout.{Layout}
 use Rattle.rules.specs.declared.Direction.{Direction}
 use Rattle.rules.specs.declared.Direction.the-variants.{Back, Front, Left, Right}
-use Rattle.rules.specs.Store.{Point, Edge, InStore, Joins, startOf, endOf}
+use Rattle.rules.specs.Store.{Point, Edge, InStore, startOf}
 use Rattle.rules.specs.Lawful.{Trodden, Linked, here, step}
 use Rattle.rules.specs.Walks.{Walk, canStep, stepTo, stepEdge, one}
 use Rattle.rules.specs.FirstWalk.{without, stepsOf}
 use Rattle.closedwalks.specs.Ways.{PointOf, share, degree, same, Balanced, Leads, treadsFrom, On, Joined}
 use Rattle.closedwalks.proofs.Splits.{none-or-some}
-use Rattle.closedwalks.proofs.Steps.{point-split, same-refl, Stepped, stepped, StepBy, step-forth, step-along}
+use Rattle.closedwalks.proofs.Steps.{point-split, same-refl, stepped, StepBy, step-forth, step-along}
 use Rattle.closedwalks.proofs.Links.{joins-turn}
-use Rattle.closedwalks.proofs.Parity.{taken, degree-add, degree-none, degree-same, degree-at, degree-step, balanced-step, total-step, total-le}
+use Rattle.closedwalks.proofs.Parity.{taken, degree-add, degree-none, degree-at, degree-step, balanced-step, total-step, total-le}
 
 -- no edge at the point is left
 abbrev Stuck : Layout → (Edge → ℕ) → Point → Type 0

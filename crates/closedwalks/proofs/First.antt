@@ -1,11 +1,11 @@
 -- The first walk of a plan: it is one of the plan's walks, and none comes before it.
-use Prim.Native.Nat.{ℕ, zero, suc, _+_, _-_, _≤_, _<_}
+use Prim.Native.Nat.{ℕ, zero, suc, _≤_, _<_}
 use native.Mathlib.Omega.{arith}
-use mathlib.Core.Path.{_≡_, refl, sym, ap, ap₂, _∙_, subst}
+use mathlib.Core.Path.{_≡_, refl, sym, ap, _∙_, subst}
 use mathlib.Core.Logic.{_⊎_, inl, inr}
-use mathlib.Core.List.{List, [], _∷_}
+use mathlib.Core.List.{[], _∷_}
 use mathlib.Core.Bool.{Bool, true, false, cond, _&&_}
-use mathlib.Core.Option.{Option, none, some, Option·getD, Option·some-injective}
+use mathlib.Core.Option.{Option, none, some, Option·getD}
 use lib.Dec.{ltb}
 use lib.ListN.{length}
 use borrow.Author.Tests.{ltb-true, lt-ltb}
@@ -15,10 +15,10 @@ use Rattle.rules.specs.declared.Direction.the-variants.{Back, Front, Left, Righ
 use Rattle.rules.specs.Store.{Point, Edge, InStore, depotPoint, samePoint}
 use Rattle.rules.specs.Plans.{Plan, WellFormed, multiplicity}
 use Rattle.rules.specs.Lawful.{Lawful}
-use Rattle.rules.specs.Walks.{Walk, canStep, stepTo, stepEdge, one, letterRank, NotAfter, same, earlier, later}
+use Rattle.rules.specs.Walks.{Walk, canStep, stepTo, stepEdge, letterRank, NotAfter, same, earlier, later}
 use Rattle.rules.specs.FirstWalk.{WalkOf, without, firstWay, stepThen, firstFrom, firstWalk, stepsOf}
 use Rattle.closedwalks.specs.Ways.{PointOf, Leads, treadsFrom}
-use Rattle.closedwalks.proofs.Steps.{same-point, point-same, one-refl, both-true, true-both, Stepped, stepped}
+use Rattle.closedwalks.proofs.Steps.{same-point, point-same, one-refl, both-true, true-both, stepped}
 use Rattle.closedwalks.proofs.Sums.{sum-exact}
 use Rattle.closedwalks.proofs.Parity.{taken}
 use Rattle.closedwalks.proofs.Degrees.{depot-point}
@@ -59,9 +59,6 @@ way-split none rest w h = inr h
 way-split (some v) rest w h = inl h
 
 module _ (z : Layout) where
-  pub ways-first : (n : ℕ) (left : Edge → ℕ) (x : Point) → firstFrom z (suc n) left x ≡ ways z n left x
-  ways-first n left x = refl
-
   module _ (n : ℕ) (left : Edge → ℕ) (x : Point) where
     -- the search from the point behind a letter
     abbrev behind : Direction → Option Walk

@@ -1,32 +1,31 @@
 -- The greedy walk is the first walk, whatever test tells that all that remains can be reached.
-use Prim.Native.Nat.{ℕ, zero, suc, _+_, _-_, _%_, _≤_, _<_}
+use Prim.Native.Nat.{ℕ, zero, suc, _≤_, _<_}
 use native.Mathlib.Omega.{arith}
-use mathlib.Core.Path.{_≡_, refl, sym, ap, ap₂, _∙_, subst}
-use mathlib.Core.Logic.{_⊎_, inl, inr, _↔_}
-use mathlib.Core.List.{List, [], _∷_}
-use mathlib.Core.Bool.{Bool, true, false, cond, _&&_}
+use mathlib.Core.Path.{_≡_, refl, sym, ap, _∙_, subst}
+use mathlib.Core.Logic.{inl, inr}
+use mathlib.Core.List.{[], _∷_}
+use mathlib.Core.Bool.{Bool, true, false, _&&_}
 use mathlib.Core.Option.{Option, none, some, Option·getD, Option·none-ne-some}
 use lib.Dec.{ltb}
-use lib.ListN.{length}
-use borrow.Author.Tests.{ltb-true, lt-ltb}
+use borrow.Author.Tests.{ltb-true}
 use Rattle.rules.specs.declared.Layout.{Layout}
 use Rattle.rules.specs.declared.Direction.{Direction}
 use Rattle.rules.specs.declared.Direction.the-variants.{Back, Front, Left, Right}
-use Rattle.rules.specs.Store.{Point, Edge, InStore, startOf, depotPoint, samePoint}
+use Rattle.rules.specs.Store.{Point, Edge, InStore, depotPoint}
 use Rattle.rules.specs.Plans.{Plan, WellFormed, multiplicity}
-use Rattle.rules.specs.Lawful.{Lawful, Trodden, Linked, step}
-use Rattle.rules.specs.Walks.{Walk, canStep, stepTo, stepEdge, one}
+use Rattle.rules.specs.Lawful.{Lawful, Trodden, step}
+use Rattle.rules.specs.Walks.{Walk, canStep, stepTo, stepEdge}
 use Rattle.rules.specs.FirstWalk.{without, firstWay, stepThen, firstFrom, firstWalk, stepsOf}
-use Rattle.closedwalks.specs.Ways.{PointOf, Leads, treadsFrom, Balanced, Joined}
+use Rattle.closedwalks.specs.Ways.{PointOf, treadsFrom, Joined}
 use Rattle.closedwalks.specs.Greedy.{firstLetter, LetterTest, admits, greedy, Ready, TellsJoined}
-use Rattle.closedwalks.proofs.Steps.{one-refl, edge-split, both-true, true-both, Stepped, stepped}
+use Rattle.closedwalks.proofs.Steps.{edge-split, both-true, stepped}
 use Rattle.closedwalks.proofs.Parity.{taken, balanced-step, total-step}
 use Rattle.closedwalks.proofs.Euler.{completed}
 use Rattle.closedwalks.proofs.Links.{joined-same, joins-turn, walk-joined}
 use Rattle.closedwalks.proofs.Degrees.{depot-point}
 use Rattle.closedwalks.proofs.Walked.{lawful-balanced, lawful-joined}
 use Rattle.closedwalks.proofs.Counts.{length-treads, same-steps}
-use Rattle.closedwalks.proofs.First.{Fitting, tried, ways, tried-free, tried-shut, first-fits, first-found, fits-exactly, at-depot}
+use Rattle.closedwalks.proofs.First.{tried, ways, tried-free, tried-shut, first-fits, first-found, fits-exactly, at-depot}
 
 module _ (z : Layout) where
   -- what can be walked is found by the search, with as many steps as there are treads

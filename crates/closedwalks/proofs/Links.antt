@@ -1,16 +1,15 @@
 -- Chains of trodden edges: those of a walk reach all that it treads.
-use Prim.Native.Nat.{ℕ, zero, suc, _+_, _≤_, _<_}
+use Prim.Native.Nat.{ℕ, _<_}
 use native.Mathlib.Omega.{arith}
-use mathlib.Core.Path.{_≡_, refl, sym, ap, _∙_, subst}
-use mathlib.Core.Logic.{_⊎_, inl, inr}
-use mathlib.Core.List.{List, [], _∷_}
-use mathlib.Core.Bool.{true}
+use mathlib.Core.Path.{refl, sym, ap, _∙_, subst}
+use mathlib.Core.Logic.{inl, inr}
+use mathlib.Core.List.{[], _∷_}
 use Rattle.rules.specs.declared.Layout.{Layout}
-use Rattle.rules.specs.Store.{Point, Edge, InStore, Joins, startOf, endOf}
+use Rattle.rules.specs.Store.{Point, Edge, InStore, Joins, startOf}
 use Rattle.rules.specs.Lawful.{Trodden, Touched, Linked, here, step}
-use Rattle.rules.specs.Walks.{Walk, canStep, stepTo, stepEdge, one}
+use Rattle.rules.specs.Walks.{Walk, stepTo, stepEdge}
 use Rattle.closedwalks.specs.Ways.{PointOf, Leads, treadsFrom, Joined}
-use Rattle.closedwalks.proofs.Steps.{edge-split, one-refl, Stepped, stepped}
+use Rattle.closedwalks.proofs.Steps.{edge-split, one-refl, stepped}
 
 module _ (z : Layout) where
   pub joins-turn : (e : Edge) (x y : Point) → Joins z e x y → Joins z e y x
@@ -22,7 +21,7 @@ module _ (z : Layout) where
   abbrev pub Covers : (Edge → ℕ) → (Edge → ℕ) → Type 0
   Covers f g = (e : Edge) → InStore z e → 0 < f e → 0 < g e
 
-  pub link-wider : (f g : Edge → ℕ) (x y : Point) → Covers f g → Linked z f y x → Linked z g y x
+  link-wider : (f g : Edge → ℕ) (x y : Point) → Covers f g → Linked z f y x → Linked z g y x
   unfolding Trodden
   link-wider f g x y h here = here
   link-wider f g x y h (step {w} e t j k) = step e (t .0, h e (t .0) (t .1)) j (link-wider f g w y h k)
@@ -36,7 +35,7 @@ module _ (z : Layout) where
     link-join x w y here l = l
     link-join x w y (step {w = v} e h j k) l = step e h j (link-join v w y k l)
 
-    pub link-turn : (x y : Point) → Linked z t y x → Linked z t x y
+    link-turn : (x y : Point) → Linked z t y x → Linked z t x y
     link-turn x y here = here
     link-turn x y (step {w} e h j k) = link-join y w x (link-turn w y k) (step e h (joins-turn e x w j) here)
 

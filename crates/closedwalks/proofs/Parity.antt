@@ -1,29 +1,24 @@
 -- Degrees: what a step and a walk add to them, and what is left after one tread.
-use Prim.Native.Nat.{ℕ, zero, suc, _+_, _*_, _-_, _%_, _≤_, _<_}
+use Prim.Native.Nat.{ℕ, suc, _+_, _*_, _≤_, _<_}
 use native.Mathlib.Omega.{arith}
-use mathlib.Core.Path.{_≡_, refl, sym, ap, ap₂, _∙_, subst}
-use mathlib.Core.Logic.{_⊎_, inl, inr}
-use mathlib.Core.List.{List, [], _∷_, _++_}
+use mathlib.Core.Path.{_≡_, refl, sym, ap}
+use mathlib.Core.Logic.{inl, inr}
+use mathlib.Core.List.{[], _∷_}
 use mathlib.Core.Bool.{Bool, true, false, cond}
-use lib.ListN.{length}
 use Rattle.rules.specs.declared.Layout.{Layout}
 use Rattle.rules.specs.declared.Direction.{Direction}
 use Rattle.rules.specs.declared.Direction.the-variants.{Back, Front, Left, Right}
 use Rattle.rules.specs.Lists.{sumOf}
-use Rattle.rules.specs.Store.{Point, Edge, InStore, Joins, startOf, endOf, edgesOf}
+use Rattle.rules.specs.Store.{Point, Edge, InStore, Joins, edgesOf}
 use Rattle.rules.specs.Walks.{Walk, canStep, stepTo, stepEdge, one, walkEdges}
 use Rattle.rules.specs.FirstWalk.{without, stepsOf}
 use Rattle.closedwalks.specs.Ways.{PointOf, share, degree, same, Balanced, Leads, treadsFrom}
-use Rattle.closedwalks.proofs.Steps.{edge-split, one-refl, one-sym, degree-one, Stepped, stepped}
+use Rattle.closedwalks.proofs.Steps.{cond-none, edge-split, one-refl, one-sym, degree-one, stepped}
 use Rattle.closedwalks.proofs.Sums.{sum-add, sum-none, sum-single, sum-same, sum-le}
 
 cond-add : (b : Bool) (m n : ℕ) → cond b (m + n) 0 ≡ cond b m 0 + cond b n 0
 cond-add true m n = refl
 cond-add false m n = refl
-
-cond-none : (b : Bool) → cond {A = ℕ} b 0 0 ≡ 0
-cond-none true = refl
-cond-none false = refl
 
 -- one tread taken off an edge that has some left
 pub taken : (left : Edge → ℕ) (s e : Edge) → 0 < left s → left e ≡ one e s + without left s e
@@ -100,10 +95,6 @@ module _ (z : Layout) where
   walk-balanced x (d ∷ walk) y p l q o =
       let s = stepped z x p d (l .0) in
       omega (arith, degree-add (λ e. one e (stepEdge x d)) (treadsFrom (stepTo x d) walk) q, degree-step x p d (l .0) q, walk-balanced (stepTo x d) walk y (s .end) (l .1) q o)
-
-  pub leads-to : (x : Point) (walk : Walk) (y : Point) → PointOf z x → Leads z x walk y → PointOf z y
-  leads-to x [] y p l = subst (PointOf z) l p
-  leads-to x (d ∷ walk) y p l = leads-to (stepTo x d) walk y (stepped z x p d (l .0) .end) (l .1)
 
   -- a sum over the steps of a walk is a sum over the edges, each times its treads
   pub walk-sum : (f : Edge → ℕ) (x : Point) (walk : Walk) (y : Point) → PointOf z x → Leads z x walk y → sumOf f (walkEdges x walk) ≡ sumOf (λ e. treadsFrom x walk e * f e) (edgesOf z)

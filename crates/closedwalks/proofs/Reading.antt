@@ -1,8 +1,8 @@
 -- Treads of at most two that are even at every point, hang together with the depot and touch it read as a lawful plan.
 use Prim.Native.Nat.{ℕ, zero, suc, _+_, _-_, _%_, _≤_, _<_}
 use native.Mathlib.Omega.{arith}
-use mathlib.Core.Path.{_≡_, refl, sym, ap, ap₂, _∙_, subst}
-use mathlib.Core.Logic.{_⊎_, inl, inr}
+use mathlib.Core.Path.{_≡_, refl, sym, ap, ap₂, subst}
+use mathlib.Core.Logic.{inl, inr}
 use mathlib.Core.List.{List, [], _∷_}
 use lib.ListN.{length}
 use Rattle.rules.specs.declared.Layout.{Layout}
@@ -13,9 +13,9 @@ use Rattle.rules.specs.declared.Passage.the-variants.{P00}
 use Rattle.rules.specs.Lists.{nth}
 use Rattle.rules.specs.Store.{Point, Edge, along, front, back, InStore, Joins, startOf, endOf, backHeight, depotPoint}
 use Rattle.rules.specs.Plans.{Plan, WellFormed, Fits, multiplicity, actionAt, passageAt, aisleTreads, backTreads, frontTreads}
-use Rattle.rules.specs.Lawful.{Trodden, Touched, Linked, here, step, Lawful, frontDegree, backDegree}
+use Rattle.rules.specs.Lawful.{Trodden, Touched, Linked, here, step, Lawful}
 use Rattle.closedwalks.specs.Ways.{PointOf, degree, Joined}
-use Rattle.closedwalks.proofs.Splits.{none-or-some, equal-or-below, below-or-from}
+use Rattle.closedwalks.proofs.Splits.{none-or-some, below-or-from}
 use Rattle.closedwalks.proofs.Parity.{degree-same}
 use Rattle.closedwalks.proofs.Degrees.{degree-cell, plan-front, plan-back, nth-past}
 use Rattle.closedwalks.proofs.Links.{Covers, joined-same, joined-together}

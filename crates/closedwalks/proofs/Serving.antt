@@ -1,13 +1,11 @@
 -- What passes at least the same cells serves at least the same lists.
-use Prim.Native.Nat.{ℕ, _+_, _≤_}
+use Prim.Native.Nat.{ℕ, _≤_}
 use native.Mathlib.Omega.{arith}
 use mathlib.Core.Path.{_≡_, refl}
 use mathlib.Core.List.{List, [], _∷_, List·Memᴰ, List·Memᴰ·head, List·Memᴰ·tail}
 use mathlib.Core.Bool.{Bool, true, false, cond, _&&_}
 use lib.Dec.{eqb}
 use Rattle.rules.specs.declared.StockRecord.{StockRecord}
-use Rattle.rules.specs.declared.OrderLine.{OrderLine}
-use Rattle.rules.specs.Lists.{sumOf}
 use Rattle.rules.specs.Jobs.{Job}
 use Rattle.rules.specs.Serving.{supply, Serves}
 

@@ -1,11 +1,11 @@
 -- The store as a graph: what a step does, and what one edge adds to the degrees of its two ends.
-use Prim.Native.Nat.{ℕ, zero, suc, _+_, _-_, _%_, _≤_, _<_}
+use Prim.Native.Nat.{ℕ, suc, _+_, _-_, _≤_, _<_}
 use native.Mathlib.Omega.{arith}
 use mathlib.Core.Path.{_≡_, refl, sym, ap, ap₂, _∙_, subst}
 use mathlib.Core.Logic.{_⊎_, inl, inr}
 use mathlib.Core.Bool.{Bool, true, false, cond, _&&_, _||_}
-use lib.Dec.{ltb, leb, eqb}
-use borrow.Author.Tests.{ltb-true, eqb-true, eqb-false, lt-ltb, eq-eqb, ne-eqb}
+use lib.Dec.{ltb, eqb}
+use borrow.Author.Tests.{ltb-true, eqb-true, lt-ltb, eq-eqb, ne-eqb}
 use Rattle.rules.specs.declared.Layout.{Layout}
 use Rattle.rules.specs.declared.Direction.{Direction}
 use Rattle.rules.specs.declared.Direction.the-variants.{Back, Front, Left, Right}
@@ -35,9 +35,9 @@ sift true false false f g = refl
 sift false q true f g = absurd (let bad : _≡_ {A = ℕ} 0 1 = cc (g refl .0) in omega arith)
 sift false q false f g = refl
 
-sift-none : (p : Bool) → cond {A = ℕ} p 0 0 ≡ 0
-sift-none true = refl
-sift-none false = refl
+pub cond-none : (p : Bool) → cond {A = ℕ} p 0 0 ≡ 0
+cond-none true = refl
+cond-none false = refl
 
 pub same-point : (x y : Point) → samePoint x y ≡ true → x ≡ y
 unfolding samePoint
@@ -172,19 +172,19 @@ module _ (z : Layout) (y : Point) where
 
   along-left : (j k : ℕ) → share z (λ f. one f (along j k)) y Left ≡ 0
   unfolding one stepEdge
-  along-left j k = rw (cross-along (eqb (y .height) 0) (y .aisle - 1) j k) (sift-none (canStep z y Left))
+  along-left j k = rw (cross-along (eqb (y .height) 0) (y .aisle - 1) j k) (cond-none (canStep z y Left))
 
   along-right : (j k : ℕ) → share z (λ f. one f (along j k)) y Right ≡ 0
   unfolding one stepEdge
-  along-right j k = rw (cross-along (eqb (y .height) 0) (y .aisle) j k) (sift-none (canStep z y Right))
+  along-right j k = rw (cross-along (eqb (y .height) 0) (y .aisle) j k) (cond-none (canStep z y Right))
 
   cross-back : (b : Bool) (j : ℕ) → share z (λ f. one f (crossEdge b j)) y Back ≡ 0
   unfolding one stepEdge
-  cross-back b j = rw (along-cross b j (y .aisle) (y .height)) (sift-none (canStep z y Back))
+  cross-back b j = rw (along-cross b j (y .aisle) (y .height)) (cond-none (canStep z y Back))
 
   cross-front : (b : Bool) (j : ℕ) → share z (λ f. one f (crossEdge b j)) y Front ≡ 0
   unfolding one stepEdge
-  cross-front b j = rw (along-cross b j (y .aisle) (y .height - 1)) (sift-none (canStep z y Front))
+  cross-front b j = rw (along-cross b j (y .aisle) (y .height - 1)) (cond-none (canStep z y Front))
 
   -- a crossing that stands on the edge's cross-aisle
   crossing : (b t : Bool) (i j a : ℕ) → (t ≡ true → i ≡ j → y .aisle ≡ a) → (y .aisle ≡ a → (t ≡ true) × (i ≡ j))
@@ -225,16 +225,16 @@ pub record StepBy (z : Layout) (e : Edge) (x y : Point) : Type 0 where
   pub to : stepTo x letter ≡ y
 
 module _ (z : Layout) where
-  cross-forth : (b : Bool) (j : ℕ) → j < z .aisles → StepBy z (crossEdge b j) (record { aisle = j; height = level z b }) (record { aisle = suc j; height = level z b })
+  cross-right-step : (b : Bool) (j : ℕ) → j < z .aisles → StepBy z (crossEdge b j) (record { aisle = j; height = level z b }) (record { aisle = suc j; height = level z b })
   unfolding canStep stepEdge stepTo
-  cross-forth b j h =
+  cross-right-step b j h =
       let x : Point = record { aisle = j; height = level z b } in
       let c = level-crossing z x b refl in
       record { letter = Right; can = true-both (isCrossing z x) (ltb j (z .aisles)) (c .0) (lt-ltb j (z .aisles) h); by = ap (λ (t : Bool). crossEdge t j) (c .1); to = refl }
 
-  cross-forth-back : (b : Bool) (j : ℕ) → 1 ≤ j → StepBy z (crossEdge b j) (record { aisle = suc j; height = level z b }) (record { aisle = j; height = level z b })
+  cross-left-step : (b : Bool) (j : ℕ) → 1 ≤ j → StepBy z (crossEdge b j) (record { aisle = suc j; height = level z b }) (record { aisle = j; height = level z b })
   unfolding canStep stepEdge stepTo
-  cross-forth-back b j h =
+  cross-left-step b j h =
       let x : Point = record { aisle = suc j; height = level z b } in
       let c = level-crossing z x b refl in
       let s : suc j - 1 ≡ j = omega arith in
@@ -249,16 +249,16 @@ module _ (z : Layout) where
   pub step-forth : (e : Edge) → InStore z e → StepBy z e (startOf z e) (endOf z e)
   unfolding canStep stepEdge stepTo InStore startOf endOf backHeight
   step-forth (along j k) h = record { letter = Back; can = lt-ltb k (suc (z .cells)) (omega arith); by = refl; to = refl }
-  step-forth (front j) h = cross-forth true j (h .1)
-  step-forth (back j) h = cross-forth false j (h .1)
+  step-forth (front j) h = cross-right-step true j (h .1)
+  step-forth (back j) h = cross-right-step false j (h .1)
 
-  pub step-back : (e : Edge) → InStore z e → StepBy z e (endOf z e) (startOf z e)
+  step-back : (e : Edge) → InStore z e → StepBy z e (endOf z e) (startOf z e)
   unfolding canStep stepEdge stepTo InStore startOf endOf backHeight
   step-back (along j k) h =
       let s : suc k - 1 ≡ k = omega arith in
       record { letter = Front; can = lt-ltb 0 (suc k) (omega arith); by = ap (along j) s; to = λ i. record { aisle = j; height = s i } }
-  step-back (front j) h = cross-forth-back true j (h .0)
-  step-back (back j) h = cross-forth-back false j (h .0)
+  step-back (front j) h = cross-left-step true j (h .0)
+  step-back (back j) h = cross-left-step false j (h .0)
 
   pub step-along : (e : Edge) (x y : Point) → InStore z e → Joins z e x y → StepBy z e x y
   unfolding Joins

@@ -1,23 +1,23 @@
 -- A closed walk reads as a plan: with at most two treads exactly, else with each edge's treads cut down to one or two.
-use Prim.Native.Nat.{ℕ, zero, suc, _+_, _*_, _-_, _%_, _/_, _≤_, _<_, min}
+use Prim.Native.Nat.{ℕ, suc, _+_, _*_, _-_, _%_, _/_, _≤_, _<_, min}
 use native.Mathlib.Omega.{arith}
 use native.Mathlib.Nat.{mul-le-mul-right}
-use mathlib.Core.Path.{_≡_, refl, sym, ap, ap₂, _∙_, subst}
+use mathlib.Core.Path.{_≡_, refl, sym, ap, subst}
 use mathlib.Core.Logic.{_⊎_, inl, inr}
-use mathlib.Core.List.{List, [], _∷_}
-use mathlib.Core.Bool.{Bool, true, false, cond, _&&_, _||_}
+use mathlib.Core.List.{[], _∷_}
+use mathlib.Core.Bool.{Bool, true, false, cond, _||_}
 use lib.Dec.{ltb, leb, eqb}
-use borrow.Author.Tests.{ltb-true, lt-ltb, le-ltb, le-leb, lt-leb, eq-eqb, ne-eqb}
+use borrow.Author.Tests.{ltb-true, le-ltb, le-leb, lt-leb, eq-eqb, ne-eqb}
 use Rattle.rules.specs.declared.Layout.{Layout}
 use Rattle.rules.specs.declared.Action.{Action}
 use Rattle.rules.specs.declared.Action.the-variants.{Void, Bottom, Top, Gap, Once, Twice}
 use Rattle.rules.specs.declared.Direction.{Direction}
 use Rattle.rules.specs.declared.Direction.the-variants.{Back, Front, Left, Right}
-use Rattle.rules.specs.Lists.{sumOf, anyOf}
-use Rattle.rules.specs.Store.{Point, Edge, along, front, back, InStore, Joins, startOf, endOf, depotPoint, distance, edgesOf, sameEdge, samePoint}
+use Rattle.rules.specs.Lists.{anyOf}
+use Rattle.rules.specs.Store.{Point, Edge, along, front, back, InStore, Joins, depotPoint, distance, sameEdge, samePoint}
 use Rattle.rules.specs.Plans.{Plan, WellFormed, multiplicity, actionAt, aisleTreads, passesCell, planPasses, planLength, lengthOf}
 use Rattle.rules.specs.Lawful.{Trodden, Touched, Lawful}
-use Rattle.rules.specs.Walks.{Walk, canStep, stepTo, stepEdge, crossEdge, isCrossing, one, timesIn, walkEdges, walkPoints, ClosedWalk, walkTreads, walkLength, walkPasses}
+use Rattle.rules.specs.Walks.{Walk, canStep, stepTo, stepEdge, crossEdge, isCrossing, one, timesIn, walkPoints, ClosedWalk, walkTreads, walkLength, walkPasses}
 use Rattle.closedwalks.specs.Ways.{PointOf, degree, same, Leads, treadsFrom, Joined}
 use Rattle.closedwalks.proofs.Splits.{equal-or-below, below-or-from}
 use Rattle.closedwalks.proofs.Steps.{same-point, same-refl, one-refl, both-true, Stepped, stepped}
@@ -25,7 +25,7 @@ use Rattle.closedwalks.proofs.Sums.{sum-le, sum-same}
 use Rattle.closedwalks.proofs.Parity.{degree-add, degree-same, degree-step, walk-balanced, walk-sum}
 use Rattle.closedwalks.proofs.Degrees.{depot-point, degree-cell}
 use Rattle.closedwalks.proofs.Walked.{closed-leads}
-use Rattle.closedwalks.proofs.Links.{Covers, joined-same, walk-joined}
+use Rattle.closedwalks.proofs.Links.{joined-same, walk-joined}
 use Rattle.closedwalks.proofs.Reading.{Readable, reads}
 
 or-true : (a b : Bool) → (a || b) ≡ true → (a ≡ true) ⊎ (b ≡ true)

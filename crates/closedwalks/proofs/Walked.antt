@@ -1,24 +1,24 @@
 -- Every lawful plan is trodden by some closed walk.
-use Prim.Native.Nat.{ℕ, zero, suc, _+_, _-_, _%_, _≤_, _<_}
+use Prim.Native.Nat.{ℕ, _-_, _%_, _≤_}
 use native.Mathlib.Omega.{arith}
-use mathlib.Core.Path.{_≡_, refl, sym, ap, ap₂, _∙_, subst}
-use mathlib.Core.Logic.{_⊎_, inl, inr}
-use mathlib.Core.List.{List, [], _∷_}
+use mathlib.Core.Path.{_≡_, refl, ap}
+use mathlib.Core.Logic.{inl}
+use mathlib.Core.List.{[], _∷_}
 use mathlib.Core.Bool.{Bool, true, false}
 use mathlib.Core.Option.{Option, none, some, Option·some-injective}
 use Rattle.rules.specs.declared.Layout.{Layout}
 use Rattle.rules.specs.Store.{Point, Edge, InStore, startOf, depotPoint}
-use Rattle.rules.specs.Plans.{Plan, WellFormed, multiplicity, actionAt, aisleTreads}
-use Rattle.rules.specs.Lawful.{Trodden, Touched, Linked, Lawful, frontDegree, backDegree}
+use Rattle.rules.specs.Plans.{Plan, WellFormed, multiplicity, actionAt}
+use Rattle.rules.specs.Lawful.{Touched, Lawful}
 use Rattle.rules.specs.Walks.{Walk, canStep, stepTo, walkEnd, ClosedWalk, walkTreads, timesIn}
 use Rattle.rules.specs.FirstWalk.{WalkOf}
-use Rattle.closedwalks.specs.Ways.{PointOf, degree, same, Balanced, Leads, treadsFrom, Joined}
+use Rattle.closedwalks.specs.Ways.{PointOf, degree, Balanced, Leads, treadsFrom, Joined}
 use Rattle.closedwalks.proofs.Euler.{completed}
 use Rattle.closedwalks.proofs.Degrees.{depot-point, degree-cell, plan-front, plan-back, treads-alike, each-point}
 
 module _ (z : Layout) where
   -- where a walk ends, said step by step
-  pub end-leads : (x y : Point) (walk : Walk) → walkEnd z x walk ≡ some y → Leads z x walk y
+  end-leads : (x y : Point) (walk : Walk) → walkEnd z x walk ≡ some y → Leads z x walk y
   end-leads x y [] h = Option·some-injective x y h
   end-leads x y (d ∷ walk) h = go (canStep z x d) refl (end-leads (stepTo x d) y walk) h
     where
@@ -27,7 +27,7 @@ module _ (z : Layout) where
       go true c f e = (c, f e)
       go false c f e = absurd (let bad : _≡_ {A = ℕ} 0 1 = cc in omega arith)
 
-  pub leads-end : (x y : Point) (walk : Walk) → Leads z x walk y → walkEnd z x walk ≡ some y
+  leads-end : (x y : Point) (walk : Walk) → Leads z x walk y → walkEnd z x walk ≡ some y
   leads-end x y [] l = ap some l
   leads-end x y (d ∷ walk) l = rw (l .0, walkEnd) (leads-end (stepTo x d) y walk (l .1))
 
