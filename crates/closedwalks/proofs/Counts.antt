@@ -84,9 +84,9 @@ module _ (z : Layout) where
   same-steps f g h = sum-same z f g h
 
   -- a plan has at most 860 treads within the bounds of the layout
-  pub few-steps : (plan : Plan) → layoutInBounds z ≡ true → stepsOf z (multiplicity plan) ≤ 860
+  pub few-treads : (plan : Plan) → layoutInBounds z ≡ true → stepsOf z (multiplicity plan) ≤ 860
   unfolding stepsOf
-  few-steps plan h =
+  few-treads plan h =
       let b = layout-bounds z h in
       let rows = mul-le-mul (b .0) (mul-le-mul (let c = b .1 in let t : suc (z .cells) ≤ 25 = omega arith in t) (let t : 2 ≤ 2 = omega arith in t)) in
       omega (arith, sum-bound z (multiplicity plan) 2 (treads-twice plan), rows, b .0)

@@ -135,7 +135,7 @@ module _ (z : Layout) where
       ]
 
   -- a point with a trodden edge lies on the walk
-  degree-on : (x : Point) (walk : Walk) (y p : Point) → PointOf z x → Leads z x walk y → 0 < degree z (treadsFrom x walk) p → On x walk p
+  pub degree-on : (x : Point) (walk : Walk) (y p : Point) → PointOf z x → Leads z x walk y → 0 < degree z (treadsFrom x walk) p → On x walk p
   degree-on x [] y p o l h = absurd (omega (arith, degree-none z p))
   degree-on x (d ∷ walk) y p o l h =
       elim (point-split p x) [

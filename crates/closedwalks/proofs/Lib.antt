@@ -8,6 +8,7 @@ pub mod Walked
 pub mod Links
 pub mod Aisles
 pub mod Reading
+pub mod Passing
 pub mod WalkReads
 pub mod Determined
 pub mod Counts

@@ -1,5 +1,6 @@
 -- The laws of closed walks, in one place: Euler, the first walk, walks read as plans, steps and lengths.
 use Prim.Native.Nat.{ℕ, _≤_}
+use native.Mathlib.Omega.{arith}
 use mathlib.Core.Path.{_≡_}
 use mathlib.Core.List.{[], List·Memᴰ}
 use mathlib.Core.Bool.{true}
@@ -22,6 +23,7 @@ use Rattle.closedwalks.proofs.Greedily as Greedily
 use Rattle.closedwalks.proofs.WalkReads as WalkReads
 use Rattle.closedwalks.proofs.Determined as Determined
 use Rattle.closedwalks.proofs.Counts as Counts
+use Rattle.closedwalks.proofs.Passing as Passing
 use Rattle.closedwalks.proofs.Serving.{serves-too}
 
 module _ (z : Layout) (low : 1 ≤ z .depot) (high : z .depot ≤ z .aisles) where
@@ -57,6 +59,14 @@ module _ (z : Layout) (low : 1 ≤ z .depot) (high : z .depot ≤ z .aisles) whe
   pub walk-length : (plan : Plan) (walk : Walk) → WalkOf z plan walk → walkLength z walk ≡ planLength z plan
   walk-length = Counts.walk-long z low high
 
+  -- it has at most 860 steps within the bounds of the layout
+  pub few-steps : (plan : Plan) (walk : Walk) → WalkOf z plan walk → layoutInBounds z ≡ true → length walk ≤ 860
+  few-steps plan walk w h = omega (arith, walk-steps plan walk w, Counts.few-treads z plan h)
+
+  -- and it passes the cells that the plan passes, and no others
+  pub walk-passes : (plan : Plan) (walk : Walk) → WalkOf z plan walk → (j c : ℕ) → 1 ≤ j → j ≤ z .aisles → 1 ≤ c → c ≤ z .cells → walkPasses z walk j c ≡ planPasses plan j c
+  walk-passes = Passing.walk-passes z low high
+
 -- from a point: treads that are balanced between x and y and can all be reached from x are exactly those of a walk from x to y
 pub completed : (z : Layout) (left : Edge → ℕ) (x y : Point) → PointOf z x → Balanced z left x y → Joined z left x
     → (walk : Walk) × Leads z x walk y × ((e : Edge) → InStore z e → treadsFrom x walk e ≡ left e)
@@ -65,10 +75,6 @@ completed = Euler.completed
 -- no two plans of a store tread each edge alike
 pub plan-determined : (z : Layout) (plan other : Plan) → WellFormed z plan → WellFormed z other → ((e : Edge) → InStore z e → multiplicity plan e ≡ multiplicity other e) → plan ≡ other
 plan-determined = Determined.plan-determined
-
--- a plan has at most 860 treads within the bounds of the layout
-pub few-steps : (z : Layout) (plan : Plan) → layoutInBounds z ≡ true → stepsOf z (multiplicity plan) ≤ 860
-few-steps = Counts.few-steps
 
 -- a closed walk that serves a job's list gives a lawful plan that serves it and is no longer
 pub walk-plan-serves : (job : Job) → 1 ≤ job .layout .depot → job .layout .depot ≤ job .layout .aisles

@@ -1,36 +1,30 @@
 -- A closed walk reads as a plan: with at most two treads exactly, else with each edge's treads cut down to one or two.
-use Prim.Native.Nat.{ℕ, suc, _+_, _*_, _-_, _%_, _/_, _≤_, _<_, min}
+use Prim.Native.Nat.{ℕ, suc, _+_, _*_, _-_, _%_, _/_, _≤_, min}
 use native.Mathlib.Omega.{arith}
 use native.Mathlib.Nat.{mul-le-mul-right}
-use mathlib.Core.Path.{_≡_, refl, sym, ap, subst}
-use mathlib.Core.Logic.{_⊎_, inl, inr}
+use mathlib.Core.Path.{_≡_, refl, sym, ap}
+use mathlib.Core.Logic.{inl, inr}
 use mathlib.Core.List.{[], _∷_}
-use mathlib.Core.Bool.{Bool, true, false, cond, _||_}
+use mathlib.Core.Bool.{Bool, true, false, cond}
 use lib.Dec.{ltb, leb, eqb}
-use borrow.Author.Tests.{ltb-true, le-ltb, le-leb, lt-leb, eq-eqb, ne-eqb}
+use borrow.Author.Tests.{ltb-true, le-leb, lt-leb, eq-eqb, ne-eqb}
 use Rattle.rules.specs.declared.Layout.{Layout}
-use Rattle.rules.specs.declared.Action.{Action}
-use Rattle.rules.specs.declared.Action.the-variants.{Void, Bottom, Top, Gap, Once, Twice}
 use Rattle.rules.specs.declared.Direction.{Direction}
 use Rattle.rules.specs.declared.Direction.the-variants.{Back, Front, Left, Right}
-use Rattle.rules.specs.Lists.{anyOf}
-use Rattle.rules.specs.Store.{Point, Edge, along, front, back, InStore, Joins, depotPoint, distance, sameEdge, samePoint}
-use Rattle.rules.specs.Plans.{Plan, WellFormed, multiplicity, actionAt, aisleTreads, passesCell, planPasses, planLength, lengthOf}
+use Rattle.rules.specs.Store.{Point, Edge, along, front, back, InStore, Joins, depotPoint, distance, sameEdge}
+use Rattle.rules.specs.Plans.{Plan, WellFormed, multiplicity, actionAt, planPasses, planLength, lengthOf}
 use Rattle.rules.specs.Lawful.{Trodden, Touched, Lawful}
-use Rattle.rules.specs.Walks.{Walk, canStep, stepTo, stepEdge, crossEdge, isCrossing, one, timesIn, walkPoints, ClosedWalk, walkTreads, walkLength, walkPasses}
-use Rattle.closedwalks.specs.Ways.{PointOf, degree, same, Leads, treadsFrom, Joined}
+use Rattle.rules.specs.Walks.{Walk, canStep, stepTo, stepEdge, crossEdge, isCrossing, one, timesIn, ClosedWalk, walkTreads, walkLength, walkPasses}
+use Rattle.closedwalks.specs.Ways.{PointOf, degree, Leads, treadsFrom, Joined}
 use Rattle.closedwalks.proofs.Splits.{equal-or-below, below-or-from}
-use Rattle.closedwalks.proofs.Steps.{same-point, same-refl, one-refl, both-true, Stepped, stepped}
+use Rattle.closedwalks.proofs.Steps.{one-refl, both-true, stepped}
 use Rattle.closedwalks.proofs.Sums.{sum-le, sum-same}
-use Rattle.closedwalks.proofs.Parity.{degree-add, degree-same, degree-step, walk-balanced, walk-sum}
+use Rattle.closedwalks.proofs.Parity.{degree-add, degree-same, walk-balanced, walk-sum}
 use Rattle.closedwalks.proofs.Degrees.{depot-point, degree-cell}
 use Rattle.closedwalks.proofs.Walked.{closed-leads}
 use Rattle.closedwalks.proofs.Links.{joined-same, walk-joined}
+use Rattle.closedwalks.proofs.Passing.{trodden-passes, passed-touched}
 use Rattle.closedwalks.proofs.Reading.{Readable, reads}
-
-or-true : (a b : Bool) → (a || b) ≡ true → (a ≡ true) ⊎ (b ≡ true)
-or-true true b h = inl h
-or-true false b h = inr h
 
 -- one for an aisle up to j
 abbrev side : ℕ → ℕ → ℕ
@@ -56,31 +50,6 @@ cross-cut b j n =
 abbrev clamp : ℕ → ℕ
 clamp n = min n (2 - n % 2)
 
--- the cells next to a trodden edge are passed
-trodden-passes : (a : Action) (c : ℕ) → 1 ≤ c → 0 < aisleTreads a (c - 1) + aisleTreads a c → passesCell a c ≡ true
-trodden-passes Void c h t = absurd (omega arith)
-trodden-passes (Bottom i) c h t =
-    elim (below-or-from i c) [
-      | inl l ↦ absurd (let none : aisleTreads (Bottom i) (c - 1) + aisleTreads (Bottom i) c ≡ 0 = rw (le-ltb (c - 1) i (omega arith), le-ltb c i (omega arith)) in omega arith)
-      | inr l ↦ le-leb c i l
-    ]
-trodden-passes (Top i) c h t =
-    elim (below-or-from c i) [
-      | inl l ↦ absurd (let none : aisleTreads (Top i) (c - 1) + aisleTreads (Top i) c ≡ 0 = rw (lt-leb i (c - 1) (omega arith), lt-leb i c l) in omega arith)
-      | inr l ↦ le-leb i c l
-    ]
-trodden-passes (Gap g i) c h t =
-    elim (below-or-from g c) [
-      | inl l ↦ elim (below-or-from c i) [
-        | inl m ↦ absurd
-            (let none : aisleTreads (Gap g i) (c - 1) + aisleTreads (Gap g i) c ≡ 0 = rw (le-ltb (c - 1) g (omega arith), lt-leb i (c - 1) (omega arith), le-ltb c g (omega arith), lt-leb i c m) in omega arith)
-        | inr m ↦ rw (lt-leb c g l) (le-leb i c m)
-      ]
-      | inr l ↦ rw (le-leb c g l)
-    ]
-trodden-passes Once c h t = refl
-trodden-passes Twice c h t = refl
-
 module _ (z : Layout) where
   step-cut : (j : ℕ) (x : Point) (d : Direction) → canStep z x d ≡ true
       → (one (front j) (stepEdge x d) + one (back j) (stepEdge x d) + side j (x .aisle) + side j ((stepTo x d) .aisle)) % 2 ≡ 0
@@ -99,25 +68,6 @@ module _ (z : Layout) where
       → (treadsFrom x walk (front j) + treadsFrom x walk (back j) + side j (x .aisle) + side j (y .aisle)) % 2 ≡ 0
   walk-cut j x [] y l = omega (arith, ap (λ (p : Point). side j (p .aisle)) l)
   walk-cut j x (d ∷ walk) y l = omega (arith, step-cut j x d (l .0), walk-cut j (stepTo x d) walk y (l .1))
-
-  -- a point where a step ends is of the store, and has a trodden edge
-  passed-touched : (p x : Point) (walk : Walk) (y : Point) → PointOf z x → Leads z x walk y → anyOf (samePoint p) (walkPoints x walk) ≡ true
-      → PointOf z p × (0 < degree z (treadsFrom x walk) p)
-  passed-touched p x [] y o l h = absurd (let bad : _≡_ {A = ℕ} 0 1 = cc in omega arith)
-  passed-touched p x (d ∷ walk) y o l h =
-      go (or-true (samePoint p (stepTo x d)) (anyOf (samePoint p) (walkPoints (stepTo x d) walk)) h) (passed-touched p (stepTo x d) walk y (s .end) (l .1))
-    where
-      s : Stepped z x d
-      s = stepped z x o d (l .0)
-
-      more : degree z (treadsFrom x (d ∷ walk)) p ≡ same p x + same p (stepTo x d) + degree z (treadsFrom (stepTo x d) walk) p
-      more = omega (arith, degree-add z (λ e. one e (stepEdge x d)) (treadsFrom (stepTo x d) walk) p, degree-step z x o d (l .0) p)
-
-      go : (samePoint p (stepTo x d) ≡ true) ⊎ (anyOf (samePoint p) (walkPoints (stepTo x d) walk) ≡ true)
-          → (anyOf (samePoint p) (walkPoints (stepTo x d) walk) ≡ true → PointOf z p × (0 < degree z (treadsFrom (stepTo x d) walk) p))
-          → PointOf z p × (0 < degree z (treadsFrom x (d ∷ walk)) p)
-      go (inl t) f = let e = same-point p (stepTo x d) t in (subst (PointOf z) (sym e) (s .end), omega (arith, more, same-refl p, ap (same p) e))
-      go (inr t) f = let u = f t in (u .0, omega (arith, more, u .1))
 
   module _ (p : 1 ≤ z .depot) (q : z .depot ≤ z .aisles) (walk : Walk) (some-steps : walk ≡ [] → ⊥) (closed : ClosedWalk z walk) where
     abbrev treads : Edge → ℕ
@@ -188,7 +138,7 @@ module _ (z : Layout) where
     clamped-passes : (plan : Plan) → ((e : Edge) → InStore z e → multiplicity plan e ≡ clamped e) → (j c : ℕ) → walkPasses z walk j c ≡ true → 1 ≤ c → c ≤ z .cells → planPasses plan j c ≡ true
     unfolding clamped planPasses walkPasses multiplicity InStore
     clamped-passes plan eq j c h u v =
-        let t = passed-touched (record { aisle = j; height = c }) (depotPoint z) walk (depotPoint z) at leads h in
+        let t = passed-touched z (record { aisle = j; height = c }) (depotPoint z) walk (depotPoint z) at leads h in
         let low = t .0 .first in
         let high = t .0 .last in
         trodden-passes (actionAt plan j) c u
