@@ -9,13 +9,13 @@ use Rattle.rules.specs.declared.Layout.{Layout}
 use Rattle.rules.specs.declared.Direction.{Direction}
 use Rattle.rules.specs.declared.Direction.the-variants.{Back, Front, Left, Right}
 use Rattle.rules.specs.Store.{Point, Edge, InStore, startOf}
-use Rattle.rules.specs.Lawful.{Trodden, Linked, here, step}
+use Rattle.rules.specs.Lawful.{Trodden}
 use Rattle.rules.specs.Walks.{Walk, canStep, stepTo, stepEdge, one}
 use Rattle.rules.specs.FirstWalk.{without, stepsOf}
 use Rattle.closedwalks.specs.Ways.{PointOf, share, degree, same, Balanced, Leads, treadsFrom, On, Joined}
 use Rattle.closedwalks.proofs.Splits.{none-or-some}
-use Rattle.closedwalks.proofs.Steps.{point-split, same-refl, stepped, StepBy, step-forth, step-along}
-use Rattle.closedwalks.proofs.Links.{joins-turn}
+use Rattle.closedwalks.proofs.Steps.{point-split, same-refl, stepped, step-forth, step-along}
+use Rattle.closedwalks.proofs.Links.{joins-turn, Closed, linked-seen}
 use Rattle.closedwalks.proofs.Parity.{taken, degree-add, degree-none, degree-at, degree-step, balanced-step, total-step, total-le}
 
 -- no edge at the point is left
@@ -148,16 +148,14 @@ module _ (z : Layout) where
       ]
 
   module _ (left : Edge → ℕ) (x y : Point) (p : PointOf z x) (t : Trail z left x y) where
-    -- where a trail has been, everything that is linked to it has been trodden
-    linked-on : (m n : Point) → Linked z left n m → On x (t .walk) m → On x (t .walk) n
+    -- no edge that was left leads away from where a trail has been
+    on-closed : Closed z left (On x (t .walk))
     unfolding Trodden
-    linked-on m n here o = o
-    linked-on m n (step {w} e tr j k) o = linked-on w n k (next (step-along z e m w (tr .0) j) (step-along z e w m (tr .0) (joins-turn z e m w j)))
-      where
-        next : StepBy z e m w → StepBy z e w m → On x (t .walk) w
-        next f g =
-            let empty = ap (t .rest) (sym (f .by)) ∙ t .spent m o (f .letter) (f .can) in
-            degree-on x (t .walk) y w p (t .leads) (omega (arith, t .parts e, empty, tr .1, degree-at z (treadsFrom x (t .walk)) w (g .letter) (g .can), ap (treadsFrom x (t .walk)) (g .by)))
+    on-closed e m n h j o =
+        let f = step-along z e m n (h .0) j in
+        let g = step-along z e n m (h .0) (joins-turn z e m n j) in
+        let empty = ap (t .rest) (sym (f .by)) ∙ t .spent m o (f .letter) (f .can) in
+        degree-on x (t .walk) y n p (t .leads) (omega (arith, t .parts e, empty, h .1, degree-at z (treadsFrom x (t .walk)) n (g .letter) (g .can), ap (treadsFrom x (t .walk)) (g .by)))
 
     all-trodden : Joined z left x → (e : Edge) → InStore z e → treadsFrom x (t .walk) e ≡ left e
     unfolding Joined Trodden
@@ -165,7 +163,7 @@ module _ (z : Layout) where
         elim (none-or-some (left e)) [
           | inl n ↦ omega (arith, t .parts e)
           | inr h ↦
-              let on = linked-on x (startOf z e) (j e (i, h)) (on-start x (t .walk)) in
+              let on = linked-seen z left (On x (t .walk)) on-closed x (startOf z e) (j e (i, h)) (on-start x (t .walk)) in
               let f = step-forth z e i in
               omega (arith, t .parts e, ap (t .rest) (sym (f .by)) ∙ t .spent (startOf z e) on (f .letter) (f .can))
         ]

@@ -2,7 +2,7 @@
 use Prim.Native.Nat.{ℕ, _<_}
 use native.Mathlib.Omega.{arith}
 use mathlib.Core.Path.{refl, sym, ap, _∙_, subst}
-use mathlib.Core.Logic.{inl, inr}
+use mathlib.Core.Logic.{inl, inr, _↔_}
 use mathlib.Core.List.{[], _∷_}
 use Rattle.rules.specs.declared.Layout.{Layout}
 use Rattle.rules.specs.Store.{Point, Edge, InStore, Joins, startOf}
@@ -16,6 +16,21 @@ module _ (z : Layout) where
   unfolding Joins
   joins-turn e x y (inl j) = inr j
   joins-turn e x y (inr j) = inl j
+
+  -- a set of points that no trodden edge leaves
+  abbrev pub Closed : (Edge → ℕ) → (Point → Type 0) → Type 0
+  Closed t Seen = (e : Edge) (p q : Point) → Trodden z t e → Joins z e p q → Seen p → Seen q
+
+  -- no chain leaves it either
+  pub linked-seen : (t : Edge → ℕ) (Seen : Point → Type 0) → Closed t Seen → (x y : Point) → Linked z t y x → Seen x → Seen y
+  linked-seen t Seen c x y here s = s
+  linked-seen t Seen c x y (step {w} e h j k) s = linked-seen t Seen c w y k (c e x w h j s)
+
+  -- where a closed set holds x and only what can be reached from x, all that is trodden can be reached exactly if it is in the set
+  pub reached-joined : (t : Edge → ℕ) (x : Point) (Seen : Point → Type 0) → Closed t Seen → Seen x → ((p : Point) → Seen p → Linked z t p x)
+      → ((e : Edge) → Trodden z t e → Seen (startOf z e)) ↔ Joined z t x
+  unfolding Joined
+  reached-joined t x Seen c s l = (λ f e h. l (startOf z e) (f e h), λ j e h. linked-seen t Seen c x (startOf z e) (j e h) s)
 
   -- all that is trodden in f is trodden in g
   abbrev pub Covers : (Edge → ℕ) → (Edge → ℕ) → Type 0
@@ -35,7 +50,7 @@ module _ (z : Layout) where
     link-join x w y here l = l
     link-join x w y (step {w = v} e h j k) l = step e h j (link-join v w y k l)
 
-    link-turn : (x y : Point) → Linked z t y x → Linked z t x y
+    pub link-turn : (x y : Point) → Linked z t y x → Linked z t x y
     link-turn x y here = here
     link-turn x y (step {w} e h j k) = link-join y w x (link-turn w y k) (step e h (joins-turn e x w j) here)
 

@@ -13,12 +13,12 @@ use Rattle.rules.specs.declared.Passage.the-variants.{P00}
 use Rattle.rules.specs.Lists.{nth}
 use Rattle.rules.specs.Store.{Point, Edge, along, front, back, InStore, Joins, startOf, endOf, backHeight, depotPoint}
 use Rattle.rules.specs.Plans.{Plan, WellFormed, Fits, multiplicity, actionAt, passageAt, aisleTreads, backTreads, frontTreads}
-use Rattle.rules.specs.Lawful.{Trodden, Touched, Linked, here, step, Lawful}
+use Rattle.rules.specs.Lawful.{Trodden, Touched, Lawful}
 use Rattle.closedwalks.specs.Ways.{PointOf, degree, Joined}
 use Rattle.closedwalks.proofs.Splits.{none-or-some, below-or-from}
 use Rattle.closedwalks.proofs.Parity.{degree-same}
 use Rattle.closedwalks.proofs.Degrees.{degree-cell, plan-front, plan-back, nth-past}
-use Rattle.closedwalks.proofs.Links.{Covers, joined-same, joined-together}
+use Rattle.closedwalks.proofs.Links.{Closed, linked-seen, link-turn, Covers, joined-same, joined-together}
 use Rattle.closedwalks.proofs.Aisles.{Read, aisle-reads, passage-reads}
 
 -- what the treads of a closed walk have
@@ -69,14 +69,10 @@ module _ (z : Layout) (t : Edge → ℕ) (j h i : ℕ) (inner : i ≤ z .cells) 
   stay (front a) s = (λ o. absurd (let p = o .1 in omega arith), λ o. absurd (let p = o .1 in omega arith))
   stay (back a) s = (λ o. absurd (let p = o .2 in omega arith), λ o. absurd (let p = o .2 in omega arith))
 
-  island : (x y : Point) → Linked z t y x → Inside j h i y → Inside j h i x
+  island : Closed z t (Inside j h i)
   unfolding Trodden Joins
-  island x y here o = o
-  island x y (step {w} e u k l) o = go (island w y l o) k
-    where
-      go : Inside j h i w → Joins z e x w → Inside j h i x
-      go o (inl k) = subst (Inside j h i) (sym (k .0)) (stay e (u .1) .1 (subst (Inside j h i) (k .1) o))
-      go o (inr k) = subst (Inside j h i) (sym (k .1)) (stay e (u .1) .0 (subst (Inside j h i) (k .0) o))
+  island e x y u (inl k) o = subst (Inside j h i) (sym (k .1)) (stay e (u .1) .0 (subst (Inside j h i) (k .0) o))
+  island e x y u (inr k) o = subst (Inside j h i) (sym (k .0)) (stay e (u .1) .1 (subst (Inside j h i) (k .1) o))
 
 module _ (z : Layout) (t : Edge → ℕ) (r : Readable z t) where
   no-island : (j : ℕ) → 1 ≤ j → j ≤ z .aisles → (h k i : ℕ) → h < k → k < i → i ≤ z .cells → t (along j h) ≡ 0 → t (along j i) ≡ 0 → t (along j k) ≡ 0
@@ -85,7 +81,9 @@ module _ (z : Layout) (t : Edge → ℕ) (r : Readable z t) where
       elim (none-or-some (t (along j k))) [
         | inl e ↦ e
         | inr s ↦
-            let inside = island z t j h i c f g (depotPoint z) (record { aisle = j; height = k }) (r .joined (along j k) ((p, q, omega arith), s)) (refl, u, omega arith) in
+            let cell : Point = record { aisle = j; height = k } in
+            let link = link-turn z t (depotPoint z) cell (r .joined (along j k) ((p, q, omega arith), s)) in
+            let inside = linked-seen z t (Inside j h i) (island z t j h i c f g) cell (depotPoint z) link (refl, u, omega arith) in
             absurd (let low = inside .1 in omega arith)
       ]
 
