@@ -1,0 +1,2 @@
+// The router: for an admitted job, the first of the shortest allowed plans that serve its list.
+mod steps;
