@@ -5,3 +5,6 @@ pub mod Parity
 pub mod Backward
 pub mod Exact
 pub mod Runs
+pub mod Counting
+pub mod Simulation
+pub mod Traversal

@@ -71,7 +71,7 @@ accepts-closed job {plan} wf =
     ((λ a. sym r ∙ is-closed (runFrom job 1 nothing (plan .actions) (plan .passages)) a), (λ c. ap isClosed (r ∙ c)))
 
 -- the policy's step from `dead` leads to `dead`
-live-before-step : (policy : Policy) (z : Layout) (a : Action) (s : State) → Live (policyStep policy z a s) → Live s
+pub live-before-step : (policy : Policy) (z : Layout) (a : Action) (s : State) → Live (policyStep policy z a s) → Live s
 live-before-step policy z a nothing l = tt
 live-before-step policy z a closed l = tt
 live-before-step policy z a atFront l = tt
