@@ -11,7 +11,7 @@ use Rattle.rules.specs.declared.Action.{Action}
 use Rattle.rules.specs.declared.Action.the-variants.{Void, Bottom, Top, Gap, Once, Twice}
 use Rattle.rules.specs.Lists.{sumOf, nth}
 use Rattle.rules.specs.Plans.{Plan, WellFormed, actionAt, entered}
-use Rattle.rules.specs.Policies.{enteredAisles, Entered, First, Last}
+use Rattle.rules.specs.Policies.{enteredAisles, Entered, First, Last, IsBottom}
 use Rattle.tours.specs.Prefixes.{enteredUpTo}
 use Rattle.tours.proofs.Aisles.{below, split-at, action-past}
 
@@ -47,6 +47,14 @@ module _ (plan : Plan) where
   pub void-not-entered : (j : ℕ) → actionAt plan j ≡ Void → Entered plan j → ⊥
   unfolding Entered
   void-not-entered j e h = no-contradiction (sym h ∙ rw e)
+
+  pub bottom-entered : (j : ℕ) → IsBottom (actionAt plan j) → Entered plan j
+  unfolding IsBottom Entered
+  bottom-entered j (k, e) = rw e
+
+  pub once-entered : (j : ℕ) → actionAt plan j ≡ Once → Entered plan j
+  unfolding Entered
+  once-entered j e = rw e
 
   pub count-rises : (i : ℕ) → Entered plan (suc i) → enteredUpTo plan (suc i) ≡ suc (enteredUpTo plan i)
   unfolding Entered
@@ -146,3 +154,33 @@ module _ {z : Layout} {plan : Plan} (wf : WellFormed z plan) where
     | inl none ↦ inl (λ j e. none j (entered-inside j e .0) (entered-inside j e .1) e)
     | inr f ↦ inr (f .0, (f .3, λ j l e. f .4 j (entered-inside j e .0) l e))
   ]
+
+  -- one entered aisle, or two
+  pub count-one : (k : ℕ) → First plan k → Last plan k → enteredAisles plan ≡ 1
+  unfolding First Last
+  count-one zero f l = absurd (let e = entered-inside 0 (f .0) in omega arith)
+  count-one (suc i) f l =
+      let e = entered-inside (suc i) (f .0) in
+      let a = count-still plan 0 i (omega arith) (λ j g h. f .1 j (omega arith)) in
+      let b = count-rises plan i (f .0) in
+      let c = count-still plan (suc i) (z .aisles) (e .1) (λ j g h. l .1 j g) in
+      let d = count-all in
+      omega arith
+
+  pub count-two : (f k : ℕ) → f < k → Entered plan f → Entered plan k → 2 ≤ enteredAisles plan
+  count-two zero k l e g = absurd (let h = entered-inside 0 e in omega arith)
+  count-two (suc a) zero l e g = absurd (omega arith)
+  count-two (suc a) (suc b) l e g =
+      let h = entered-inside (suc b) g in
+      let p = count-rises plan a e in
+      let q = count-rises plan b g in
+      let r = count-grows plan (suc a) b (omega arith) in
+      let s = count-grows plan (suc b) (z .aisles) (h .1) in
+      let d = count-all in
+      omega arith
+
+  pub count-none : ((j : ℕ) → Entered plan j → ⊥) → enteredAisles plan ≡ 0
+  count-none none =
+      let c = count-still plan 0 (z .aisles) (omega arith) (λ j g h. none j) in
+      let d = count-all in
+      omega arith

@@ -8,3 +8,6 @@ pub mod Runs
 pub mod Counting
 pub mod Simulation
 pub mod Traversal
+pub mod Midpoint
+pub mod Rules
+pub mod Machine

@@ -96,7 +96,7 @@ live-before-step Midpoint z (Gap h i) dead l = l
 live-before-step Midpoint z Once dead l = l
 live-before-step Midpoint z Twice dead l = l
 
-live-test : (b : Bool) (s : State) → Live (cond b s dead) → (b ≡ true) × Live s
+pub live-test : (b : Bool) (s : State) → Live (cond b s dead) → (b ≡ true) × Live s
 live-test true s l = (refl, l)
 live-test false s l = absurd l
 

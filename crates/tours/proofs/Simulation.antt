@@ -1,20 +1,23 @@
 -- The tables of TRAVERSAL and MIDPOINT beside the table of EXACT: how the states of the two runs of a plan belong together.
-use Prim.Native.Nat.{ℕ, zero, suc}
-use mathlib.Core.Path.{_≡_, refl, sym}
+use Prim.Native.Nat.{ℕ, zero, suc, _≤_, _<_}
+use native.Mathlib.Omega.{arith}
+use mathlib.Core.Path.{_≡_, refl, sym, subst}
 use mathlib.Core.Logic.{_⊎_, inl, inr}
 use mathlib.Core.Bool.{Bool, true, false, cond}
 use lib.Dec.{leb, eqb}
 use Rattle.rules.specs.declared.Layout.{Layout}
-use Rattle.rules.specs.declared.Policy.the-variants.{Traversal, Midpoint}
+use Rattle.rules.specs.declared.Policy.{Policy}
+use Rattle.rules.specs.declared.Policy.the-variants.{Exact, Return, Traversal, Midpoint, Composite}
 use Rattle.rules.specs.declared.Action.{Action}
 use Rattle.rules.specs.declared.Action.the-variants.{Void, Bottom, Top, Gap, Once, Twice}
 use Rattle.rules.specs.declared.Passage.{Passage}
 use Rattle.rules.specs.declared.Passage.the-variants.{P00, P02, P11, P20, P22}
 use Rattle.rules.specs.Plans.{Plan, actionAt, passageAt}
-use Rattle.rules.specs.Policies.{passageNamed, halved}
-use Rattle.rules.specs.Machine.{State, nothing, closed, atFront, atBack, odd, joined, split, ending, dead, row, lawfulStep, traversalStep, midpointStep, crossStep}
+use Rattle.rules.specs.Policies.{passageNamed, halved, Entered}
+use Rattle.rules.specs.Machine.{State, nothing, closed, atFront, atBack, odd, joined, split, ending, dead, row, lawfulStep, traversalStep, midpointStep, policyStep, crossStep}
 use Rattle.tours.specs.Prefixes.{lawfulState, policyState}
-use Rattle.tours.proofs.Counting.{no-contradiction}
+use Rattle.tours.proofs.Aisles.{below}
+use Rattle.tours.proofs.Counting.{no-contradiction, not-entered-void}
 
 -- the state x of EXACT's run fits the state o of the policy's own run: the same, but `ending` may stand for two others
 abbrev pub Fitting : State → State → Type 0
@@ -326,3 +329,29 @@ tracks-void o joined e = absurd e
 tracks-void o split e = e
 tracks-void o ending e = e
 tracks-void o dead e = e
+
+suc-injective : {i n : ℕ} → suc i ≡ suc n → i ≡ n
+suc-injective p = omega arith
+
+void-step : (policy : Policy) (z : Layout) (s : State) → policyStep policy z Void s ≡ s
+void-step Exact z s = refl
+void-step Return z s = refl
+void-step Traversal z s = refl
+void-step Midpoint z s = refl
+void-step Composite z s = refl
+
+-- behind the last entered aisle, i + 1, both runs go on to their ends
+pub ends-run : (policy : Policy) (z : Layout) (plan : Plan) → ((j : ℕ) → Plain (passageAt plan j)) → (i m : ℕ)
+    → Ends (policyStep policy z (actionAt plan (suc i)) (policyState policy z plan i)) (lawfulStep (actionAt plan (suc i)) (lawfulState (z .depot) plan i))
+    → ((j : ℕ) → suc i < j → j ≤ m → Entered plan j → ⊥)
+    → (n : ℕ) → n ≤ m → suc i ≤ n
+    → Ends (policyState policy z plan n) (lawfulState (z .depot) plan n)
+ends-run policy z plan plain i m last none zero l h = absurd (omega arith)
+ends-run policy z plan plain i m last none (suc n) l h =
+    ends-cross (z .depot) (suc n) (passageAt plan (suc n)) (plain (suc n)) _ _ (elim (below (suc i) n h) [
+      | inl g ↦ rw (not-entered-void plan (suc n) (none (suc n) (omega arith) l), void-step policy z (policyState policy z plan n))
+          (ends-run policy z plan plain i m last none n (omega arith) g)
+      | inr p ↦ subst
+          (λ (k : ℕ). Ends (policyStep policy z (actionAt plan (suc k)) (policyState policy z plan k)) (lawfulStep (actionAt plan (suc k)) (lawfulState (z .depot) plan k)))
+          (suc-injective p) last
+    ])

@@ -16,8 +16,8 @@ use Rattle.tours.specs.Prefixes.{lawfulState, policyState, enteredUpTo}
 use Rattle.tours.proofs.Aisles.{below, split-at}
 use Rattle.tours.proofs.Parity.{Live, oddness, passage-parity, live-before-passage}
 use Rattle.tours.proofs.Runs.{live-before-step}
-use Rattle.tours.proofs.Counting.{no-contradiction, entered?, not-entered-void, void-not-entered, count-rises, count-stays, count-all, entered-inside, last-entered}
-use Rattle.tours.proofs.Simulation.{Plain, Fitting, Tracks, TracksBehind, Ends, Over, over-cross, tracks-void, tracks-cross, ends-cross, traversal-fits}
+use Rattle.tours.proofs.Counting.{bottom-entered, once-entered, entered?, not-entered-void, void-not-entered, count-rises, count-stays, count-all, entered-inside, last-entered}
+use Rattle.tours.proofs.Simulation.{Plain, Fitting, Tracks, TracksBehind, Ends, Over, over-cross, tracks-void, tracks-cross, ends-run, traversal-fits}
 
 -- the entered aisles of the first n are all ONCE
 abbrev AllOnce : Plan → ℕ → Type 0
@@ -59,14 +59,6 @@ tracks-bottom k o ending e = absurd e
 tracks-bottom k o dead e = tt
 
 module _ {z : Layout} {plan : Plan} (wf : WellFormed z plan) where
-  bottom-entered : (j : ℕ) → IsBottom (actionAt plan j) → Entered plan j
-  unfolding IsBottom Entered
-  bottom-entered j (k, e) = rw e
-
-  once-entered : (j : ℕ) → actionAt plan j ≡ Once → Entered plan j
-  unfolding Entered
-  once-entered j e = rw e
-
   module _ (i : ℕ) where
     still-once : AllOnce plan i → (Entered plan (suc i) → actionAt plan (suc i) ≡ Once) → AllOnce plan (suc i)
     still-once all new j l e = elim (below j i l) [
@@ -96,7 +88,7 @@ module _ {z : Layout} {plan : Plan} (wf : WellFormed z plan) where
           bottom = b;
           others = λ j l e. all j (omega arith) e;
           behind = λ j l h e. omega arith;
-          odd-number = let c = count-rises plan i (bottom-entered (suc i) b) in omega arith;
+          odd-number = let c = count-rises plan i (bottom-entered plan (suc i) b) in omega arith;
         }
 
     gone-action : (a : Action) → actionAt plan (suc i) ≡ a → (o : State) → Live (traversalStep a o)
@@ -119,13 +111,13 @@ module _ {z : Layout} {plan : Plan} (wf : WellFormed z plan) where
     gone-action (Bottom k) e dead l g = absurd l
     gone-action (Top k) e o l g = absurd l
     gone-action (Gap h k) e o l g = absurd l
-    gone-action Once e nothing l (inl (all, c)) = inl (still-once all (λ g. e), (let n = count-rises plan i (once-entered (suc i) e) in omega arith))
+    gone-action Once e nothing l (inl (all, c)) = inl (still-once all (λ g. e), (let n = count-rises plan i (once-entered plan (suc i) e) in omega arith))
     gone-action Once e nothing l (inr (b, over)) = absurd over
     gone-action Once e closed l g = absurd l
-    gone-action Once e atFront l (inl (all, c)) = inl (still-once all (λ g. e), (let n = count-rises plan i (once-entered (suc i) e) in omega arith))
+    gone-action Once e atFront l (inl (all, c)) = inl (still-once all (λ g. e), (let n = count-rises plan i (once-entered plan (suc i) e) in omega arith))
     gone-action Once e atFront l (inr (b, over)) = absurd over
     gone-action Once e atBack l g = absurd l
-    gone-action Once e odd l (inl (all, c)) = inl (still-once all (λ g. e), (let n = count-rises plan i (once-entered (suc i) e) in omega arith))
+    gone-action Once e odd l (inl (all, c)) = inl (still-once all (λ g. e), (let n = count-rises plan i (once-entered plan (suc i) e) in omega arith))
     gone-action Once e odd l (inr (b, over)) = absurd over
     gone-action Once e joined l g = absurd l
     gone-action Once e split l g = absurd l
@@ -168,19 +160,20 @@ module _ {z : Layout} {plan : Plan} (wf : WellFormed z plan) where
         step (inl e) t = rw (all (suc i) (omega arith) e) (tracks-once o x t)
         step (inr n) t = rw (not-entered-void plan (suc i) n) (tracks-void o x t)
 
-    -- from the BOTTOM on no aisle is entered
-    ends-run : {m : ℕ} (b : EndsBottom plan m) (n : ℕ) → n ≤ m → b .place ≤ n
-        → Ends (policyState Traversal z plan n) (lawfulState (z .depot) plan n)
+    -- at the BOTTOM the policy's run begins to end
+    bottom-ends : {m : ℕ} (b : EndsBottom plan m) → Ends (policyState Traversal z plan m) (lawfulState (z .depot) plan m)
     unfolding IsBottom
-    ends-run {m} b zero l h =
-        absurd (let p : b .place ≡ 0 = omega arith in let g = entered-inside wf (b .place) (bottom-entered (b .place) (b .bottom)) in omega arith)
-    ends-run {m} b (suc i) l h =
-        ends-cross (z .depot) (suc i) (passageAt plan (suc i)) (plain (suc i)) _ _ (elim (below (b .place) i h) [
-          | inl g ↦ rw (not-entered-void plan (suc i) (b .behind (suc i) (omega arith) l)) (ends-run b i (omega arith) g)
-          | inr p ↦ rw (subst (λ (j : ℕ). actionAt plan j ≡ Bottom (b .bottom .0)) p (b .bottom .1))
-              (tracks-bottom (b .bottom .0) (policyState Traversal z plan i) (lawfulState (z .depot) plan i)
-              (tracks-run i (λ j k e. b .others j (omega arith) e)))
-        ])
+    bottom-ends {m} b = go (b .place) refl
+      where
+        go : (j : ℕ) → b .place ≡ j → Ends (policyState Traversal z plan m) (lawfulState (z .depot) plan m)
+        go zero p = absurd (let e = entered-inside wf (b .place) (bottom-entered plan (b .place) (b .bottom)) in omega arith)
+        go (suc i) p =
+            let l = b .inside in
+            ends-run Traversal z plan plain i m
+            (rw (subst (λ (j : ℕ). actionAt plan j ≡ Bottom (b .bottom .0)) p (b .bottom .1))
+            (tracks-bottom (b .bottom .0) (policyState Traversal z plan i) (lawfulState (z .depot) plan i)
+            (tracks-run i (λ j k e. b .others j (omega arith) e))))
+            (λ j h. b .behind j (omega arith)) m (omega arith) (omega arith)
 
   -- the rule says how the entered aisles are gone through
   rule-gone : TraversalRule plan → (AllOnce plan (z .aisles)) ⊎ EndsBottom plan (z .aisles)
@@ -217,7 +210,7 @@ module _ {z : Layout} {plan : Plan} (wf : WellFormed z plan) where
   gone-rule (inr (b, over)) =
       record {
         even = λ n. absurd (let q = rw (count-all wf) at n in let r = b .odd-number in omega arith);
-        odd-last = λ n j last. at-place j (last .0) (λ l. last .1 (b .place) l (bottom-entered (b .place) (b .bottom)));
+        odd-last = λ n j last. at-place j (last .0) (λ l. last .1 (b .place) l (bottom-entered plan (b .place) (b .bottom)));
         odd-others = λ n j e other. before-place j e other;
       }
     where
@@ -254,6 +247,6 @@ module _ {z : Layout} {plan : Plan} (wf : WellFormed z plan) where
     )),
     (λ h. elim (rule-gone (h .1)) [
       | inl all ↦ subst (λ (x : State). Tracks (policyState Traversal z plan (z .aisles)) x) (h .0) (tracks-run plain (z .aisles) all)
-      | inr b ↦ subst (λ (x : State). Ends (policyState Traversal z plan (z .aisles)) x) (h .0) (ends-run plain b (z .aisles) (omega arith) (b .inside))
+      | inr b ↦ subst (λ (x : State). Ends (policyState Traversal z plan (z .aisles)) x) (h .0) (bottom-ends plain b)
     ]),
   )
