@@ -1,23 +1,23 @@
 -- What an action links inside its aisle, and what a plan treads at the ends of the store.
 use Prim.Native.Nat.{ℕ, zero, suc, _+_, _-_, _≤_, _<_}
 use native.Mathlib.Omega.{arith}
-use mathlib.Core.Path.{_≡_, refl, sym, subst}
+use mathlib.Core.Path.{_≡_, refl, subst}
 use mathlib.Core.Logic.{_⊎_, inl, inr}
 use mathlib.Core.List.{List, [], _∷_}
 use mathlib.Core.Bool.{Bool, true, false, cond, _||_}
 use lib.Dec.{ltb, leb}
 use lib.ListN.{length}
-use borrow.Author.Tests.{ltb-true, ltb-false, leb-true, lt-ltb, le-leb, le-ltb, lt-leb}
+use borrow.Author.Tests.{ltb-true, leb-true, lt-ltb, le-leb, le-ltb, lt-leb}
 use Rattle.rules.specs.declared.Layout.{Layout}
 use Rattle.rules.specs.declared.Action.{Action}
 use Rattle.rules.specs.declared.Action.the-variants.{Void, Bottom, Top, Gap, Once, Twice}
-use Rattle.rules.specs.declared.Passage.{Passage}
-use Rattle.rules.specs.declared.Passage.the-variants.{P00, P02, P11, P20, P22}
+use Rattle.rules.specs.declared.Passage.the-variants.{P00}
 use Rattle.rules.specs.Lists.{nth}
 use Rattle.rules.specs.Store.{Point, Edge, along, front, back, startOf, endOf, backHeight, InStore}
 use Rattle.rules.specs.Plans.{Plan, WellFormed, Fits, actionAt, passageAt, aisleTreads, backTreads, frontTreads, multiplicity, entered}
-use Rattle.rules.specs.Lawful.{Trodden, Touched, Linked, here, step}
-use Rattle.tours.proofs.Links.{linked-trans, linked-sym, edge-forth, edge-back}
+use Rattle.rules.specs.Lawful.{Trodden, Touched, Linked, here}
+use Rattle.tours.proofs.Basics.{split-at, or-true, true-not-false, false-not-true}
+use Rattle.tours.proofs.Links.{linked-trans, edge-forth, edge-back}
 
 -- the crossings of aisle j, and the point of it at height k
 abbrev pub frontOf : ℕ → Point
@@ -48,29 +48,26 @@ cond-true : (b : Bool) → 0 < cond b 2 0 → b ≡ true
 cond-true true h = refl
 cond-true false h = absurd (omega arith)
 
-or-true : (a b : Bool) → a || b ≡ true → (a ≡ true) ⊎ (b ≡ true)
-or-true true b h = inl refl
-or-true false b h = inr h
+either-true : (a b : Bool) → a || b ≡ true → (a ≡ true) ⊎ (b ≡ true)
+either-true true b h = inl refl
+either-true false b h = inr h
 
 gap-trodden : (h i k : ℕ) → 0 < aisleTreads (Gap h i) k → (k < h) ⊎ (i ≤ k)
-gap-trodden h i k t = elim (or-true (ltb k h) (leb i k) (cond-true (ltb k h || leb i k) t))
+gap-trodden h i k t = elim (either-true (ltb k h) (leb i k) (cond-true (ltb k h || leb i k) t))
     [ inl p ↦ inl (ltb-true k h p) | inr p ↦ inr (leb-true i k p) ]
 
+-- the edges that BOTTOM, TOP and GAP tread
 pub bottom-treads : (i k : ℕ) → k < i → 0 < aisleTreads (Bottom i) k
 bottom-treads i k l = rw (lt-ltb k i l) (omega arith)
 
 pub top-treads : (i k : ℕ) → i ≤ k → 0 < aisleTreads (Top i) k
 top-treads i k l = rw (le-leb i k l) (omega arith)
 
-or-right : (b : Bool) → b || true ≡ true
-or-right true = refl
-or-right false = refl
-
 pub gap-front : (h i k : ℕ) → k < h → 0 < aisleTreads (Gap h i) k
 gap-front h i k l = rw (lt-ltb k h l) (omega arith)
 
 pub gap-back : (h i k : ℕ) → i ≤ k → 0 < aisleTreads (Gap h i) k
-gap-back h i k l = rw (le-leb i k l, or-right (ltb k h)) (omega arith)
+gap-back h i k l = rw (le-leb i k l, or-true (ltb k h)) (omega arith)
 
 -- the edge of an aisle that an action leaves untrodden; none under ONCE and TWICE
 pub untrodden : (cells : ℕ) (a : Action) → Fits cells a → onceOrTwice a ≡ false → (k : ℕ) × (k ≤ cells) × (aisleTreads a k ≡ 0)
@@ -78,26 +75,14 @@ untrodden cells Void f e = (0, omega arith, refl)
 untrodden cells (Bottom i) f e = (i, f .1, rw (le-ltb i i (omega arith)))
 untrodden cells (Top i) f e = (i - 1, omega arith, rw (lt-leb i (i - 1) (omega arith)))
 untrodden cells (Gap h i) f e = (h, omega arith, rw (le-ltb h h (omega arith), lt-leb i h (f .1)))
-untrodden cells Once f e = absurd (let c : _≡_ {A = ℕ} 0 1 = cc in omega arith)
-untrodden cells Twice f e = absurd (let c : _≡_ {A = ℕ} 0 1 = cc in omega arith)
+untrodden cells Once f e = absurd (true-not-false e)
+untrodden cells Twice f e = absurd (true-not-false e)
 
 nth-past : {A : Type 0} (xs : List A) (j : ℕ) (d : A) → length xs < j → nth xs j d ≡ d
 nth-past xs zero d l = refl
 nth-past [] (suc j) d l = refl
 nth-past (x ∷ xs) (suc zero) d l = absurd (omega arith)
 nth-past (x ∷ xs) (suc (suc j)) d l = nth-past xs (suc j) d (omega arith)
-
--- two numbers in their order
-pub split-at : (i n : ℕ) → (i < n) ⊎ (n ≤ i)
-split-at i n = go (ltb i n) refl
-  where
-    go : (b : Bool) → ltb i n ≡ b → (i < n) ⊎ (n ≤ i)
-    go true e = inl (ltb-true i n e)
-    go false e = inr (ltb-false i n e)
-
--- below a successor: below the number, or the number itself
-pub below : (i n : ℕ) → i ≤ suc n → (i ≤ n) ⊎ (i ≡ suc n)
-below i n l = elim (split-at n i) [ inl h ↦ inr (omega arith) | inr h ↦ inl h ]
 
 module _ {z : Layout} {plan : Plan} (wf : WellFormed z plan) where
   -- behind the last aisle nothing is trodden
@@ -109,6 +94,7 @@ module _ {z : Layout} {plan : Plan} (wf : WellFormed z plan) where
   unfolding actionAt
   action-past j l = let e = wf .aisles in nth-past (plan .actions) j Void (omega arith)
 
+  -- before the first aisle no edge of the store has been seen, behind the last one all have
   pub none-seen : (e : Edge) → Trodden z (multiplicity plan) e → Seen 0 0 e → ⊥
   unfolding Trodden InStore
   none-seen (along j k) t seen = omega arith
@@ -147,7 +133,8 @@ module _ {z : Layout} {plan : Plan} (wf : WellFormed z plan) where
   unfolding startOf endOf backHeight
   back-over j low t = edge-forth (back j) (back-edge j low t)
 
-  pub trodden-along : (j : ℕ) → 1 ≤ j → j ≤ z .aisles → (k : ℕ) → k ≤ z .cells → 0 < aisleTreads (actionAt plan j) k
+  -- an edge that the action of an aisle of the store treads is trodden
+  trodden-along : (j : ℕ) → 1 ≤ j → j ≤ z .aisles → (k : ℕ) → k ≤ z .cells → 0 < aisleTreads (actionAt plan j) k
       → Trodden z (multiplicity plan) (along j k)
   unfolding Trodden InStore multiplicity
   trodden-along j low high k l t = ((low, high, l), t)
@@ -211,7 +198,7 @@ module _ {z : Layout} {plan : Plan} (wf : WellFormed z plan) where
 
     -- an entered aisle has a trodden edge
     pub entered-edge : (a : Action) → actionAt plan j ≡ a → entered a ≡ true → (e : Edge) × Trodden z (multiplicity plan) e
-    entered-edge Void e h = absurd (let c : _≡_ {A = ℕ} 0 1 = cc in omega arith)
+    entered-edge Void e h = absurd (false-not-true h)
     entered-edge (Bottom i) e h =
         let f = subst (Fits (z .cells)) e (wf .fits j) in
         (along j 0, trodden-along j low high 0 (omega arith) (rw e (bottom-treads i 0 (omega arith))))

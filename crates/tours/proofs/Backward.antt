@@ -1,13 +1,13 @@
 -- Lawful plans are accepted: from left to right, no step of a lawful plan leads to `dead`.
 -- Where the crossings of an aisle are not linked so far, a set of points tells them apart that no trodden edge seen so far leaves.
-use Prim.Native.Nat.{ℕ, zero, suc, _+_, _-_, _%_, _≤_, _<_}
+use Prim.Native.Nat.{ℕ, zero, suc, _%_, _≤_, _<_}
 use native.Mathlib.Omega.{arith}
 use native.Mathlib.Nat.{le-of-eq}
 use mathlib.Core.Path.{_≡_, refl, sym, subst, ap, _∙_}
-use mathlib.Core.Logic.{_⊎_, inl, inr}
+use mathlib.Core.Logic.{inl, inr}
 use mathlib.Core.Bool.{Bool, true, false, cond}
 use lib.Dec.{ltb, leb, eqb}
-use borrow.Author.Tests.{ltb-true, ltb-false, leb-true, leb-false, eqb-true, eqb-false, lt-ltb, le-ltb, le-leb, lt-leb, eq-eqb, ne-eqb}
+use borrow.Author.Tests.{ltb-true, ltb-false, leb-true, leb-false, eqb-true, lt-ltb, le-ltb, le-leb, lt-leb}
 use Rattle.rules.specs.declared.Layout.{Layout}
 use Rattle.rules.specs.declared.Action.{Action}
 use Rattle.rules.specs.declared.Action.the-variants.{Void, Bottom, Top, Gap, Once, Twice}
@@ -15,11 +15,12 @@ use Rattle.rules.specs.declared.Passage.{Passage}
 use Rattle.rules.specs.declared.Passage.the-variants.{P00, P02, P11, P20, P22}
 use Rattle.rules.specs.Store.{Point, Edge, along, front, back, startOf, endOf, backHeight, depotPoint, InStore}
 use Rattle.rules.specs.Plans.{Plan, WellFormed, Fits, actionAt, passageAt, aisleTreads, backTreads, frontTreads, multiplicity}
-use Rattle.rules.specs.Lawful.{Trodden, Touched, Linked, Lawful}
+use Rattle.rules.specs.Lawful.{Trodden, Touched, Lawful}
 use Rattle.rules.specs.Machine.{State, nothing, closed, atFront, atBack, odd, joined, split, ending, dead, row, lawfulStep, crossStep}
 use Rattle.tours.specs.Prefixes.{lawfulState}
+use Rattle.tours.proofs.Basics.{split-at, below, not-trodden, true-not-false}
 use Rattle.tours.proofs.Links.{linked-inside}
-use Rattle.tours.proofs.Aisles.{frontOf, backOf, pointAt, Seen, all-seen, none-seen, split-at, below, passage-past, front-edge, back-edge, onceOrTwice, untrodden, front-touched, back-touched, bottom-treads, top-treads, gap-front, gap-back}
+use Rattle.tours.proofs.Aisles.{frontOf, backOf, pointAt, Seen, all-seen, none-seen, passage-past, front-edge, back-edge, onceOrTwice, untrodden, front-touched, back-touched, bottom-treads, top-treads, gap-front, gap-back}
 use Rattle.tours.proofs.Parity.{Live, oddness, next-parity, run-parity}
 
 -- a set of points that no trodden edge seen so far leaves, with the back crossing of aisle h inside and the front one outside
@@ -50,8 +51,18 @@ Before z plan i s = Backward z plan s i i (suc i)
 abbrev Behind : Layout → Plan → ℕ → State → Type 0
 Behind z plan i s = Backward z plan s (suc i) i (suc i)
 
-different : true ≡ false → ⊥
-different e = let c : _≡_ {A = ℕ} 0 1 = cc in omega arith
+-- a passage with an untrodden cross-aisle: the front one, or the back one
+abbrev Free : Bool → Passage → Type 0
+Free true p = frontTreads p ≡ 0
+Free false p = backTreads p ≡ 0
+
+free-front : (b : Bool) (p : Passage) → Free b p → 0 < frontTreads p → b ≡ false
+free-front true p e t = not-trodden e t
+free-front false p e t = refl
+
+free-back : (b : Bool) (p : Passage) → Free b p → 0 < backTreads p → b ≡ true
+free-back true p e t = refl
+free-back false p e t = not-trodden e t
 
 -- the points above height k
 abbrev higher : ℕ → Point → Bool
@@ -73,7 +84,7 @@ module _ {z : Layout} {plan : Plan} (wf : WellFormed z plan) (law : Lawful z pla
       → ((e : Edge) → Trodden z (multiplicity plan) e → inside (startOf z e) ≡ inside (endOf z e))
       → (x y : Point) → Touched z (multiplicity plan) x → Touched z (multiplicity plan) y
       → inside x ≡ true → inside y ≡ false → ⊥
-  one-side inside keeps x y t u e f = different (sym e ∙ (linked-inside inside keeps (law .together x y t u) ∙ f))
+  one-side inside keeps x y t u e f = true-not-false (sym e ∙ (linked-inside inside keeps (law .together x y t u) ∙ f))
 
   -- nothing is linked across a passage 00
   no-crossing : (c : ℕ) → passageAt plan c ≡ P00 → (x y : Point) → Touched z (multiplicity plan) x → Touched z (multiplicity plan) y
@@ -194,24 +205,26 @@ module _ {z : Layout} {plan : Plan} (wf : WellFormed z plan) (law : Lawful z pla
         }
 
     -- a passage with an untrodden cross-aisle parts the crossings behind it, 22 keeps them parted
-    cut-constant : (b : Bool)
-        → (0 < frontTreads (passageAt plan (suc i)) → b ≡ false) → (0 < backTreads (passageAt plan (suc i)) → b ≡ true)
-        → Cut z (multiplicity plan) (suc i) (suc i) (suc (suc i))
-    cut-constant b f k = cut-passage (λ (x : Point). b) (λ e t seen. refl) f k
+    cut-constant : (b : Bool) → Free b (passageAt plan (suc i)) → Cut z (multiplicity plan) (suc i) (suc i) (suc (suc i))
+    cut-constant b free =
+        let p = passageAt plan (suc i) in
+        cut-passage (λ (x : Point). b) (λ e t seen. refl) (free-front b p free) (free-back b p free)
 
     cut-both : Cut z (multiplicity plan) (suc i) i (suc i) → Cut z (multiplicity plan) (suc i) (suc i) (suc (suc i))
     cut-both c = cut-passage (c .inside) (c .keeps) (λ t. c .front-out) (λ t. c .back-in)
 
     -- the crossings of an aisle are not both touched if they stay parted for good: nothing joins them beyond
-    parted : (b : Bool) → Cut z (multiplicity plan) (suc i) i (suc i)
-        → (0 < frontTreads (passageAt plan (suc i)) → b ≡ false) → (0 < backTreads (passageAt plan (suc i)) → b ≡ true)
+    parted : (b : Bool) → Free b (passageAt plan (suc i)) → Cut z (multiplicity plan) (suc i) i (suc i)
         → Touched z (multiplicity plan) (frontOf (suc i)) → Touched z (multiplicity plan) (backOf z (suc i)) → ⊥
     unfolding startOf endOf backHeight
-    parted b c f k at-front at-back =
+    parted b free c at-front at-back =
         one-side inside keeps (backOf z (suc i)) (frontOf (suc i)) at-back at-front
         (up-to-left (suc i) (c .inside) right (backOf z (suc i)) (omega arith) ∙ c .back-in)
         (up-to-left (suc i) (c .inside) right (frontOf (suc i)) (omega arith) ∙ c .front-out)
       where
+        p : Passage
+        p = passageAt plan (suc i)
+
         right : Point → Bool
         right = λ (x : Point). b
 
@@ -219,7 +232,8 @@ module _ {z : Layout} {plan : Plan} (wf : WellFormed z plan) (law : Lawful z pla
         inside = upTo (suc i) (c .inside) right
 
         seen : (e : Edge) → Trodden z (multiplicity plan) e → Seen (suc i) (suc i) e → inside (startOf z e) ≡ inside (endOf z e)
-        seen = beyond (c .inside) right (c .keeps) (λ t. c .front-out ∙ sym (f t)) (λ t. c .back-in ∙ sym (k t))
+        seen = beyond (c .inside) right (c .keeps)
+            (λ t. c .front-out ∙ sym (free-front b p free t)) (λ t. c .back-in ∙ sym (free-back b p free t))
 
         further : (x y : Point) → suc i < x .aisle → suc i < y .aisle → inside x ≡ inside y
         further x y l h = up-to-right (suc i) (c .inside) right x l ∙ sym (up-to-right (suc i) (c .inside) right y h)
@@ -379,8 +393,11 @@ module _ {z : Layout} {plan : Plan} (wf : WellFormed z plan) (law : Lawful z pla
     unfolding depotPoint
     too-early e u c l = elim (split-at (suc i) (z .depot)) [
       | inl h ↦ no-crossing (suc i) e (depotPoint z) (backOf z (suc i)) (law .depot-touched) u h (omega arith)
-      | inr h ↦ parted i true c (λ t. absurd (let r = rw e at t in omega arith)) (λ t. refl) (depot-here (omega arith)) u
+      | inr h ↦ parted i true (rw e) c (depot-here (omega arith)) u
     ]
+
+    both-go-on : passageAt plan (suc i) ≡ P22 → Cut z (multiplicity plan) (suc i) i (suc i) → Before z plan (suc i) split
+    both-go-on e c = (front-right (rw e (omega arith)), back-right (rw e (omega arith)), cut-both i c)
 
     -- closing off behind the depot, and only there
     closing : (x : Point) → Touched z (multiplicity plan) x → x .aisle ≤ suc i → passageAt plan (suc i) ≡ P00
@@ -397,7 +414,7 @@ module _ {z : Layout} {plan : Plan} (wf : WellFormed z plan) (law : Lawful z pla
     backward-passage P00 e nothing o (q, c) =
         unless (eqb (suc i) (z .depot)) nothing
         (λ h. depot-waits q (rw e) (depot-here (sym (eqb-true (suc i) (z .depot) h))))
-        (λ h. (quiet q e, cut-constant i true (λ t. absurd (let r = rw e at t in omega arith)) (λ t. refl)))
+        (λ h. (quiet q e, cut-constant i true (rw e)))
     backward-passage P00 e closed o (c, d, g, l) = (c, d, g, omega arith)
     backward-passage P00 e atFront o (t, c) = closing (frontOf (suc i)) t (omega arith) e
     backward-passage P00 e atBack o (t, c) =
@@ -407,18 +424,18 @@ module _ {z : Layout} {plan : Plan} (wf : WellFormed z plan) (law : Lawful z pla
     backward-passage P00 e odd o b = absurd (omega arith)
     backward-passage P00 e joined o t = closing (frontOf (suc i)) t (omega arith) e
     backward-passage P00 e split o (t, u, c) =
-        parted i true c (λ t. absurd (let r = rw e at t in omega arith)) (λ t. refl) t u
+        parted i true (rw e) c t u
     backward-passage P00 e ending o b = absurd b
     backward-passage P00 e dead o b = b
-    backward-passage P02 e nothing o (q, c) = (front-right (rw e (omega arith)), cut-constant i false (λ t. refl) (λ t. absurd (let r = rw e at t in omega arith)))
+    backward-passage P02 e nothing o (q, c) = (front-right (rw e (omega arith)), cut-constant i false (rw e))
     backward-passage P02 e closed o b = reopened b (frontOf (suc (suc i))) (front-right (rw e (omega arith))) (omega arith)
-    backward-passage P02 e atFront o (t, c) = (front-right (rw e (omega arith)), cut-constant i false (λ t. refl) (λ t. absurd (let r = rw e at t in omega arith)))
+    backward-passage P02 e atFront o (t, c) = (front-right (rw e (omega arith)), cut-constant i false (rw e))
     backward-passage P02 e atBack o (u, c) =
-        parted i false c (λ t. refl) (λ t. absurd (let r = rw e at t in omega arith)) (front-left (rw e (omega arith))) u
+        parted i false (rw e) c (front-left (rw e (omega arith))) u
     backward-passage P02 e odd o b = absurd (omega arith)
-    backward-passage P02 e joined o t = (front-right (rw e (omega arith)), cut-constant i false (λ t. refl) (λ t. absurd (let r = rw e at t in omega arith)))
+    backward-passage P02 e joined o t = (front-right (rw e (omega arith)), cut-constant i false (rw e))
     backward-passage P02 e split o (t, u, c) =
-        parted i false c (λ t. refl) (λ t. absurd (let r = rw e at t in omega arith)) t u
+        parted i false (rw e) c t u
     backward-passage P02 e ending o b = b
     backward-passage P02 e dead o b = b
     backward-passage P11 e nothing o b = omega arith
@@ -433,27 +450,27 @@ module _ {z : Layout} {plan : Plan} (wf : WellFormed z plan) (law : Lawful z pla
     backward-passage P20 e nothing o (q, c) =
         unless (eqb (suc i) (z .depot)) atBack
         (λ h. depot-waits q (rw e) (depot-here (sym (eqb-true (suc i) (z .depot) h))))
-        (λ h. (back-right (rw e (omega arith)), cut-constant i true (λ t. absurd (let r = rw e at t in omega arith)) (λ t. refl)))
+        (λ h. (back-right (rw e (omega arith)), cut-constant i true (rw e)))
     backward-passage P20 e closed o b = reopened b (backOf z (suc (suc i))) (back-right (rw e (omega arith))) (omega arith)
     backward-passage P20 e atFront o (t, c) =
-        parted i true c (λ t. absurd (let r = rw e at t in omega arith)) (λ t. refl) t (back-left (rw e (omega arith)))
+        parted i true (rw e) c t (back-left (rw e (omega arith)))
     backward-passage P20 e atBack o (u, c) =
         unless (eqb (suc i) (z .depot)) atBack
-        (λ h. parted i true c (λ t. absurd (let r = rw e at t in omega arith)) (λ t. refl) (depot-here (sym (eqb-true (suc i) (z .depot) h))) u)
-        (λ h. (back-right (rw e (omega arith)), cut-constant i true (λ t. absurd (let r = rw e at t in omega arith)) (λ t. refl)))
+        (λ h. parted i true (rw e) c (depot-here (sym (eqb-true (suc i) (z .depot) h))) u)
+        (λ h. (back-right (rw e (omega arith)), cut-constant i true (rw e)))
     backward-passage P20 e odd o b = absurd (omega arith)
-    backward-passage P20 e joined o t = (back-right (rw e (omega arith)), cut-constant i true (λ t. absurd (let r = rw e at t in omega arith)) (λ t. refl))
+    backward-passage P20 e joined o t = (back-right (rw e (omega arith)), cut-constant i true (rw e))
     backward-passage P20 e split o (t, u, c) =
-        parted i true c (λ t. absurd (let r = rw e at t in omega arith)) (λ t. refl) t u
+        parted i true (rw e) c t u
     backward-passage P20 e ending o b = b
     backward-passage P20 e dead o b = b
-    backward-passage P22 e nothing o (q, c) = (front-right (rw e (omega arith)), back-right (rw e (omega arith)), cut-both i c)
+    backward-passage P22 e nothing o (q, c) = both-go-on e c
     backward-passage P22 e closed o b = reopened b (frontOf (suc (suc i))) (front-right (rw e (omega arith))) (omega arith)
-    backward-passage P22 e atFront o (t, c) = (front-right (rw e (omega arith)), back-right (rw e (omega arith)), cut-both i c)
-    backward-passage P22 e atBack o (u, c) = (front-right (rw e (omega arith)), back-right (rw e (omega arith)), cut-both i c)
+    backward-passage P22 e atFront o (t, c) = both-go-on e c
+    backward-passage P22 e atBack o (u, c) = both-go-on e c
     backward-passage P22 e odd o b = absurd (omega arith)
     backward-passage P22 e joined o t = front-right (rw e (omega arith))
-    backward-passage P22 e split o (t, u, c) = (front-right (rw e (omega arith)), back-right (rw e (omega arith)), cut-both i c)
+    backward-passage P22 e split o (t, u, c) = both-go-on e c
     backward-passage P22 e ending o b = b
     backward-passage P22 e dead o b = b
 

@@ -13,29 +13,29 @@ use Rattle.rules.specs.Lists.{sumOf, nth}
 use Rattle.rules.specs.Plans.{Plan, WellFormed, actionAt, entered}
 use Rattle.rules.specs.Policies.{enteredAisles, Entered, First, Last, IsBottom}
 use Rattle.tours.specs.Prefixes.{enteredUpTo}
-use Rattle.tours.proofs.Aisles.{below, split-at, action-past}
-
-pub no-contradiction : true ≡ false → ⊥
-no-contradiction e = let c : _≡_ {A = ℕ} 0 1 = cc in omega arith
+use Rattle.tours.proofs.Basics.{below, split-at, true-not-false, false-not-true}
+use Rattle.tours.proofs.Aisles.{action-past}
 
 -- an aisle that is not entered is VOID
-pub void-unless-entered : (a : Action) → entered a ≡ false → a ≡ Void
+void-unless-entered : (a : Action) → entered a ≡ false → a ≡ Void
 void-unless-entered Void e = refl
-void-unless-entered (Bottom i) e = absurd (no-contradiction e)
-void-unless-entered (Top i) e = absurd (no-contradiction e)
-void-unless-entered (Gap h i) e = absurd (no-contradiction e)
-void-unless-entered Once e = absurd (no-contradiction e)
-void-unless-entered Twice e = absurd (no-contradiction e)
+void-unless-entered (Bottom i) e = absurd (true-not-false e)
+void-unless-entered (Top i) e = absurd (true-not-false e)
+void-unless-entered (Gap h i) e = absurd (true-not-false e)
+void-unless-entered Once e = absurd (true-not-false e)
+void-unless-entered Twice e = absurd (true-not-false e)
 
 module _ (plan : Plan) where
+  -- an aisle is entered or not
   pub entered? : (j : ℕ) → Entered plan j ⊎ (Entered plan j → ⊥)
   unfolding Entered
   entered? j = go (entered (actionAt plan j)) refl
     where
       go : (b : Bool) → entered (actionAt plan j) ≡ b → (entered (actionAt plan j) ≡ true) ⊎ (entered (actionAt plan j) ≡ true → ⊥)
       go true e = inl e
-      go false e = inr (λ h. no-contradiction (sym h ∙ e))
+      go false e = inr (λ h. true-not-false (sym h ∙ e))
 
+  -- not entered is VOID; BOTTOM and ONCE are entered
   pub not-entered-void : (j : ℕ) → (Entered plan j → ⊥) → actionAt plan j ≡ Void
   unfolding Entered
   not-entered-void j n = go (entered (actionAt plan j)) refl
@@ -46,7 +46,7 @@ module _ (plan : Plan) where
 
   pub void-not-entered : (j : ℕ) → actionAt plan j ≡ Void → Entered plan j → ⊥
   unfolding Entered
-  void-not-entered j e h = no-contradiction (sym h ∙ rw e)
+  void-not-entered j e h = true-not-false (sym h ∙ rw e)
 
   pub bottom-entered : (j : ℕ) → IsBottom (actionAt plan j) → Entered plan j
   unfolding IsBottom Entered
@@ -56,6 +56,7 @@ module _ (plan : Plan) where
   unfolding Entered
   once-entered j e = rw e
 
+  -- an entered aisle adds one, any other nothing
   pub count-rises : (i : ℕ) → Entered plan (suc i) → enteredUpTo plan (suc i) ≡ suc (enteredUpTo plan i)
   unfolding Entered
   count-rises i e = rw e (omega arith)
@@ -64,14 +65,15 @@ module _ (plan : Plan) where
   count-stays i n = rw (not-entered-void (suc i) n) (omega arith)
 
   -- where no aisle is entered from a + 1 to n the number stays
-  pub count-still : (a n : ℕ) → a ≤ n → ((j : ℕ) → a < j → j ≤ n → Entered plan j → ⊥) → enteredUpTo plan n ≡ enteredUpTo plan a
+  count-still : (a n : ℕ) → a ≤ n → ((j : ℕ) → a < j → j ≤ n → Entered plan j → ⊥) → enteredUpTo plan n ≡ enteredUpTo plan a
   count-still a zero l none = let p : a ≡ 0 = omega arith in rw p
   count-still a (suc n) l none = elim (below a n l) [
     | inl h ↦ count-stays n (none (suc n) (omega arith) (omega arith)) ∙ count-still a n h (λ j g k. none j g (omega arith))
     | inr p ↦ rw p
   ]
 
-  pub count-grows : (a n : ℕ) → a ≤ n → enteredUpTo plan a ≤ enteredUpTo plan n
+  -- the number only grows
+  count-grows : (a n : ℕ) → a ≤ n → enteredUpTo plan a ≤ enteredUpTo plan n
   count-grows a zero l = let p : a ≡ 0 = omega arith in rw p (omega arith)
   count-grows a (suc n) l = elim (below a n l) [
     | inl h ↦ let g = count-grows a n h in omega arith
@@ -79,11 +81,11 @@ module _ (plan : Plan) where
   ]
 
   -- the last entered aisle of the first n, or none
-  pub last-of : (n : ℕ)
+  last-up-to : (n : ℕ)
       → ((j : ℕ) → 1 ≤ j → j ≤ n → Entered plan j → ⊥)
       ⊎ ((k : ℕ) × (1 ≤ k) × (k ≤ n) × Entered plan k × ((j : ℕ) → k < j → j ≤ n → Entered plan j → ⊥))
-  last-of zero = inl (λ j l h e. omega arith)
-  last-of (suc n) = go (entered? (suc n)) (last-of n)
+  last-up-to zero = inl (λ j l h e. omega arith)
+  last-up-to (suc n) = go (entered? (suc n)) (last-up-to n)
     where
       go : Entered plan (suc n) ⊎ (Entered plan (suc n) → ⊥)
           → ((j : ℕ) → 1 ≤ j → j ≤ n → Entered plan j → ⊥)
@@ -96,11 +98,11 @@ module _ (plan : Plan) where
           inr (k, low, omega arith, f, λ j l h g. elim (below j n h) [ inl i ↦ none j l i g | inr p ↦ e (rw p at g) ])
 
   -- the first entered aisle of the first n, or none
-  pub first-of : (n : ℕ)
+  first-up-to : (n : ℕ)
       → ((j : ℕ) → 1 ≤ j → j ≤ n → Entered plan j → ⊥)
       ⊎ ((k : ℕ) × (1 ≤ k) × (k ≤ n) × Entered plan k × ((j : ℕ) → 1 ≤ j → j < k → Entered plan j → ⊥))
-  first-of zero = inl (λ j l h e. omega arith)
-  first-of (suc n) = go (entered? (suc n)) (first-of n)
+  first-up-to zero = inl (λ j l h e. omega arith)
+  first-up-to (suc n) = go (entered? (suc n)) (first-up-to n)
     where
       go : Entered plan (suc n) ⊎ (Entered plan (suc n) → ⊥)
           → ((j : ℕ) → 1 ≤ j → j ≤ n → Entered plan j → ⊥)
@@ -124,14 +126,16 @@ module _ (plan : Plan) where
       omega arith
 
 module _ {z : Layout} {plan : Plan} (wf : WellFormed z plan) where
+  -- entered aisles are the store's
   pub entered-inside : (j : ℕ) → Entered plan j → (1 ≤ j) × (j ≤ z .aisles)
   unfolding actionAt Entered
-  entered-inside zero e = absurd (no-contradiction (sym e))
+  entered-inside zero e = absurd (false-not-true e)
   entered-inside (suc j) e = elim (split-at j (z .aisles)) [
     | inl l ↦ (omega arith, l)
     | inr l ↦ absurd (void-not-entered plan (suc j) (action-past wf (suc j) (omega arith)) e)
   ]
 
+  -- the number of entered aisles, by prefixes
   pub count-all : enteredAisles plan ≡ enteredUpTo plan (z .aisles)
   unfolding enteredAisles actionAt
   count-all =
@@ -142,7 +146,7 @@ module _ {z : Layout} {plan : Plan} (wf : WellFormed z plan) where
   -- the last entered aisle of a plan, or none is entered
   pub last-entered : ((j : ℕ) → Entered plan j → ⊥) ⊎ ((k : ℕ) × Last plan k)
   unfolding Last
-  last-entered = elim (last-of plan (z .aisles)) [
+  last-entered = elim (last-up-to plan (z .aisles)) [
     | inl none ↦ inl (λ j e. none j (entered-inside j e .0) (entered-inside j e .1) e)
     | inr f ↦ inr (f .0, (f .3, λ j l e. f .4 j l (entered-inside j e .1) e))
   ]
@@ -150,7 +154,7 @@ module _ {z : Layout} {plan : Plan} (wf : WellFormed z plan) where
   -- the first entered aisle of a plan, or none is entered
   pub first-entered : ((j : ℕ) → Entered plan j → ⊥) ⊎ ((k : ℕ) × First plan k)
   unfolding First
-  first-entered = elim (first-of plan (z .aisles)) [
+  first-entered = elim (first-up-to plan (z .aisles)) [
     | inl none ↦ inl (λ j e. none j (entered-inside j e .0) (entered-inside j e .1) e)
     | inr f ↦ inr (f .0, (f .3, λ j l e. f .4 j (entered-inside j e .0) l e))
   ]
@@ -176,11 +180,5 @@ module _ {z : Layout} {plan : Plan} (wf : WellFormed z plan) where
       let q = count-rises plan b g in
       let r = count-grows plan (suc a) b (omega arith) in
       let s = count-grows plan (suc b) (z .aisles) (h .1) in
-      let d = count-all in
-      omega arith
-
-  pub count-none : ((j : ℕ) → Entered plan j → ⊥) → enteredAisles plan ≡ 0
-  count-none none =
-      let c = count-still plan 0 (z .aisles) (omega arith) (λ j g h. none j) in
       let d = count-all in
       omega arith

@@ -1,14 +1,14 @@
 -- EXACT: the machine's table closes off just the lawful plans.
-use Prim.Native.Nat.{ℕ, zero, suc, _%_, _≤_, _<_}
+use Prim.Native.Nat.{ℕ, zero, suc, _%_, _≤_}
 use native.Mathlib.Omega.{arith}
-use mathlib.Core.Path.{_≡_, refl, sym, subst}
-use mathlib.Core.Logic.{_⊎_, inl, inr, _↔_}
+use mathlib.Core.Path.{_≡_, sym, subst}
+use mathlib.Core.Logic.{inl, inr, _↔_}
 use Rattle.rules.specs.declared.Layout.{Layout}
 use Rattle.rules.specs.Plans.{Plan, WellFormed, actionAt, passageAt, multiplicity}
 use Rattle.rules.specs.Lawful.{Lawful, frontDegree, backDegree}
-use Rattle.rules.specs.Machine.{State, closed, lawfulStep}
+use Rattle.rules.specs.Machine.{closed, lawfulStep}
 use Rattle.tours.specs.Prefixes.{lawfulState}
-use Rattle.tours.proofs.Aisles.{below}
+use Rattle.tours.proofs.Basics.{below}
 use Rattle.tours.proofs.Forward.{accepted-together, accepted-depot}
 use Rattle.tours.proofs.Parity.{Live, live-before-action, live-before-passage, front-crossing-even, back-crossing-even}
 use Rattle.tours.proofs.Backward.{lawful-closed}

@@ -1,6 +1,6 @@
 -- Accepted plans hang together: from left to right, every trodden edge seen so far is linked to a crossing
 -- at which the plan can still go on, or to the depot once all is closed off.
-use Prim.Native.Nat.{ℕ, zero, suc, _+_, _-_, _≤_, _<_}
+use Prim.Native.Nat.{ℕ, zero, suc, _≤_, _<_}
 use native.Mathlib.Omega.{arith}
 use mathlib.Core.Path.{_≡_, refl, sym, subst}
 use mathlib.Core.Logic.{_⊎_, inl, inr}
@@ -13,12 +13,13 @@ use Rattle.rules.specs.declared.Action.the-variants.{Void, Bottom, Top, Gap, On
 use Rattle.rules.specs.declared.Passage.{Passage}
 use Rattle.rules.specs.declared.Passage.the-variants.{P00, P02, P11, P20, P22}
 use Rattle.rules.specs.Store.{Point, Edge, along, front, back, startOf, backHeight, depotPoint, InStore}
-use Rattle.rules.specs.Plans.{Plan, WellFormed, Fits, actionAt, passageAt, aisleTreads, backTreads, frontTreads, multiplicity}
-use Rattle.rules.specs.Lawful.{Trodden, Touched, Linked, here, step}
+use Rattle.rules.specs.Plans.{Plan, WellFormed, actionAt, passageAt, aisleTreads, backTreads, frontTreads, multiplicity}
+use Rattle.rules.specs.Lawful.{Trodden, Touched, Linked, here}
 use Rattle.rules.specs.Machine.{State, nothing, closed, atFront, atBack, odd, joined, split, ending, dead, row, lawfulStep, crossStep}
 use Rattle.tours.specs.Prefixes.{lawfulState}
+use Rattle.tours.proofs.Basics.{below, not-trodden}
 use Rattle.tours.proofs.Links.{linked-trans, linked-sym, edge-back, touched-end}
-use Rattle.tours.proofs.Aisles.{frontOf, backOf, pointAt, Seen, all-seen, none-seen, below, whole-aisle, Reached, reached, front-over, back-over, front-edge, back-edge, entered-edge}
+use Rattle.tours.proofs.Aisles.{frontOf, backOf, pointAt, Seen, all-seen, none-seen, whole-aisle, Reached, reached, front-over, back-over, front-edge, back-edge, entered-edge}
 
 -- a point is linked to a crossing of aisle h at which the plan can still go on in this state
 abbrev Anchor : Layout → (Edge → ℕ) → State → ℕ → Point → Type 0
@@ -126,7 +127,7 @@ module _ {z : Layout} {plan : Plan} (wf : WellFormed z plan) (i : ℕ) (high : s
   forward-action : (a : Action) → actionAt plan (suc i) ≡ a → (s : State)
       → Before z plan i s → Behind z plan i (lawfulStep a s)
   forward-action Void e = λ s f.
-      over-aisle s f (λ x p. p) (λ k l t. absurd (let h = rw e at t in omega arith)) (f .bridge) (f .some)
+      over-aisle s f (λ x p. p) (λ k l. not-trodden (rw e)) (f .bridge) (f .some)
   forward-action (Bottom n) e =
       let own = own-edges (Bottom n) e in
       let some = entered-edge wf (suc i) (omega arith) high (Bottom n) e refl in
@@ -219,8 +220,8 @@ module _ {z : Layout} {plan : Plan} (wf : WellFormed z plan) (i : ℕ) (high : s
       → passageAt plan (suc i) ≡ P00 → Before z plan (suc i) closed
   close s f keep some e =
       over-passage closed f keep
-      (λ t. absurd (let h = rw e at t in omega arith))
-      (λ t. absurd (let h = rw e at t in omega arith))
+      (not-trodden (rw e))
+      (not-trodden (rw e))
       (λ p. subst (λ (n : ℕ). Linked z (multiplicity plan) (frontOf (z .depot)) (frontOf n)) p here)
       tt some
 
@@ -268,8 +269,8 @@ module _ {z : Layout} {plan : Plan} (wf : WellFormed z plan) (i : ℕ) (high : s
       → Before z plan (suc i) (crossStep (z .depot) (suc i) p s)
   forward-passage P00 e nothing f = unless (eqb (suc i) (z .depot)) nothing (λ ne.
       over-passage nothing f (λ x p. p)
-      (λ t. let h = rw e at t in omega arith)
-      (λ t. let h = rw e at t in omega arith)
+      (not-trodden (rw e))
+      (not-trodden (rw e))
       (λ p. eqb-false (suc i) (z .depot) ne (sym p))
       tt tt)
   forward-passage P00 e closed f = close closed f (λ x p. p) (f .some) e
@@ -289,18 +290,18 @@ module _ {z : Layout} {plan : Plan} (wf : WellFormed z plan) (i : ℕ) (high : s
   forward-passage P02 e nothing f =
       let t : 0 < frontTreads (passageAt plan (suc i)) = rw e (omega arith) in
       let o = front-over wf (suc i) (omega arith) t in
-      over-passage atFront f (λ x p. absurd p) (λ t. o) (λ t. absurd (let h = rw e at t in omega arith)) (λ p. o)
+      over-passage atFront f (λ x p. absurd p) (λ t. o) (not-trodden (rw e)) (λ p. o)
       tt (front (suc i), front-edge wf (suc i) (omega arith) t)
   forward-passage P02 e closed f = dead-forward
   forward-passage P02 e atFront f =
       let o = front-over wf (suc i) (omega arith) (rw e (omega arith)) in
-      over-passage atFront f (λ x p. linked-trans o p) (λ t. o) (λ t. absurd (let h = rw e at t in omega arith)) (λ p. o)
+      over-passage atFront f (λ x p. linked-trans o p) (λ t. o) (not-trodden (rw e)) (λ p. o)
       tt (f .some)
   forward-passage P02 e atBack f = dead-forward
   forward-passage P02 e odd f = dead-forward
   forward-passage P02 e joined f =
       let o = front-over wf (suc i) (omega arith) (rw e (omega arith)) in
-      over-passage atFront f (λ x p. linked-trans o p) (λ t. o) (λ t. absurd (let h = rw e at t in omega arith)) (λ p. o)
+      over-passage atFront f (λ x p. linked-trans o p) (λ t. o) (not-trodden (rw e)) (λ p. o)
       tt (f .some)
   forward-passage P02 e split f = dead-forward
   forward-passage P02 e ending f = absurd (f .bridge)
@@ -319,7 +320,7 @@ module _ {z : Layout} {plan : Plan} (wf : WellFormed z plan) (i : ℕ) (high : s
   forward-passage P11 e dead f = dead-forward
   forward-passage P20 e nothing f = unless (eqb (suc i) (z .depot)) atBack (λ ne.
       let t : 0 < backTreads (passageAt plan (suc i)) = rw e (omega arith) in
-      over-passage atBack f (λ x p. absurd p) (λ t. absurd (let h = rw e at t in omega arith))
+      over-passage atBack f (λ x p. absurd p) (not-trodden (rw e))
       (λ t. back-over wf (suc i) (omega arith) t)
       (λ p. absurd (eqb-false (suc i) (z .depot) ne (sym p)))
       tt (back (suc i), back-edge wf (suc i) (omega arith) t))
@@ -327,7 +328,7 @@ module _ {z : Layout} {plan : Plan} (wf : WellFormed z plan) (i : ℕ) (high : s
   forward-passage P20 e atFront f = dead-forward
   forward-passage P20 e atBack f = unless (eqb (suc i) (z .depot)) atBack (λ ne.
       let o = back-over wf (suc i) (omega arith) (rw e (omega arith)) in
-      over-passage atBack f (λ x p. linked-trans o p) (λ t. absurd (let h = rw e at t in omega arith)) (λ t. o)
+      over-passage atBack f (λ x p. linked-trans o p) (not-trodden (rw e)) (λ t. o)
       (λ p. absurd (eqb-false (suc i) (z .depot) ne (sym p)))
       tt (f .some))
   forward-passage P20 e odd f = dead-forward

@@ -1,3 +1,4 @@
+pub mod Basics
 pub mod Links
 pub mod Aisles
 pub mod Forward

@@ -1,13 +1,14 @@
 -- Links: chains of trodden edges can be joined and turned round, and leave no set that no trodden edge leaves.
-use Prim.Native.Nat.{ℕ, zero, suc, _≤_, _<_}
-use mathlib.Core.Path.{_≡_, refl, sym, _∙_}
-use mathlib.Core.Logic.{_⊎_, inl, inr}
+use Prim.Native.Nat.{ℕ}
+use mathlib.Core.Path.{_≡_, refl}
+use mathlib.Core.Logic.{inl, inr}
 use mathlib.Core.Bool.{Bool}
 use Rattle.rules.specs.declared.Layout.{Layout}
 use Rattle.rules.specs.Store.{Point, Edge, startOf, endOf, Joins}
 use Rattle.rules.specs.Lawful.{Trodden, Touched, Linked, here, step}
 
 module _ {z : Layout} {treads : Edge → ℕ} where
+  -- chains can be joined
   pub linked-trans : {x w y : Point} → Linked z treads y w → Linked z treads w x → Linked z treads y x
   linked-trans p here = p
   linked-trans p (step e h j q) = step e h j (linked-trans p q)
@@ -21,6 +22,7 @@ module _ {z : Layout} {treads : Edge → ℕ} where
   unfolding Joins
   edge-back e h = step e h (inr (refl, refl)) here
 
+  -- chains can be turned round
   pub linked-sym : {x y : Point} → Linked z treads y x → Linked z treads x y
   unfolding Joins
   linked-sym here = here

@@ -1,5 +1,5 @@
 -- The machine is the rules: under each policy it accepts just the plans that the policy allows.
-use Prim.Native.Nat.{ℕ, _≤_}
+use Prim.Native.Nat.{_≤_}
 use mathlib.Core.Path.{_≡_, refl}
 use mathlib.Core.Logic.{_↔_}
 use mathlib.Core.Bool.{true}
@@ -7,7 +7,7 @@ use Rattle.rules.specs.declared.Policy.the-variants.{Exact}
 use Rattle.rules.specs.Jobs.{Job}
 use Rattle.rules.specs.Plans.{Plan, WellFormed}
 use Rattle.rules.specs.Lawful.{Lawful}
-use Rattle.rules.specs.Policies.{Allowed, Follows}
+use Rattle.rules.specs.Policies.{Allowed}
 use Rattle.rules.specs.Machine.{accepts}
 use Rattle.tours.proofs.Runs.{accepts-by-table}
 use Rattle.tours.proofs.Rules.{policy-table, follows-rules}

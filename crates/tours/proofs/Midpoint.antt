@@ -3,7 +3,7 @@ use Prim.Native.Nat.{ℕ, zero, suc, _≤_, _<_}
 use native.Mathlib.Omega.{arith}
 use mathlib.Core.Path.{_≡_, refl, sym, subst, _∙_}
 use mathlib.Core.Logic.{_⊎_, inl, inr, _↔_}
-use mathlib.Core.Bool.{Bool, true, false, cond}
+use mathlib.Core.Bool.{true, cond}
 use Rattle.rules.specs.declared.Layout.{Layout}
 use Rattle.rules.specs.declared.Policy.the-variants.{Midpoint}
 use Rattle.rules.specs.declared.Action.{Action}
@@ -13,10 +13,10 @@ use Rattle.rules.specs.Plans.{Plan, WellFormed, actionAt, passageAt}
 use Rattle.rules.specs.Policies.{Entered, First, Last, IsBottom, MidpointRule, enteredAisles, halved}
 use Rattle.rules.specs.Machine.{State, nothing, closed, atFront, atBack, odd, joined, split, ending, dead, lawfulStep, midpointStep, crossStep}
 use Rattle.tours.specs.Prefixes.{lawfulState, policyState}
-use Rattle.tours.proofs.Aisles.{below, split-at}
+use Rattle.tours.proofs.Basics.{below, split-at, same-number, false-not-true}
 use Rattle.tours.proofs.Parity.{Live, oddness, passage-parity, live-before-passage}
 use Rattle.tours.proofs.Runs.{live-before-step, live-test}
-use Rattle.tours.proofs.Counting.{no-contradiction, not-entered-void, void-not-entered, bottom-entered, once-entered, entered-inside, first-entered, last-entered, count-none, count-one, count-two}
+use Rattle.tours.proofs.Counting.{not-entered-void, void-not-entered, bottom-entered, once-entered, entered-inside, first-entered, last-entered, count-one, count-two}
 use Rattle.tours.proofs.Simulation.{Plain, Fitting, Tracks, Between, Ends, Over, over-cross, tracks-void, tracks-cross, between-cross, ends-run, midpoint-fits}
 
 -- none of the first n aisles is entered
@@ -57,12 +57,6 @@ GoneThrough z plan n o =
     (NoneEntered plan n × (oddness o ≡ 0))
     ⊎ ((Opened z plan n × (oddness o ≡ 1)) ⊎ ((Single plan n ⊎ Double z plan n) × Over o))
 
-same-place : (j k : ℕ) → (j < k → ⊥) → (k < j → ⊥) → j ≡ k
-same-place j k a b = elim (split-at j k) [
-  | inl l ↦ absurd (a l)
-  | inr l ↦ elim (split-at k j) [ inl h ↦ absurd (b h) | inr h ↦ omega arith ]
-]
-
 -- the first entered aisle is ONCE: both runs go to `odd`
 first-once : (z : Layout) (o x : State) → Tracks o x → (Live x → oddness x ≡ 0) → Between (midpointStep z Once o) (lawfulStep Once x)
 first-once z o nothing e even = rw e
@@ -97,8 +91,8 @@ half-step z Void h o odd e = e
 half-step z (Bottom k) h o odd e = rw (e, h) refl
 half-step z (Top k) h o odd e = rw (e, h) refl
 half-step z (Gap g k) h o odd e = rw (e, h) refl
-half-step z Once h o odd e = absurd (no-contradiction (sym h))
-half-step z Twice h o odd e = absurd (no-contradiction (sym h))
+half-step z Once h o odd e = absurd (false-not-true h)
+half-step z Twice h o odd e = absurd (false-not-true h)
 half-step z a h o joined e = absurd e
 half-step z a h o split e = absurd e
 half-step z a h o ending e = absurd e
@@ -396,7 +390,7 @@ module _ {z : Layout} {plan : Plan} (wf : WellFormed z plan) where
       let behind : (j : ℕ) → s .place < j → Entered plan j → ⊥ = λ j l g. s .behind j l (entered-inside wf j g .1) g in
       let one = count-one wf (s .place) (e, s .before) (e, behind) in
       record {
-        single = λ c j g. rw (same-place j (s .place) (λ l. s .before j l g) (λ l. behind j l g)) (s .bottom);
+        single = λ c j g. rw (same-number j (s .place) (λ l. s .before j l g) (λ l. behind j l g)) (s .bottom);
         first = λ more j f. absurd (more one);
         last = λ more j l. absurd (more one);
         between = λ more i j k f l. absurd (more one);
@@ -422,10 +416,10 @@ module _ {z : Layout} {plan : Plan} (wf : WellFormed z plan) where
       last-in = once-entered plan (d .last) (d .last-once)
 
       at-first : (j : ℕ) → First plan j → j ≡ d .first
-      at-first j f = same-place j (d .first) (λ l. d .before j l (f .0)) (λ l. f .1 (d .first) l first-in)
+      at-first j f = same-number j (d .first) (λ l. d .before j l (f .0)) (λ l. f .1 (d .first) l first-in)
 
       at-last : (j : ℕ) → Last plan j → j ≡ d .last
-      at-last j l = same-place j (d .last) (λ h. l .1 (d .last) h last-in) (λ h. d .behind j h (entered-inside wf j (l .0) .1) (l .0))
+      at-last j l = same-number j (d .last) (λ h. l .1 (d .last) h last-in) (λ h. d .behind j h (entered-inside wf j (l .0) .1) (l .0))
 
   gone-rule : GoneThrough z plan (z .aisles) closed → MidpointRule z plan
   gone-rule (inl (none, c)) = none-rule (λ j e. none j (entered-inside wf j e .1) e)

@@ -1,5 +1,5 @@
 -- The state tells whether the passage before it is trodden an odd number of times, so crossings are even.
-use Prim.Native.Nat.{ℕ, zero, suc, _+_, _-_, _%_, _≤_, _<_}
+use Prim.Native.Nat.{ℕ, zero, suc, _+_, _-_, _%_, _<_}
 use native.Mathlib.Omega.{arith}
 use native.Mathlib.Nat.{add-mod, mod-add-mod, add-mod-mod}
 use mathlib.Core.Path.{_≡_, refl, sym, _∙_}
@@ -10,12 +10,12 @@ use Rattle.rules.specs.declared.Action.{Action}
 use Rattle.rules.specs.declared.Action.the-variants.{Void, Bottom, Top, Gap, Once, Twice}
 use Rattle.rules.specs.declared.Passage.{Passage}
 use Rattle.rules.specs.declared.Passage.the-variants.{P00, P02, P11, P20, P22}
-use Rattle.rules.specs.Store.{Edge, along, front, back}
 use Rattle.rules.specs.Plans.{Plan, actionAt, passageAt, aisleTreads, backTreads, frontTreads, multiplicity}
 use Rattle.rules.specs.Lawful.{frontDegree, backDegree}
 use Rattle.rules.specs.Machine.{State, nothing, closed, atFront, atBack, odd, joined, split, ending, dead, row, lawfulStep, crossStep}
 use Rattle.tours.specs.Prefixes.{lawfulState}
 
+-- every state but `dead`
 abbrev pub Live : State → Type 0
 Live nothing = Unit {0}
 Live closed = Unit {0}
@@ -40,7 +40,7 @@ oddness ending = 0
 oddness dead = 0
 
 -- 1 for the action that treads an odd number of times
-abbrev pub onceness : Action → ℕ
+abbrev onceness : Action → ℕ
 onceness Void = 0
 onceness (Bottom i) = 0
 onceness (Top i) = 0
@@ -52,7 +52,8 @@ even-cond : (b : Bool) → cond b 2 0 % 2 ≡ 0
 even-cond true = refl
 even-cond false = refl
 
-pub action-treads : (a : Action) (k : ℕ) → aisleTreads a k % 2 ≡ onceness a
+-- an action treads every edge of its aisle with one parity
+action-treads : (a : Action) (k : ℕ) → aisleTreads a k % 2 ≡ onceness a
 action-treads Void k = refl
 action-treads (Bottom i) k = even-cond (ltb k i)
 action-treads (Top i) k = even-cond (leb i k)
@@ -60,7 +61,8 @@ action-treads (Gap h i) k = even-cond (ltb k h || leb i k)
 action-treads Once k = refl
 action-treads Twice k = refl
 
-pub same-parity : (p : Passage) → backTreads p % 2 ≡ frontTreads p % 2
+-- a passage treads both cross-aisles with one parity
+same-parity : (p : Passage) → backTreads p % 2 ≡ frontTreads p % 2
 same-parity P00 = refl
 same-parity P02 = refl
 same-parity P11 = refl
@@ -86,7 +88,7 @@ twice-even : (n : ℕ) → (0 + n + n) % 2 ≡ 0
 twice-even n = omega arith
 
 -- an action changes the parity of the state by its own
-pub action-parity : (a : Action) (s : State) → Live (lawfulStep a s) → (onceness a + oddness s + oddness (lawfulStep a s)) % 2 ≡ 0
+action-parity : (a : Action) (s : State) → Live (lawfulStep a s) → (onceness a + oddness s + oddness (lawfulStep a s)) % 2 ≡ 0
 action-parity Void s l = twice-even (oddness s)
 action-parity (Bottom i) s l = row-parity 0 atFront atFront split odd joined split refl refl refl refl refl refl s l
 action-parity (Top i) s l = row-parity 0 atBack split atBack odd joined split refl refl refl refl refl refl s l

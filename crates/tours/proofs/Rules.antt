@@ -1,6 +1,6 @@
 -- The rules of a policy: its table closes off the plans that keep its own rule, and the machine's tests ask the rest.
 use Prim.Native.Nat.{ℕ, zero, suc, _≤_}
-use mathlib.Core.Path.{_≡_, refl, sym, subst, _∙_}
+use mathlib.Core.Path.{_≡_, refl, sym, _∙_}
 use mathlib.Core.Logic.{_↔_}
 use mathlib.Core.Bool.{Bool, true, false, _&&_, _||_}
 use Rattle.rules.specs.declared.Layout.{Layout}
@@ -14,9 +14,9 @@ use Rattle.rules.specs.Jobs.{Job, holdsListed}
 use Rattle.rules.specs.Plans.{Plan, WellFormed, actionAt, passageAt}
 use Rattle.rules.specs.Lawful.{Lawful}
 use Rattle.rules.specs.Policies.{actionNamed, passageNamed, OwnRule, PolicyRules, Follows}
-use Rattle.rules.specs.Machine.{State, closed, lawfulStep, policyStep, crossStep, isVoid, mayEnter, actionPossible}
+use Rattle.rules.specs.Machine.{State, closed, lawfulStep, policyStep, isVoid, mayEnter, actionPossible}
 use Rattle.tours.specs.Prefixes.{lawfulState, policyState}
-use Rattle.tours.proofs.Counting.{no-contradiction}
+use Rattle.tours.proofs.Basics.{or-true, false-not-true}
 use Rattle.tours.proofs.Exact.{closed-iff-lawful}
 use Rattle.tours.proofs.Runs.{Possible}
 use Rattle.tours.proofs.Traversal.{traversal-table}
@@ -55,19 +55,15 @@ module _ {z : Layout} {plan : Plan} (wf : WellFormed z plan) (depot-low : 1 ≤ 
 
 both-true : (a b : Bool) → a && b ≡ true → (a ≡ true) × (b ≡ true)
 both-true true b e = (refl, e)
-both-true false b e = absurd (no-contradiction (sym e))
+both-true false b e = absurd (false-not-true e)
 
 void-if : (a : Action) → isVoid a || false ≡ true → a ≡ Void
 void-if Void e = refl
-void-if (Bottom i) e = absurd (no-contradiction (sym e))
-void-if (Top i) e = absurd (no-contradiction (sym e))
-void-if (Gap h i) e = absurd (no-contradiction (sym e))
-void-if Once e = absurd (no-contradiction (sym e))
-void-if Twice e = absurd (no-contradiction (sym e))
-
-or-true : (b : Bool) → b || true ≡ true
-or-true true = refl
-or-true false = refl
+void-if (Bottom i) e = absurd (false-not-true e)
+void-if (Top i) e = absurd (false-not-true e)
+void-if (Gap h i) e = absurd (false-not-true e)
+void-if Once e = absurd (false-not-true e)
+void-if Twice e = absurd (false-not-true e)
 
 all-actions : (a : Action) → actionNamed Exact a ≡ true
 all-actions Void = refl

@@ -1,11 +1,11 @@
 -- The machine's run over the lists of a plan is the run by prefixes; where the policy's actions and passages are kept to,
 -- its tests fall away.
-use Prim.Native.Nat.{ℕ, zero, suc, _+_, _≤_, _<_}
+use Prim.Native.Nat.{ℕ, zero, suc, _+_, _≤_}
 use native.Mathlib.Omega.{arith}
 use mathlib.Core.Path.{_≡_, refl, sym, subst, ap, _∙_}
-use mathlib.Core.Logic.{_⊎_, inl, inr, _↔_}
+use mathlib.Core.Logic.{inl, inr, _↔_}
 use mathlib.Core.List.{List, [], _∷_, tail}
-use mathlib.Core.Bool.{Bool, true, false, cond, _&&_, _||_}
+use mathlib.Core.Bool.{Bool, true, false, cond}
 use lib.ListN.{length}
 use Rattle.rules.specs.declared.Layout.{Layout}
 use Rattle.rules.specs.declared.Policy.{Policy}
@@ -15,12 +15,13 @@ use Rattle.rules.specs.declared.Action.the-variants.{Void, Bottom, Top, Gap, On
 use Rattle.rules.specs.declared.Passage.{Passage}
 use Rattle.rules.specs.declared.Passage.the-variants.{P00}
 use Rattle.rules.specs.Lists.{nth, headOr}
-use Rattle.rules.specs.Jobs.{Job, holdsListed}
+use Rattle.rules.specs.Jobs.{Job}
 use Rattle.rules.specs.Plans.{Plan, WellFormed, actionAt, passageAt}
 use Rattle.rules.specs.Policies.{actionNamed, passageNamed}
 use Rattle.rules.specs.Machine.{State, nothing, closed, atFront, atBack, odd, joined, split, ending, dead, policyStep, crossStep, actionPossible, actionStep, passageStep, runFrom, isClosed, accepts}
 use Rattle.tours.specs.Prefixes.{stateAt, policyState}
-use Rattle.tours.proofs.Aisles.{below, split-at, action-past, passage-past}
+use Rattle.tours.proofs.Basics.{below, split-at}
+use Rattle.tours.proofs.Aisles.{action-past, passage-past}
 use Rattle.tours.proofs.Parity.{Live, live-before-action, live-before-passage}
 
 first-of : {A : Type 0} (xs : List A) (d : A) → nth xs 1 d ≡ headOr d xs
@@ -59,7 +60,7 @@ is-closed ending e = cc
 is-closed dead e = cc
 
 -- the machine accepts a plan when the state behind its last aisle is `closed`
-pub accepts-closed : (job : Job) {plan : Plan} → WellFormed (job .layout) plan
+accepts-closed : (job : Job) {plan : Plan} → WellFormed (job .layout) plan
     → (accepts job plan ≡ true) ↔ (stateAt job plan (job .layout .aisles) ≡ closed)
 unfolding accepts actionAt passageAt
 accepts-closed job {plan} wf =
@@ -96,6 +97,7 @@ live-before-step Midpoint z (Gap h i) dead l = l
 live-before-step Midpoint z Once dead l = l
 live-before-step Midpoint z Twice dead l = l
 
+-- a test that does not lead to `dead` has passed
 pub live-test : (b : Bool) (s : State) → Live (cond b s dead) → (b ≡ true) × Live s
 live-test true s l = (refl, l)
 live-test false s l = absurd l

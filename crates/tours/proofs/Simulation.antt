@@ -1,7 +1,7 @@
 -- The tables of TRAVERSAL and MIDPOINT beside the table of EXACT: how the states of the two runs of a plan belong together.
 use Prim.Native.Nat.{ℕ, zero, suc, _≤_, _<_}
 use native.Mathlib.Omega.{arith}
-use mathlib.Core.Path.{_≡_, refl, sym, subst}
+use mathlib.Core.Path.{_≡_, refl, subst}
 use mathlib.Core.Logic.{_⊎_, inl, inr}
 use mathlib.Core.Bool.{Bool, true, false, cond}
 use lib.Dec.{leb, eqb}
@@ -16,8 +16,8 @@ use Rattle.rules.specs.Plans.{Plan, actionAt, passageAt}
 use Rattle.rules.specs.Policies.{passageNamed, halved, Entered}
 use Rattle.rules.specs.Machine.{State, nothing, closed, atFront, atBack, odd, joined, split, ending, dead, row, lawfulStep, traversalStep, midpointStep, policyStep, crossStep}
 use Rattle.tours.specs.Prefixes.{lawfulState, policyState}
-use Rattle.tours.proofs.Aisles.{below}
-use Rattle.tours.proofs.Counting.{no-contradiction, not-entered-void}
+use Rattle.tours.proofs.Basics.{below, false-not-true}
+use Rattle.tours.proofs.Counting.{not-entered-void}
 
 -- the state x of EXACT's run fits the state o of the policy's own run: the same, but `ending` may stand for two others
 abbrev pub Fitting : State → State → Type 0
@@ -174,9 +174,6 @@ Ends o dead = Unit {0}
 abbrev pub Plain : Passage → Type 0
 Plain p = passageNamed Traversal p ≡ true
 
-not-plain : false ≡ true → ⊥
-not-plain e = no-contradiction (sym e)
-
 tracks-when : (b : Bool) → Tracks (cond b closed dead) (cond b closed dead)
 tracks-when true = refl
 tracks-when false = tt
@@ -218,8 +215,8 @@ tracks-cross d j P11 n o joined e = tt
 tracks-cross d j P11 n o split e = absurd e
 tracks-cross d j P11 n o ending e = absurd e
 tracks-cross d j P11 n o dead e = tt
-tracks-cross d j P20 n o x e = absurd (not-plain n)
-tracks-cross d j P22 n o x e = absurd (not-plain n)
+tracks-cross d j P20 n o x e = absurd (false-not-true n)
+tracks-cross d j P22 n o x e = absurd (false-not-true n)
 
 pub between-cross : (d j : ℕ) (p : Passage) → Plain p → (o x : State) → Between o x → Between (crossStep d j p o) (crossStep d j p x)
 between-cross d j P00 n o nothing e = absurd e
@@ -249,10 +246,10 @@ between-cross d j P11 n o joined e = absurd e
 between-cross d j P11 n o split e = absurd e
 between-cross d j P11 n o ending e = absurd e
 between-cross d j P11 n o dead e = tt
-between-cross d j P20 n o x e = absurd (not-plain n)
-between-cross d j P22 n o x e = absurd (not-plain n)
+between-cross d j P20 n o x e = absurd (false-not-true n)
+between-cross d j P22 n o x e = absurd (false-not-true n)
 
-pub ends-cross : (d j : ℕ) (p : Passage) → Plain p → (o x : State) → Ends o x → Ends (crossStep d j p o) (crossStep d j p x)
+ends-cross : (d j : ℕ) (p : Passage) → Plain p → (o x : State) → Ends o x → Ends (crossStep d j p o) (crossStep d j p x)
 ends-cross d j P00 n o nothing e = absurd e
 ends-cross d j P00 n o closed e = rw e
 ends-cross d j P00 n o atFront e = rw e (ends-when (leb d j))
@@ -280,8 +277,8 @@ ends-cross d j P11 n o joined e = tt
 ends-cross d j P11 n o split e = absurd e
 ends-cross d j P11 n o ending e = absurd e
 ends-cross d j P11 n o dead e = tt
-ends-cross d j P20 n o x e = absurd (not-plain n)
-ends-cross d j P22 n o x e = absurd (not-plain n)
+ends-cross d j P20 n o x e = absurd (false-not-true n)
+ends-cross d j P22 n o x e = absurd (false-not-true n)
 
 -- no aisle may be entered any more
 abbrev pub Over : State → Type 0
@@ -299,6 +296,7 @@ over-when : (b : Bool) → Over (cond b closed dead)
 over-when true = tt
 over-when false = tt
 
+-- and stays so over a passage
 pub over-cross : (d j : ℕ) (p : Passage) (s : State) → Over s → Over (crossStep d j p s)
 over-cross d j p nothing e = absurd e
 over-cross d j P00 closed e = tt

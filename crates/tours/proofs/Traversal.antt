@@ -1,19 +1,18 @@
 -- TRAVERSAL: its table closes off just the lawful plans that keep its rule.
-use Prim.Native.Nat.{ℕ, zero, suc, _+_, _%_, _≤_, _<_}
+use Prim.Native.Nat.{ℕ, zero, suc, _%_, _≤_, _<_}
 use native.Mathlib.Omega.{arith}
 use mathlib.Core.Path.{_≡_, refl, sym, subst, _∙_}
 use mathlib.Core.Logic.{_⊎_, inl, inr, _↔_}
-use mathlib.Core.Bool.{Bool, true, false}
 use Rattle.rules.specs.declared.Layout.{Layout}
 use Rattle.rules.specs.declared.Policy.the-variants.{Traversal}
 use Rattle.rules.specs.declared.Action.{Action}
 use Rattle.rules.specs.declared.Action.the-variants.{Void, Bottom, Top, Gap, Once, Twice}
 use Rattle.rules.specs.declared.Passage.{Passage}
-use Rattle.rules.specs.Plans.{Plan, WellFormed, actionAt, passageAt, entered}
+use Rattle.rules.specs.Plans.{Plan, WellFormed, actionAt, passageAt}
 use Rattle.rules.specs.Policies.{Entered, Last, IsBottom, TraversalRule, enteredAisles}
 use Rattle.rules.specs.Machine.{State, nothing, closed, atFront, atBack, odd, joined, split, ending, dead, lawfulStep, traversalStep, crossStep}
 use Rattle.tours.specs.Prefixes.{lawfulState, policyState, enteredUpTo}
-use Rattle.tours.proofs.Aisles.{below, split-at}
+use Rattle.tours.proofs.Basics.{below, split-at}
 use Rattle.tours.proofs.Parity.{Live, oddness, passage-parity, live-before-passage}
 use Rattle.tours.proofs.Runs.{live-before-step}
 use Rattle.tours.proofs.Counting.{bottom-entered, once-entered, entered?, not-entered-void, void-not-entered, count-rises, count-stays, count-all, entered-inside, last-entered}
