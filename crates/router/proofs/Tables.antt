@@ -13,7 +13,7 @@ entry-from f zero a k h = absurd (omega arith)
 entry-from f (suc n) a zero h = ap f (omega arith)
 entry-from f (suc n) a (suc k) h = entry-from f n (suc a) k (omega arith) ∙ ap f (omega arith)
 
-entry : (f : ℕ → ℕ) (n k : ℕ) → k < n → getD (map f (from 0 n)) k 0 ≡ f k
+pub entry : (f : ℕ → ℕ) (n k : ℕ) → k < n → getD (map f (from 0 n)) k 0 ≡ f k
 entry f n k h = entry-from f n 0 k h ∙ ap f (omega arith)
 
 pub action-entry : (p k e h s : ℕ) → p < 5 → k < 6 → e < 2 → h < 2 → s < 9 → getD actionTable ((((p * 6 + k) * 2 + e) * 2 + h) * 9 + s) 0 ≡ stateCode (stepOf (policyOf p) (sampleAction k) (bit e) (bit h) (stateOf s))

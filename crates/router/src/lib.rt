@@ -1,2 +1,3 @@
 // The router: for an admitted job, the first of the shortest allowed plans that serve its list.
+mod candidates;
 mod steps;
