@@ -18,7 +18,7 @@ module _ {A : Type 0} where
   least-bound f [] = omega arith
   least-bound f (x ∷ xs) = omega (arith, least-bound f xs)
 
-  least-append : (f : A → ℕ) (xs ys : List A) → leastOf f (xs ++ ys) ≡ min (leastOf f xs) (leastOf f ys)
+  pub least-append : (f : A → ℕ) (xs ys : List A) → leastOf f (xs ++ ys) ≡ min (leastOf f xs) (leastOf f ys)
   least-append f [] ys = omega (arith, least-bound f ys)
   least-append f (x ∷ xs) ys = omega (arith, least-append f xs ys)
 

@@ -2,3 +2,4 @@ pub mod Tables
 pub mod Geometry
 pub mod Ranks
 pub mod Relaxing
+pub mod Passages

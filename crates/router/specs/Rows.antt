@@ -57,6 +57,16 @@ unfoldable pub throughPassage : List ℕ → Policy → ℕ → ℕ → ℕ → 
 throughPassage next policy side width s q p =
     sat ((backTreads p + frontTreads p) * width) (nextAt next (stateCode (crossOf policy p side (stateOf s))) q)
 
--- the row behind the actions holds the least over the first `tried` passages
-pub record AfterFilled (after next : List ℕ) (tried : ℕ) (policy : Policy) (side width n : ℕ) : Type 0 where
-  pub done : (s q : ℕ) → s < 9 → q < n → afterAt after s q ≡ leastOf (throughPassage next policy side width s q) (take tried passagesInOrder)
+-- what the ways on need: a next row that is long enough, numbers in range
+pub record NextReady (next : List ℕ) (policy side width s q : ℕ) : Type 0 where
+  pub long : q * 8 + 8 ≤ length next
+  pub demand : q < 256
+  pub policy-below : policy < 5
+  pub side-below : side < 3
+  pub state-below : s < 9
+  pub width-fits : width ≤ 400
+
+-- the first n entries of the row behind the actions hold the least over the first `tried` passages
+abbrev pub AfterFilled : List ℕ → List ℕ → ℕ → Policy → ℕ → ℕ → ℕ → Type 0
+AfterFilled after next tried policy side width n =
+    (s q : ℕ) → s < 9 → q * 9 + s < n → afterAt after s q ≡ leastOf (throughPassage next policy side width s q) (take tried passagesInOrder)
