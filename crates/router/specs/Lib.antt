@@ -2,3 +2,4 @@ pub mod States
 pub mod Steps
 pub mod Candidates
 pub mod Rows
+pub mod Maps
