@@ -1,3 +1,5 @@
 pub mod Table
 pub mod Picks
 pub mod Texts
+pub mod Best
+pub mod Demands

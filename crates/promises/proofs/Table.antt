@@ -2,15 +2,13 @@
 use Prim.Native.Nat.{ℕ, suc, _≤_, _<_}
 use native.Mathlib.Omega.{arith}
 use mathlib.Core.Path.{_≡_, refl, sym, _∙_, ap, subst}
-use mathlib.Core.Logic.{_↔_, _⊎_, inl, inr}
+use mathlib.Core.Logic.{_↔_}
 use mathlib.Core.List.{List, [], _∷_, _++_, map, List·Memᴰ, List·Memᴰ·head, List·Memᴰ·tail, List·Memᴰ·not-nil}
 use mathlib.Core.Bool.{Bool, true, false, not, _||_, true≢false, false≢true}
 use mathlib.Core.Option.{Option, none, some}
-use borrow.Author.Tests.{ltb-true, lt-ltb, ltb-false}
+use borrow.Author.Tests.{ltb-true, lt-ltb, ltb-false, not-false}
 use lib.Dec.{ltb}
 use lib.ListN.{length, drop}
-use Rattle.rules.specs.declared.StockRecord.{StockRecord}
-use Rattle.rules.specs.declared.OrderLine.{OrderLine}
 use Rattle.rules.specs.declared.Refusal.{Refusal}
 use Rattle.rules.specs.declared.Refusal.the-variants.{WorkArea, NotAJobFile, LayoutBounds, StockBounds, CellTwice, ListBounds, ArticleTwice, TooHeavy, ShortOfStock, SheetSpace}
 use Rattle.rules.specs.declared.Reply.the-variants.{Served, Refused}
@@ -18,7 +16,7 @@ use Rattle.rules.specs.Lists.{anyOf, anyTwo, nth}
 use Rattle.rules.specs.Store.{layoutInBounds}
 use Rattle.rules.specs.Jobs.{Job}
 use Rattle.rules.specs.JobFile.{readJob}
-use Rattle.rules.specs.Refusals.{stockInBounds, sameCell, listInBounds, sameArticle, weight, shortOfStock, firstRow, jobRows, jobRefusal, Checked, good, bad, checkJob, checkBytes}
+use Rattle.rules.specs.Refusals.{stockInBounds, sameCell, listInBounds, sameArticle, weight, shortOfStock, firstRow, jobRows, jobRefusal, good, bad, checkJob, checkBytes, Admitted}
 use Rattle.rules.specs.Sheet.{sheetText}
 use Rattle.rules.specs.Answers.{Answer, workLimit, cleared, refused, written, answerChecked, answer}
 use Rattle.rules.proofs.Lists.{any-true, place-member, Sorted, sorted-by, sorted-from}
@@ -245,7 +243,68 @@ module _ (bytes sheet work : List ℕ) where
       go none f = λ q c. absent q (f q (in-table q)) c
       go (some r) f = record { applies = applies-said r bytes sheet work .0 (f .0); none-above = λ q l c. absent q (f .1 q (in-table q) l) c }
 
--- there is one first cause
-pub one-first-cause : (bytes sheet work : List ℕ) (q r : Refusal) → FirstCause q bytes sheet work → FirstCause r bytes sheet work → q ≡ r
-one-first-cause bytes sheet work q r f g =
-    same-row q r (same-number (tableRow q) (tableRow r) (λ l. g .none-above q l (f .applies)) (λ l. f .none-above r l (g .applies)))
+  -- there is one first cause
+  one-first-cause : (q r : Refusal) → FirstCause q bytes sheet work → FirstCause r bytes sheet work → q ≡ r
+  one-first-cause q r f g =
+      same-row q r (same-number (tableRow q) (tableRow r) (λ l. g .none-above q l (f .applies)) (λ l. f .none-above r l (g .applies)))
+
+  -- no row of the table applies
+  abbrev pub NoCause : Type 0
+  NoCause = (r : Refusal) → Cause r bytes sheet work → ⊥
+
+  -- the first cause refuses the call
+  pub refused-for : (r : Refusal) → FirstCause r bytes sheet work → answer bytes sheet work ≡ record { reply = Refused r; sheet = sheet; work = workAfter r work }
+  refused-for r f = go firstCause answers-for caused-by
+    where
+      go : (o : Option Refusal) → AnswersFor sheet work (readJob bytes) o (answer bytes sheet work) → CausedBy o → answer bytes sheet work ≡ record { reply = Refused r; sheet = sheet; work = workAfter r work }
+      go none a c = absurd (c r (f .applies))
+      go (some q) a c = a ∙ ap (λ p. record { reply = Refused p; sheet = sheet; work = workAfter p work }) (one-first-cause q r c f)
+
+  -- and a refused call has it
+  pub refused-by : (r : Refusal) → answer bytes sheet work .reply ≡ Refused r → FirstCause r bytes sheet work
+  refused-by r e = go firstCause answers-for caused-by
+    where
+      go : (o : Option Refusal) → AnswersFor sheet work (readJob bytes) o (answer bytes sheet work) → CausedBy o → FirstCause r bytes sheet work
+      go none a c = let f = ap (λ x. x .reply) (a .2) in let z : _≡_ {A = ℕ} 0 1 = cc in absurd (omega arith)
+      go (some q) a c =
+          let f = ap (λ x. x .reply) a in
+          let same : q ≡ r = cc in
+          subst (λ p. FirstCause p bytes sheet work) same c
+
+  -- a call that no cause applies to writes the sheet of its job
+  pub served-for : NoCause → (job : Job) × (readJob bytes ≡ some job) × (answer bytes sheet work ≡ record { reply = Served (length (sheetText job)); sheet = sheetText job ++ drop (length (sheetText job)) sheet; work = cleared work })
+  served-for n = go firstCause answers-for caused-by
+    where
+      go : (o : Option Refusal) → AnswersFor sheet work (readJob bytes) o (answer bytes sheet work) → CausedBy o → AnswersFor sheet work (readJob bytes) none (answer bytes sheet work)
+      go none a c = a
+      go (some q) a c = absurd (n q (c .applies))
+
+  -- and no cause applies to a served call
+  pub served-by : (n : ℕ) → answer bytes sheet work .reply ≡ Served n → NoCause
+  served-by n e = go firstCause answers-for caused-by
+    where
+      go : (o : Option Refusal) → AnswersFor sheet work (readJob bytes) o (answer bytes sheet work) → CausedBy o → NoCause
+      go none a c = c
+      go (some q) a c = let f = ap (λ x. x .reply) a in let z : _≡_ {A = ℕ} 0 1 = cc in absurd (omega arith)
+
+  -- its job is admitted, and the sheet has space
+  pub served-admitted : NoCause → (job : Job) → readJob bytes ≡ some job → Admitted job × (length (sheetText job) ≤ length sheet)
+  served-admitted n job e = (
+    record {
+      layout = not-false (layoutInBounds (job .layout)) (fails LayoutBounds);
+      stock = not-false (stockInBounds job) (fails StockBounds);
+      cells-once = fails CellTwice;
+      list = not-false (listInBounds job) (fails ListBounds);
+      articles-once = fails ArticleTwice;
+      light = ltb-false 256 (weight (job .lines)) (fails TooHeavy);
+      in-stock = fails ShortOfStock;
+    },
+    ltb-false (length sheet) (length (sheetText job)) (fails SheetSpace),
+  )
+    where
+      fails : (q : Refusal) → applies q (some job) sheet work ≡ false
+      fails q = go (applies q (some job) sheet work) refl
+        where
+          go : (b : Bool) → applies q (some job) sheet work ≡ b → b ≡ false
+          go true h = absurd (n q (applies-said q bytes sheet work .0 (ap (λ o. applies q o sheet work) e ∙ h)))
+          go false h = refl

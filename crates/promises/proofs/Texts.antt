@@ -1,6 +1,5 @@
 -- A sheet can be read back: its text determines the length, the policy, the plan, the picks and the walk.
-use Prim.Native.Nat.{ℕ, zero, suc, _+_, _-_}
-use native.Mathlib.Omega.{arith}
+use Prim.Native.Nat.{ℕ, zero, suc}
 use mathlib.Core.Path.{_≡_, refl, sym, _∙_, ap, ap₂}
 use mathlib.Core.List.{List, [], _∷_, _++_, append-assoc, append-nil}
 use mathlib.Core.Bool.{Bool, true, false, cond}
@@ -18,10 +17,9 @@ use Rattle.rules.specs.declared.Direction.the-variants.{Back, Front, Left, Righ
 use Rattle.rules.specs.declared.Pick.{Pick}
 use Rattle.rules.specs.declared.Run.{Run}
 use Rattle.rules.specs.Lists.{concatOf, headOr}
-use Rattle.rules.specs.Plans.{Plan, backTreads, frontTreads}
 use Rattle.rules.specs.JobFile.{space, lineFeed, numeral, field, header, policyWord, sectionText, isDigit, leadingDigits, valueOf}
 use Rattle.rules.specs.Walks.{Walk, letterRank}
-use Rattle.rules.specs.Sheet.{letterT, letterA, letterC, letterP, letterW, totalText, actionText, passageText, pickText, letterOf, addStep, runsOf, runText}
+use Rattle.rules.specs.Sheet.{letterA, letterC, letterP, letterW, totalText, actionText, passageText, pickText, letterOf, addStep, runsOf, runText}
 use Rattle.rules.proofs.Numbers.{numeral-digits, valueOf-numeral, leadingDigits-append}
 use Rattle.promises.specs.Contents.{Content, contentText}
 
