@@ -33,6 +33,16 @@ lack-none a [] h = refl
 lack-none a (l ∷ ls) h =
     rw (ne-eqb (l .article) a (λ e. h l (List·Memᴰ·head refl) (sym e))) (omega (arith, lack-none a ls (λ k m. h k (List·Memᴰ·tail m))))
 
+-- what is lacking is on a line
+lack-listed : (a : ℕ) (ls : List OrderLine) → 1 ≤ lackOf ls a → (l : OrderLine) × List·Memᴰ l ls × (a ≡ l .article)
+unfolding lackOf
+lack-listed a [] h = absurd (omega arith)
+lack-listed a (l ∷ ls) h = go (eqb (l .article) a) refl h (lack-listed a ls)
+  where
+    go : (b : Bool) → eqb (l .article) a ≡ b → 1 ≤ cond b (l .quantity) 0 + lackOf ls a → (1 ≤ lackOf ls a → (k : OrderLine) × List·Memᴰ k ls × (a ≡ k .article)) → (k : OrderLine) × List·Memᴰ k (l ∷ ls) × (a ≡ k .article)
+    go true e h rest = (l, List·Memᴰ·head refl, sym (eqb-true (l .article) a e))
+    go false e h rest = let t = rest (omega arith) in (t .0, List·Memᴰ·tail (t .1), t .2)
+
 -- a line's own article lacks what the line asks for
 lack-line : (ls : List OrderLine) → Apart ls → (l : OrderLine) → List·Memᴰ l ls → lackOf ls (l .article) ≡ l .quantity
 unfolding lackOf
@@ -80,6 +90,11 @@ add-pick r n a picks = go (ltb 0 n) refl
     go : (b : Bool) → ltb 0 n ≡ b → picked (cond b (record { aisle = r .aisle; cell = r .cell; article = r .article; quantity = n } ∷ picks) picks) a ≡ cond (eqb (r .article) a) n 0 + picked picks a
     go true e = refl
     go false e = omega (arith, nothing-of (eqb (r .article) a) (ltb-false 0 n e))
+
+picked-member : (x : Pick) (picks : List Pick) → List·Memᴰ x picks → x .quantity ≤ picked picks (x .article)
+unfolding picked
+picked-member x picks (List·Memᴰ·head {x = y} {xs = ys} e) = rw (e, eq-eqb (y .article) (y .article) refl) (omega arith)
+picked-member x picks (List·Memᴰ·tail {x = y} {xs = ys} m) = omega (arith, picked-member x ys m)
 
 -- what is picked of an article: what the lines lack, as far as the records have it
 picked-least : (ls : List OrderLine) (rs : List StockRecord) (a : ℕ) → Apart ls → picked (picksFrom ls rs) a ≡ min (lackOf ls a) (stockIn rs a)
@@ -183,3 +198,9 @@ module _ (job : Job) (a : Admitted job) (plan : Plan) where
   picks-meet h l m =
       let apart = articles-once job .0 (a .articles-once) in
       omega (arith, h l m, picked-least (job .lines) (passedRecords job plan) (l .article) apart, lack-line (job .lines) apart l m, passed-supply (l .article))
+
+  -- whatever is picked is of a line's article
+  pub pick-listed : (x : Pick) → List·Memᴰ x (picksOf job plan) → 1 ≤ x .quantity → (l : OrderLine) × List·Memᴰ l (job .lines) × (x .article ≡ l .article)
+  unfolding picksOf
+  pick-listed x m above =
+      lack-listed (x .article) (job .lines) (omega (arith, picked-member x (picksOf job plan) m, picked-least (job .lines) (passedRecords job plan) (x .article) (articles-once job .0 (a .articles-once))))
