@@ -3,19 +3,21 @@
 -- lent work area: the reply, and what sheet and work area hold after it. The public contracts are equations with it.
 -- The words of the statements are in specs/: the causes of the table (Causes), what a sheet says (Contents), what calls give (Calls).
 use Prim.Native.Nat.{ℕ, _≤_, _<_}
-use mathlib.Core.Path.{_≡_, sym, _∙_, ap, subst}
+use native.Mathlib.Omega.{arith}
+use mathlib.Core.Path.{_≡_, refl, sym, _∙_, ap, subst}
 use mathlib.Core.Logic.{_↔_}
 use mathlib.Core.List.{List, []}
+use lib.ListN.{replicate, length-replicate}
 use Rattle.rules.specs.declared.Layout.{Layout}
 use Rattle.rules.specs.declared.Refusal.{Refusal}
-use Rattle.rules.specs.declared.Refusal.the-variants.{ShortOfStock}
+use Rattle.rules.specs.declared.Refusal.the-variants.{WorkArea, ShortOfStock}
 use Rattle.rules.specs.declared.Reply.the-variants.{Served, Refused}
 use Rattle.rules.specs.Store.{Edge, InStore}
 use Rattle.rules.specs.Jobs.{Job}
 use Rattle.rules.specs.Plans.{Plan}
 use Rattle.rules.specs.Lawful.{Lawful}
 use Rattle.rules.specs.Walks.{Walk, ClosedWalk, walkTreads}
-use Rattle.rules.specs.Answers.{answer}
+use Rattle.rules.specs.Answers.{workLimit, answer, hostAnswer}
 use Rattle.rules.specs.Examples.{AllHold, cases}
 use Rattle.rules.proofs.Cases as Cases
 use Rattle.closedwalks.proofs.Statements.{walk-reads, plan-determined}
@@ -98,6 +100,17 @@ demand-3 bytes sheet work =
         λ h. demand-1 bytes sheet work .refusal ShortOfStock .1 (record { applies = h .1; none-above = h .0 }),
       );
     }
+
+-- "A planning host in C calls an entry that takes only byte buffers and numbers and brings its own work area."
+-- Its call is the library's, so the demands hold of it, and refusal 10 does not occur
+pub host-call : (bytes sheet : List ℕ) → hostAnswer bytes sheet ≡ answer bytes sheet (replicate workLimit 0)
+unfolding hostAnswer
+host-call bytes sheet = refl
+
+pub host-has-space : (bytes sheet : List ℕ) → hostAnswer bytes sheet .reply ≡ Refused WorkArea → ⊥
+unfolding hostAnswer
+host-has-space bytes sheet e =
+    omega (arith, refused-by bytes sheet (replicate workLimit 0) WorkArea e .applies, length-replicate {A = ℕ} workLimit 0)
 
 -- "Cases 1 to 14 are established as facts about the definitions, gathered into a table that one theorem covers."
 pub cases-hold : AllHold cases

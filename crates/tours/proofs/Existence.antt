@@ -1,5 +1,6 @@
 -- A serving plan exists: where no line exceeds all the stock of its article, some plan that the policy allows serves the list.
--- It enters every aisle that holds a listed article and passes all its cells.
+-- It enters every aisle that holds a listed article and passes all its cells. From aisle to aisle it goes on at the front, or at
+-- both ends while a round is open, and is closed off behind the last aisle.
 use Prim.Native.Nat.{ℕ, zero, suc, _+_, _*_, _≤_, _<_}
 use native.Mathlib.Omega.{arith}
 use mathlib.Core.Path.{_≡_, refl, sym, _∙_, ap, subst}
