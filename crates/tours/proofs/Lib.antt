@@ -12,3 +12,4 @@ pub mod Traversal
 pub mod Midpoint
 pub mod Rules
 pub mod Machine
+pub mod Existence
