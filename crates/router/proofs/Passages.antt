@@ -1,7 +1,6 @@
 -- The ways on over the passages, one after the other. Assumes nothing.
 use Prim.Native.Nat.{ℕ, zero, suc, _+_, _*_, _/_, _%_, _≤_, _<_, min}
 use native.Mathlib.Omega.{arith}
-use native.Mathlib.Numerals.{add-one}
 use mathlib.Core.Path.{_≡_, refl, sym, _∙_, ap, ap₂}
 use mathlib.Core.List.{List, [], _∷_}
 use mathlib.Core.Bool.{Bool, true, false, cond}
@@ -9,7 +8,7 @@ use lib.Dec.{ltb}
 use borrow.Author.Tests.{lt-ltb}
 use mathlib.Core.Logic.{⊎-elim}
 use lib.ListN.{length, getD, take, set}
-use lib.Seq.{take-suc, getD-set-same, getD-set-other}
+use lib.Seq.{getD-set-same, getD-set-other}
 use Rattle.rules.specs.declared.Policy.{Policy}
 use Rattle.rules.specs.declared.Passage.{Passage}
 use Rattle.rules.specs.declared.Passage.the-variants.{P00}
@@ -17,7 +16,7 @@ use Rattle.rules.specs.Plans.{backTreads, frontTreads}
 use Rattle.rules.specs.BestPlan.{passagesInOrder}
 use Rattle.rules.specs.Machine.{State, nothing, closed, atFront, atBack, odd, joined, split, ending, dead}
 use Rattle.optimum.specs.Least.{noTour, sat, leastOf}
-use Rattle.optimum.proofs.Choice.{least-append, least-bound}
+use Rattle.optimum.proofs.Choice.{least-take}
 use Rattle.router.specs.States.{stateCode, stateOf}
 use Rattle.router.specs.Steps.{passageOf, crossOf}
 use Rattle.router.specs.Rows.{tab, afterAt, nextAt, throughPassage, AfterFilled}
@@ -69,9 +68,7 @@ module _ (next : List ℕ) (policy : Policy) (side width s q : ℕ) where
   pub least-tried : (p : ℕ) → p < 5 → leastOf (throughPassage next policy side width s q) (take (p + 1) passagesInOrder) ≡ min (leastOf (throughPassage next policy side width s q) (take p passagesInOrder)) (throughPassage next policy side width s q (passageOf p))
   unfolding passagesInOrder throughPassage sat
   least-tried p h =
-      ap (leastOf (throughPassage next policy side width s q)) (ap (λ n. take n passagesInOrder) (add-one p) ∙ take-suc passagesInOrder p P00 h)
-      ∙ least-append (throughPassage next policy side width s q) (take p passagesInOrder) (getD passagesInOrder p P00 ∷ [])
-      ∙ rw (passage-at p h) (omega arith)
+      least-take (throughPassage next policy side width s q) passagesInOrder p P00 h ∙ rw (passage-at p h) (omega arith)
 
 module _ (next : List ℕ) (tried : ℕ) (policy : Policy) (side width : ℕ) where
   pub after-none : (after : List ℕ) → AfterFilled after next tried policy side width 0

@@ -56,3 +56,10 @@ module _ (row after fronts backs : List ℕ) (front back : ℕ) (steps : List �
           rw p
           (t .done s l
           ∙ ap₂ (λ n m. min n (sat cost (getD after (m * 9 + getD steps s 0) 0))) (r .rest (q * 8 + s) (omega arith)) e)
+
+-- one more entry of a list that is filled from the front
+pub filled-one : (f : ℕ → ℕ) (xs : List ℕ) (i v : ℕ) → i < length xs → ((k : ℕ) → k < i → getD xs k 0 ≡ f k) → v ≡ f i → (k : ℕ) → k < i + 1 → getD (set xs i v) k 0 ≡ f k
+filled-one f xs i v in-list filled e k h =
+    ⊎-elim (λ l. getD-set-other xs i k v 0 (λ p. omega arith) ∙ filled k l)
+    (λ p. ap (λ n. getD (set xs i v) n 0) p ∙ getD-set-same xs i v 0 in-list ∙ e ∙ ap f (sym p))
+    (below k i h)

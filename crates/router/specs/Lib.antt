@@ -3,3 +3,4 @@ pub mod Steps
 pub mod Candidates
 pub mod Rows
 pub mod Maps
+pub mod Layers
