@@ -4,3 +4,5 @@ pub mod Ranks
 pub mod Relaxing
 pub mod Passages
 pub mod ActionRows
+pub mod StepLaws
+pub mod TableValues

@@ -4,3 +4,4 @@ pub mod Candidates
 pub mod Rows
 pub mod Maps
 pub mod Layers
+pub mod TableHolds
