@@ -3,3 +3,4 @@ pub mod Geometry
 pub mod Ranks
 pub mod Relaxing
 pub mod Passages
+pub mod Composition
