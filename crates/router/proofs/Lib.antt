@@ -5,4 +5,5 @@ pub mod Relaxing
 pub mod Passages
 pub mod ActionRows
 pub mod StepLaws
+pub mod Composition
 pub mod TableValues
