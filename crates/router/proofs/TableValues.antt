@@ -9,11 +9,12 @@ use borrow.Author.Tests.{lt-ltb}
 use lib.ListN.{length, getD, take}
 use lib.Seq.{take-length}
 use Rattle.rules.specs.declared.Action.{Action}
+use Rattle.rules.specs.declared.Action.the-variants.{Bottom}
 use Rattle.rules.specs.declared.Passage.{Passage}
 use Rattle.rules.specs.Jobs.{Job}
 use Rattle.rules.specs.Plans.{Fits, backTreads, frontTreads}
 use Rattle.rules.specs.Lengths.{actionLength, passageLength}
-use Rattle.rules.specs.Refusals.{weight, Admitted}
+use Rattle.rules.specs.Refusals.{weight, stockInBounds}
 use Rattle.rules.specs.BestPlan.{actionsOf, passagesInOrder}
 use Rattle.rules.specs.Machine.{State, nothing, closed, atFront, atBack, odd, joined, split, ending, dead, actionStep, passageStep}
 use Rattle.rules.proofs.Pruning.{action-dead, passage-dead}
@@ -33,6 +34,8 @@ use Rattle.router.specs.Maps.{MapsReady}
 use Rattle.router.specs.TableHolds.{sideOf, aisleOf, RowHolds}
 use Rattle.router.proofs.StepLaws.{state-of-code, cross-of, step-code}
 use Rattle.router.proofs.Passages.{state-small}
+use Rattle.router.proofs.ActionRows.{candidate-parts}
+use Rattle.router.proofs.Composition.{less-by-parts}
 use Rattle.router.proofs.Geometry.{length-of-candidate}
 
 least-none : {A : Type 0} (f : A → ℕ) → ((x : A) → f x ≡ noTour) → (xs : List A) → leastOf f xs ≡ noTour
@@ -46,6 +49,10 @@ sat-none c = omega arith
 module _ (job : Job) where
   abbrev values : ℕ → ℕ → State → List ℕ → ℕ
   values = value (routing job (allActions job))
+
+  -- the number of a demand after an action is below the weight
+  below-weight : (j : ℕ) (a : Action) (q : ℕ) → lessCode (radices job) (gains job j a) q < weight (job .lines)
+  below-weight j a q = omega (arith, less-code-below (gains job j a) (radices-positive job) (gains-length job j a) q, count-weight job)
 
   -- behind the actions of aisle j
   abbrev behind : ℕ → ℕ → State → List ℕ → ℕ
@@ -92,3 +99,33 @@ module _ (job : Job) where
       filled s q l (omega arith)
       ∙ ap (leastOf _) (tried-passages n)
       ∙ least-cong _ _ (λ p. ap (sat (passageLength (job .layout) p)) (ap (λ t. nextAt next (stateCode t) q) (cross-of job j p (stateOf s)) ∙ next-value n (suc j) next holds (passageStep job j p (stateOf s)) q h)) (passagesBehind passagesInOrder n)
+
+  module _ (stocked : stockInBounds job ≡ true) (n j : ℕ) (after fronts backs : List ℕ) (maps : MapsReady job j fronts backs) (holds : (s q : ℕ) → s < 9 → q < weight (job .lines) → afterAt after s q ≡ behind n j (stateOf s) (demandOf (radices job) q)) where
+    -- the demand after a candidate
+    pub left-code : (a : Action) → Fits (job .layout .cells) a → (q : ℕ) → q < weight (job .lines) → leftCode fronts backs (candidateOf (job .layout .cells) a) q ≡ lessCode (radices job) (gains job j a) q
+    unfolding leftCode
+    left-code a fits q h =
+        let p = candidate-parts (job .layout .cells) a fits in
+        let h₁ = candidateOf (job .layout .cells) a .front in
+        let i₁ = candidateOf (job .layout .cells) a .back in
+        let first = maps .front h₁ q (p .front-within) h in
+        ap (λ k. getD backs (i₁ * 256 + k) 0) first
+        ∙ maps .back i₁ (lessCode (radices job) (gains job j (Bottom h₁)) q) (p .back-low) (p .back-high) (below-weight j (Bottom h₁) q)
+        ∙ sym (less-by-parts job stocked j a fits q)
+
+    -- the way over an action
+    pub through-value : (s q : ℕ) → s < 8 → q < weight (job .lines) → (a : Action) → Fits (job .layout .cells) a → throughAction (aisleOf job j) (afterAt after) fronts backs s q a ≡ sat (actionLength (job .layout) a) (behind n j (actionStep job j a (stateOf s)) (less (demandOf (radices job) q) (gains job j a)))
+    unfolding throughAction throughCandidate aisleOf
+    through-value s q l h a fits =
+        ap₂ sat (length-of-candidate (job .layout) a)
+        (ap₂ (afterAt after) (step-code job j a s) (left-code a fits q h)
+        ∙ holds (stateCode (actionStep job j a (stateOf s))) (lessCode (radices job) (gains job j a) q) (omega (arith, state-small (actionStep job j a (stateOf s)))) (below-weight j a q)
+        ∙ ap₂ (behind n j) (state-of-code (actionStep job j a (stateOf s))) (less-code (gains job j a) (radices-positive job) (gains-length job j a) q))
+
+    -- the row of an aisle
+    pub row-value : (row : List ℕ) → RowFilled (aisleOf job j) row after fronts backs (length (actionsOf (job .layout .cells))) → RowHolds job (suc n) j row
+    unfolding aisleOf allActions
+    row-value row filled s q l h =
+        filled s q l h
+        ∙ ap (leastOf _) (take-length (actionsOf (job .layout .cells)))
+        ∙ least-agree _ _ (actionsOf (job .layout .cells)) (λ a m. through-value s q l h a (actions-sound (job .layout .cells) a m))
