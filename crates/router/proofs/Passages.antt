@@ -8,7 +8,7 @@ use lib.Dec.{ltb}
 use borrow.Author.Tests.{lt-ltb}
 use mathlib.Core.Logic.{⊎-elim}
 use lib.ListN.{length, getD, take, set}
-use lib.Seq.{getD-set-same, getD-set-other}
+use lib.Seq.{getD-set-same, getD-set-other, getD-take, length-take-le}
 use Rattle.rules.specs.declared.Policy.{Policy}
 use Rattle.rules.specs.declared.Passage.{Passage}
 use Rattle.rules.specs.declared.Passage.the-variants.{P00}
@@ -87,3 +87,11 @@ module _ (next : List ℕ) (tried : ℕ) (policy : Policy) (side width : ℕ) wh
           ∙ getD-set-same after i v 0 in-row
           ∙ e
           ∙ ap₂ (λ x y. leastOf (throughPassage next policy side width x y) (take tried passagesInOrder)) s-is q-is
+
+-- the passages that are tried
+pub passage-tried : (tried p : ℕ) → p < tried → tried ≤ 5 → getD (take tried passagesInOrder) p P00 ≡ passageOf p
+passage-tried tried p l h = getD-take tried passagesInOrder p P00 l ∙ passage-at p (omega arith)
+
+pub tried-length : (tried : ℕ) → tried ≤ 5 → length (take tried passagesInOrder) ≡ tried
+unfolding passagesInOrder
+tried-length tried h = length-take-le tried passagesInOrder h

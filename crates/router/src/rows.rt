@@ -84,7 +84,7 @@ pub fn passage_length(passage: usize, width: usize) -> usize
 }
 
 // The way on over one passage, from a state behind the actions.
-fn through(
+pub fn through(
     next: &[u16],
     policy: usize,
     side: usize,
