@@ -31,6 +31,7 @@ use Rattle.router.specs.Candidates.{candidateOf}
 use Rattle.router.specs.Rows.{tab, afterAt, nextAt, throughPassage, AfterFilled}
 use Rattle.router.specs.Layers.{stepCode, leftCode, throughCandidate, throughAction, RowFilled}
 use Rattle.router.specs.Maps.{MapsReady}
+use Rattle.router.specs.Choosing.{leastAfter}
 use Rattle.router.specs.TableHolds.{sideOf, aisleOf, RowHolds}
 use Rattle.router.proofs.StepLaws.{state-of-code, cross-of, step-code}
 use Rattle.router.proofs.Passages.{state-small}
@@ -46,16 +47,26 @@ sat-none : (c : ℕ) → sat c noTour ≡ noTour
 unfolding sat
 sat-none c = omega arith
 
+-- the first passage alone behind the last aisle, all of them elsewhere
+abbrev pub triedAt : ℕ → ℕ
+triedAt zero = 1
+triedAt (suc n) = 5
+
+pub tried-passages : (n : ℕ) → take (triedAt n) passagesInOrder ≡ passagesBehind passagesInOrder n
+unfolding passagesInOrder
+tried-passages zero = refl
+tried-passages (suc n) = refl
+
 module _ (job : Job) where
-  abbrev values : ℕ → ℕ → State → List ℕ → ℕ
+  abbrev pub values : ℕ → ℕ → State → List ℕ → ℕ
   values = value (routing job (allActions job))
 
   -- the number of a demand after an action is below the weight
-  below-weight : (j : ℕ) (a : Action) (q : ℕ) → lessCode (radices job) (gains job j a) q < weight (job .lines)
+  pub below-weight : (j : ℕ) (a : Action) (q : ℕ) → lessCode (radices job) (gains job j a) q < weight (job .lines)
   below-weight j a q = omega (arith, less-code-below (gains job j a) (radices-positive job) (gains-length job j a) q, count-weight job)
 
   -- behind the actions of aisle j
-  abbrev behind : ℕ → ℕ → State → List ℕ → ℕ
+  abbrev pub behind : ℕ → ℕ → State → List ℕ → ℕ
   behind n j = afterAction (routing job (allActions job)) (values n (suc j)) n j
 
   -- from the dead state there is no way on
@@ -64,7 +75,7 @@ module _ (job : Job) where
   behind-dead n j none q =
       least-none _ (λ p. ap (λ s. sat (passageLength (job .layout) p) (values n (suc j) s q)) (passage-dead job j p) ∙ ap (sat (passageLength (job .layout) p)) (none q) ∙ sat-none (passageLength (job .layout) p)) (passagesBehind passagesInOrder n)
 
-  value-dead : (n j : ℕ) (q : List ℕ) → values n j dead q ≡ noTour
+  pub value-dead : (n j : ℕ) (q : List ℕ) → values n j dead q ≡ noTour
   value-dead zero j q = refl
   value-dead (suc n) j q =
       least-none _ (λ a. ap (λ s. sat (actionLength (job .layout) a) (behind n j s (less q (gains job j a)))) (action-dead job j a) ∙ ap (sat (actionLength (job .layout) a)) (behind-dead n j (value-dead n (suc j)) (less q (gains job j a))) ∙ sat-none (actionLength (job .layout) a)) (allActions job j)
@@ -82,25 +93,25 @@ module _ (job : Job) where
   next-value n j next holds ending q h = holds 7 q (omega arith) h
   next-value n j next holds dead q h = sym (value-dead n j (demandOf (radices job) q))
 
-  -- the first passage alone behind the last aisle, all of them elsewhere
-  abbrev pub triedAt : ℕ → ℕ
-  triedAt zero = 1
-  triedAt (suc n) = 5
+  module _ (n j : ℕ) (next : List ℕ) (holds : RowHolds job n (suc j) next) where
+    -- the way on over a passage
+    pub passage-value : (s q : ℕ) → q < weight (job .lines) → (p : Passage) → throughPassage next (policyOf (policyCode (job .policy))) (sideOf (job .layout .depot) j) (job .layout .width) s q p ≡ sat (passageLength (job .layout) p) (values n (suc j) (passageStep job j p (stateOf s)) (demandOf (radices job) q))
+    unfolding throughPassage passageLength
+    passage-value s q h p =
+        ap (sat (passageLength (job .layout) p))
+        (ap (λ t. nextAt next (stateCode t) q) (cross-of job j p (stateOf s)) ∙ next-value n (suc j) next holds (passageStep job j p (stateOf s)) q h)
 
-  tried-passages : (n : ℕ) → take (triedAt n) passagesInOrder ≡ passagesBehind passagesInOrder n
-  unfolding passagesInOrder
-  tried-passages zero = refl
-  tried-passages (suc n) = refl
+    -- the least over the passages
+    pub least-after-value : (s q : ℕ) → q < weight (job .lines) → leastAfter next (triedAt n) (policyOf (policyCode (job .policy))) (sideOf (job .layout .depot) j) (job .layout .width) s q ≡ behind n j (stateOf s) (demandOf (radices job) q)
+    unfolding afterAction leastAfter
+    least-after-value s q h = ap (leastOf _) (tried-passages n) ∙ least-cong _ _ (passage-value s q h) (passagesBehind passagesInOrder n)
 
-  -- the row behind the actions
-  pub after-value : (n j : ℕ) (next after : List ℕ) → RowHolds job n (suc j) next → AfterFilled after next (triedAt n) (policyOf (policyCode (job .policy))) (sideOf (job .layout .depot) j) (job .layout .width) (weight (job .lines) * 9) → (s q : ℕ) → s < 9 → q < weight (job .lines) → afterAt after s q ≡ behind n j (stateOf s) (demandOf (radices job) q)
-  unfolding afterAction throughPassage passageLength
-  after-value n j next after holds filled s q l h =
-      filled s q l (omega arith)
-      ∙ ap (leastOf _) (tried-passages n)
-      ∙ least-cong _ _ (λ p. ap (sat (passageLength (job .layout) p)) (ap (λ t. nextAt next (stateCode t) q) (cross-of job j p (stateOf s)) ∙ next-value n (suc j) next holds (passageStep job j p (stateOf s)) q h)) (passagesBehind passagesInOrder n)
+    -- the row behind the actions
+    pub after-value : (after : List ℕ) → AfterFilled after next (triedAt n) (policyOf (policyCode (job .policy))) (sideOf (job .layout .depot) j) (job .layout .width) (weight (job .lines) * 9) → (s q : ℕ) → s < 9 → q < weight (job .lines) → afterAt after s q ≡ behind n j (stateOf s) (demandOf (radices job) q)
+    unfolding leastAfter
+    after-value after filled s q l h = filled s q l (omega arith) ∙ least-after-value s q h
 
-  module _ (stocked : stockInBounds job ≡ true) (n j : ℕ) (after fronts backs : List ℕ) (maps : MapsReady job j fronts backs) (holds : (s q : ℕ) → s < 9 → q < weight (job .lines) → afterAt after s q ≡ behind n j (stateOf s) (demandOf (radices job) q)) where
+  module _ (stocked : stockInBounds job ≡ true) (n j : ℕ) (aft : ℕ → ℕ → ℕ) (fronts backs : List ℕ) (maps : MapsReady job j fronts backs) (holds : (s q : ℕ) → s < 9 → q < weight (job .lines) → aft s q ≡ behind n j (stateOf s) (demandOf (radices job) q)) where
     -- the demand after a candidate
     pub left-code : (a : Action) → Fits (job .layout .cells) a → (q : ℕ) → q < weight (job .lines) → leftCode fronts backs (candidateOf (job .layout .cells) a) q ≡ lessCode (radices job) (gains job j a) q
     unfolding leftCode
@@ -114,18 +125,18 @@ module _ (job : Job) where
         ∙ sym (less-by-parts job stocked j a fits q)
 
     -- the way over an action
-    pub through-value : (s q : ℕ) → s < 8 → q < weight (job .lines) → (a : Action) → Fits (job .layout .cells) a → throughAction (aisleOf job j) (afterAt after) fronts backs s q a ≡ sat (actionLength (job .layout) a) (behind n j (actionStep job j a (stateOf s)) (less (demandOf (radices job) q) (gains job j a)))
+    pub through-value : (s q : ℕ) → s < 8 → q < weight (job .lines) → (a : Action) → Fits (job .layout .cells) a → throughAction (aisleOf job j) aft fronts backs s q a ≡ sat (actionLength (job .layout) a) (behind n j (actionStep job j a (stateOf s)) (less (demandOf (radices job) q) (gains job j a)))
     unfolding throughAction throughCandidate aisleOf
     through-value s q l h a fits =
         ap₂ sat (length-of-candidate (job .layout) a)
-        (ap₂ (afterAt after) (step-code job j a s) (left-code a fits q h)
+        (ap₂ aft (step-code job j a s) (left-code a fits q h)
         ∙ holds (stateCode (actionStep job j a (stateOf s))) (lessCode (radices job) (gains job j a) q) (omega (arith, state-small (actionStep job j a (stateOf s)))) (below-weight j a q)
         ∙ ap₂ (behind n j) (state-of-code (actionStep job j a (stateOf s))) (less-code (gains job j a) (radices-positive job) (gains-length job j a) q))
 
-    -- the row of an aisle
-    pub row-value : (row : List ℕ) → RowFilled (aisleOf job j) row after fronts backs (length (actionsOf (job .layout .cells))) → RowHolds job (suc n) j row
-    unfolding aisleOf allActions
-    row-value row filled s q l h =
-        filled s q l h
-        ∙ ap (leastOf _) (take-length (actionsOf (job .layout .cells)))
-        ∙ least-agree _ _ (actionsOf (job .layout .cells)) (λ a m. through-value s q l h a (actions-sound (job .layout .cells) a m))
+  -- the row of an aisle
+  pub row-value : stockInBounds job ≡ true → (n j : ℕ) (after fronts backs row : List ℕ) → MapsReady job j fronts backs → ((s q : ℕ) → s < 9 → q < weight (job .lines) → afterAt after s q ≡ behind n j (stateOf s) (demandOf (radices job) q)) → RowFilled (aisleOf job j) row after fronts backs (length (actionsOf (job .layout .cells))) → RowHolds job (suc n) j row
+  unfolding aisleOf allActions
+  row-value stocked n j after fronts backs row maps holds filled s q l h =
+      filled s q l h
+      ∙ ap (leastOf _) (take-length (actionsOf (job .layout .cells)))
+      ∙ least-agree _ _ (actionsOf (job .layout .cells)) (λ a m. through-value stocked n j (afterAt after) fronts backs maps holds s q l h a (actions-sound (job .layout .cells) a m))

@@ -6,3 +6,4 @@ pub mod Maps
 pub mod Layers
 pub mod TableHolds
 pub mod Choosing
+pub mod Tracing

@@ -1,0 +1,214 @@
+-- One more aisle of the best plan is read out of the table. Assumes nothing.
+use Prim.Native.Nat.{ℕ, zero, suc, _+_, _*_, _-_, _≤_, _<_, min}
+use native.Mathlib.Omega.{arith}
+use mathlib.Core.Path.{_≡_, refl, sym, _∙_, ap, ap₂, subst, subst₂}
+use mathlib.Core.List.{List, [], _∷_, _++_, map, append-assoc}
+use mathlib.Core.Bool.{true}
+use mathlib.Core.Option.{Option, none, some}
+use lib.ListN.{length, getD, take, set, length-set}
+use lib.Seq.{take-suc-set}
+use Rattle.rules.specs.declared.Action.{Action}
+use Rattle.rules.specs.declared.Action.the-variants.{Void}
+use Rattle.rules.specs.declared.Passage.{Passage}
+use Rattle.rules.specs.declared.Passage.the-variants.{P00}
+use Rattle.rules.specs.Jobs.{Job}
+use Rattle.rules.specs.Refusals.{weight, stockInBounds}
+use Rattle.rules.specs.Lengths.{actionLength, passageLength}
+use Rattle.rules.specs.BestPlan.{actionsOf, passagesInOrder, bestPlan}
+use Rattle.rules.specs.Machine.{State, nothing, closed, atFront, atBack, odd, joined, split, ending, dead, actionStep, passageStep}
+use Rattle.rules.proofs.Lists.{map-append}
+use Rattle.rules.proofs.Enumeration.{actions-sound}
+use Rattle.optimum.specs.Least.{noTour, sat, leastOf, firstAt}
+use Rattle.optimum.specs.Table.{Rest, passagesBehind, onFrom, afterAction, value, choose}
+use Rattle.optimum.specs.Demand.{gains, less, radices, demandOf, lessCode}
+use Rattle.optimum.specs.Routing.{routing, allActions, restOf}
+use Rattle.optimum.proofs.Choice.{first-agree, first-at-cong, first-at-holds}
+use Rattle.optimum.proofs.Radix.{radices-positive, gains-length, less-code}
+use Rattle.values.specs.declared.Stage.{Stage}
+use Rattle.router.specs.States.{stateCode, stateOf}
+use Rattle.router.specs.Steps.{policyOf, policyCode, passageOf, crossOf}
+use Rattle.router.specs.Candidates.{candidateOf}
+use Rattle.router.specs.Rows.{throughPassage}
+use Rattle.router.specs.Layers.{stepCode, leftCode, throughAction}
+use Rattle.router.specs.Maps.{MapsReady}
+use Rattle.router.specs.Choosing.{leastAfter, FirstRank}
+use Rattle.router.specs.TableHolds.{sideOf, aisleOf, RowHolds}
+use Rattle.router.specs.Tracing.{stagesRest, Traced}
+use Rattle.router.proofs.StepLaws.{state-of-code, cross-of, step-code}
+use Rattle.router.proofs.Passages.{passage-tried, tried-length}
+use Rattle.router.proofs.ActionRows.{ranked-fits}
+use Rattle.router.proofs.FirstRanks.{rank-within}
+use Rattle.router.proofs.TableValues.{values, behind, triedAt, tried-passages, value-dead, below-weight, passage-value, least-after-value, left-code, through-value}
+
+-- a way on that leads somewhere started from something found
+on-found : {A B : Type 0} (o : Option A) (g : A → Option B) (y : B) → onFrom o g ≡ some y → (x : A) × (o ≡ some x) × (g x ≡ some y)
+on-found none g y e = let z : _≡_ {A = ℕ} 0 1 = cc in absurd (omega arith)
+on-found (some x) g y e = (x, refl, e)
+
+part-below : (c v w : ℕ) → sat c w ≡ v → v < noTour → w < noTour
+unfolding sat
+part-below c v w e h = omega arith
+
+-- a state from which there is a way on is not dead
+alive : (job : Job) (n j : ℕ) (t : State) (q : List ℕ) → values job n j t q < noTour → stateCode t < 8
+alive job n j nothing q h = omega arith
+alive job n j closed q h = omega arith
+alive job n j atFront q h = omega arith
+alive job n j atBack q h = omega arith
+alive job n j odd q h = omega arith
+alive job n j joined q h = omega arith
+alive job n j split q h = omega arith
+alive job n j ending q h = omega arith
+alive job n j dead q h = absurd (omega (arith, value-dead job n j q))
+
+-- one more stage
+stages-more : (stages : List Stage) (n : ℕ) (a : Action) (p : Passage) → n < length stages → stagesRest (set stages n (record { action = a; passage = p })) (suc n) ≡ stagesRest stages n ++ ((a, p) ∷ [])
+unfolding stagesRest
+stages-more stages n a p h =
+    ap (map _) (take-suc-set stages n (record { action = a; passage = p }) h) ∙ map-append _ (take n stages) (record { action = a; passage = p } ∷ [])
+
+module _ (job : Job) (stocked : stockInBounds job ≡ true) (n s q : ℕ) (next fronts backs : List ℕ) (maps : MapsReady job (suc n) fronts backs) (left : ℕ) (rows : RowHolds job left (suc (suc n)) next) (demand : q < weight (job .lines)) (state : s < 8) where
+  abbrev aft : ℕ → ℕ → ℕ
+  aft = leastAfter next (triedAt left) (policyOf (policyCode (job .policy))) (sideOf (job .layout .depot) (suc n)) (job .layout .width)
+
+  abbrev here : ℕ
+  here = values job (suc left) (suc n) (stateOf s) (demandOf (radices job) q)
+
+  abbrev costA : Action → ℕ
+  costA a = sat (actionLength (job .layout) a) (behind job left (suc n) (actionStep job (suc n) a (stateOf s)) (less (demandOf (radices job) q) (gains job (suc n) a)))
+
+  -- the action that the code finds is the one that the table leads to
+  action-found : (k : ℕ) (a : Action) → FirstRank (throughAction (aisleOf job (suc n)) aft fronts backs s q) here (actionsOf (job .layout .cells)) Void k → firstAt costA here (actionsOf (job .layout .cells)) ≡ some a → (k < length (actionsOf (job .layout .cells))) × (getD (actionsOf (job .layout .cells)) k Void ≡ a)
+  action-found k a rank found =
+      rank-within _ here Void (actionsOf (job .layout .cells)) k a rank
+      (first-agree _ _ here (actionsOf (job .layout .cells)) (λ b m. through-value job stocked left (suc n) aft fronts backs maps (λ t r l h. least-after-value job left (suc n) next rows t r h) s q state demand b (actions-sound (job .layout .cells) b m))
+      ∙ found)
+
+  -- and so is the passage
+  passage-found : (s₁ q₁ p : ℕ) (x : Passage) → q₁ < weight (job .lines) → triedAt left ≤ 5 → FirstRank (throughPassage next (policyOf (policyCode (job .policy))) (sideOf (job .layout .depot) (suc n)) (job .layout .width) s₁ q₁) (behind job left (suc n) (stateOf s₁) (demandOf (radices job) q₁)) (take (triedAt left) passagesInOrder) P00 p → firstAt (λ y. sat (passageLength (job .layout) y) (values job left (suc (suc n)) (passageStep job (suc n) y (stateOf s₁)) (demandOf (radices job) q₁))) (behind job left (suc n) (stateOf s₁) (demandOf (radices job) q₁)) (passagesBehind passagesInOrder left) ≡ some x → (p < triedAt left) × (passageOf p ≡ x)
+  passage-found s₁ q₁ p x h five rank found =
+      let w = rank-within _ (behind job left (suc n) (stateOf s₁) (demandOf (radices job) q₁)) P00 (take (triedAt left) passagesInOrder) p x rank (first-at-cong _ _ (passage-value job left (suc n) next rows s₁ q₁ h) (behind job left (suc n) (stateOf s₁) (demandOf (radices job) q₁)) (take (triedAt left) passagesInOrder) ∙ ap (firstAt _ (behind job left (suc n) (stateOf s₁) (demandOf (radices job) q₁))) (tried-passages left) ∙ found) in
+      let l : p < triedAt left = omega (arith, w .0, tried-length (triedAt left) five) in
+      (l, sym (passage-tried (triedAt left) p l five) ∙ w .1)
+
+  -- the state, the demand and the value behind the action
+  record Behind (a : Action) (s₁ q₁ : ℕ) : Type 0 where
+    state-is : stateOf s₁ ≡ actionStep job (suc n) a (stateOf s)
+    demand-is : demandOf (radices job) q₁ ≡ less (demandOf (radices job) q) (gains job (suc n) a)
+    demand-low : q₁ < weight (job .lines)
+
+  behind-action : (k : ℕ) (a : Action) (s₁ q₁ : ℕ) → k < length (actionsOf (job .layout .cells)) → getD (actionsOf (job .layout .cells)) k Void ≡ a → s₁ ≡ stepCode (aisleOf job (suc n)) (candidateOf (job .layout .cells) (getD (actionsOf (job .layout .cells)) k Void)) s → q₁ ≡ leftCode fronts backs (candidateOf (job .layout .cells) (getD (actionsOf (job .layout .cells)) k Void)) q → Behind a s₁ q₁
+  behind-action k a s₁ q₁ l e st dm =
+      let b = getD (actionsOf (job .layout .cells)) k Void in
+      let code : q₁ ≡ lessCode (radices job) (gains job (suc n) b) q = dm ∙ left-code job stocked left (suc n) aft fronts backs maps (λ t r l₁ h. least-after-value job left (suc n) next rows t r h) b (ranked-fits (job .layout .cells) k l) q demand in
+      record {
+        state-is = ap stateOf (st ∙ step-code job (suc n) b s) ∙ state-of-code (actionStep job (suc n) b (stateOf s)) ∙ ap (λ x. actionStep job (suc n) x (stateOf s)) e;
+        demand-is = ap (demandOf (radices job)) code ∙ less-code (gains job (suc n) b) (radices-positive job) (gains-length job (suc n) b) q ∙ ap (λ x. less (demandOf (radices job) q) (gains job (suc n) x)) e;
+        demand-low = omega (arith, code, below-weight job (suc n) b q);
+      }
+
+  -- the state and the demand behind an action, and the ways on from there
+  abbrev stateAfter : Action → State
+  stateAfter a = actionStep job (suc n) a (stateOf s)
+
+  abbrev demandAfter : Action → List ℕ
+  demandAfter a = less (demandOf (radices job) q) (gains job (suc n) a)
+
+  abbrev costP : Action → Passage → ℕ
+  costP a p = sat (passageLength (job .layout) p) (values job left (suc (suc n)) (passageStep job (suc n) p (stateAfter a)) (demandAfter a))
+
+  abbrev restAfter : Action → Passage → Option Rest
+  restAfter a p =
+      onFrom (choose (routing job (allActions job)) left (suc (suc n)) (passageStep job (suc n) p (stateAfter a)) (demandAfter a))
+      (λ rest. some ((a, p) ∷ rest))
+
+  abbrev passageAfter : Action → Option Rest
+  passageAfter a = onFrom (firstAt (costP a) (behind job left (suc n) (stateAfter a) (demandAfter a)) (passagesBehind passagesInOrder left)) (restAfter a)
+
+  -- what the table leads to from here: an action, a passage and the rest behind them
+  record Led (rest : Rest) : Type 0 where
+    action : Action
+    passage : Passage
+    others : Rest
+    action-first : firstAt costA here (actionsOf (job .layout .cells)) ≡ some action
+    passage-first : firstAt (costP action) (behind job left (suc n) (stateAfter action) (demandAfter action)) (passagesBehind passagesInOrder left) ≡ some passage
+    leads-on : choose (routing job (allActions job)) left (suc (suc n)) (passageStep job (suc n) passage (stateAfter action)) (demandAfter action) ≡ some others
+    parts : (action, passage) ∷ others ≡ rest
+
+  led : (rest : Rest) → choose (routing job (allActions job)) (suc left) (suc n) (stateOf s) (demandOf (radices job) q) ≡ some rest → Led rest
+  unfolding allActions
+  led rest e =
+      let x = on-found (firstAt costA here (actionsOf (job .layout .cells))) passageAfter rest e in
+      let y = on-found (firstAt (costP (x .0)) (behind job left (suc n) (stateAfter (x .0)) (demandAfter (x .0))) (passagesBehind passagesInOrder left)) (restAfter (x .0)) rest (x .2) in
+      let w = on-found (choose (routing job (allActions job)) left (suc (suc n)) (passageStep job (suc n) (y .0) (stateAfter (x .0))) (demandAfter (x .0))) (λ others. some ((x .0, y .0) ∷ others)) rest (y .2) in
+      record { action = x .0; passage = y .0; others = w .0; action-first = x .1; passage-first = y .1; leads-on = w .1; parts = some-same (w .2) }
+    where
+      some-same : {A : Type 0} {u v : A} → _≡_ {A = Option A} (some u) (some v) → u ≡ v
+      some-same e = cc
+
+  module _ (rest : Rest) (l : Led rest) (finite : here < noTour) where
+    behind-finite : behind job left (suc n) (stateAfter (l .action)) (demandAfter (l .action)) < noTour
+    behind-finite = part-below (actionLength (job .layout) (l .action)) here _ (first-at-holds costA here (actionsOf (job .layout .cells)) (l .action) (l .action-first)) finite
+
+    led-finite : values job left (suc (suc n)) (passageStep job (suc n) (l .passage) (stateAfter (l .action))) (demandAfter (l .action)) < noTour
+    led-finite = part-below (passageLength (job .layout) (l .passage)) _ _ (first-at-holds (costP (l .action)) _ (passagesBehind passagesInOrder left) (l .passage) (l .passage-first)) behind-finite
+
+  -- what the code finds in one aisle: the rank of the action, the state and the demand behind it, the passage and the state behind it
+  pub record Found (k s₁ q₁ v₂ p s₂ : ℕ) : Type 0 where
+    pub rank : FirstRank (throughAction (aisleOf job (suc n)) aft fronts backs s q) here (actionsOf (job .layout .cells)) Void k
+    pub state-to : s₁ ≡ stepCode (aisleOf job (suc n)) (candidateOf (job .layout .cells) (getD (actionsOf (job .layout .cells)) k Void)) s
+    pub demand-to : q₁ ≡ leftCode fronts backs (candidateOf (job .layout .cells) (getD (actionsOf (job .layout .cells)) k Void)) q
+    pub value-to : v₂ ≡ aft s₁ q₁
+    pub passage-rank : FirstRank (throughPassage next (policyOf (policyCode (job .policy))) (sideOf (job .layout .depot) (suc n)) (job .layout .width) s₁ q₁) v₂ (take (triedAt left) passagesInOrder) P00 p
+    pub state-past : s₂ ≡ stateCode (crossOf (policyOf (policyCode (job .policy))) (passageOf p) (sideOf (job .layout .depot) (suc n)) (stateOf s₁))
+
+  module _ (k s₁ q₁ v₂ p s₂ : ℕ) (f : Found k s₁ q₁ v₂ p s₂) (five : triedAt left ≤ 5) (rest : Rest) (l : Led rest) (finite : here < noTour) where
+    the-action : (k < length (actionsOf (job .layout .cells))) × (getD (actionsOf (job .layout .cells)) k Void ≡ l .action)
+    the-action = action-found k (l .action) (f .rank) (l .action-first)
+
+    after-it : Behind (l .action) s₁ q₁
+    after-it = behind-action k (l .action) s₁ q₁ (the-action .0) (the-action .1) (f .state-to) (f .demand-to)
+
+    value-is : v₂ ≡ behind job left (suc n) (stateOf s₁) (demandOf (radices job) q₁)
+    value-is = f .value-to ∙ least-after-value job left (suc n) next rows s₁ q₁ (after-it .demand-low)
+
+    the-passage : (p < triedAt left) × (passageOf p ≡ l .passage)
+    the-passage =
+        passage-found s₁ q₁ p (l .passage) (after-it .demand-low) five
+        (subst (λ v. FirstRank (throughPassage next (policyOf (policyCode (job .policy))) (sideOf (job .layout .depot) (suc n)) (job .layout .width) s₁ q₁) v (take (triedAt left) passagesInOrder) P00 p) value-is (f .passage-rank))
+        (subst₂ (λ t d. firstAt (λ y. sat (passageLength (job .layout) y) (values job left (suc (suc n)) (passageStep job (suc n) y t) d)) (behind job left (suc n) t d) (passagesBehind passagesInOrder left) ≡ some (l .passage)) (sym (after-it .state-is)) (sym (after-it .demand-is)) (l .passage-first))
+
+    state-is : s₂ ≡ stateCode (passageStep job (suc n) (l .passage) (stateAfter (l .action)))
+    state-is =
+        f .state-past
+        ∙ ap stateCode (cross-of job (suc n) (passageOf p) (stateOf s₁) ∙ ap₂ (passageStep job (suc n)) (the-passage .1) (after-it .state-is))
+
+    state-back : stateOf s₂ ≡ passageStep job (suc n) (l .passage) (stateAfter (l .action))
+    state-back = ap stateOf state-is ∙ state-of-code (passageStep job (suc n) (l .passage) (stateAfter (l .action)))
+
+    more-whole : (stages : List Stage) → n < length stages → stagesRest (set stages n (record { action = getD (actionsOf (job .layout .cells)) k Void; passage = passageOf p })) (suc n) ++ l .others ≡ stagesRest stages n ++ rest
+    more-whole stages h =
+        ap (λ xs. xs ++ l .others) (stages-more stages n (getD (actionsOf (job .layout .cells)) k Void) (passageOf p) h)
+        ∙ append-assoc (stagesRest stages n) _ (l .others)
+        ∙ ap₂ (λ x y. stagesRest stages n ++ ((x, y) ∷ l .others)) (the-action .1) (the-passage .1)
+        ∙ ap (λ xs. stagesRest stages n ++ xs) (l .parts)
+
+  -- the next aisle of the plan
+  pub trace-next : (stages : List Stage) → Traced job stages n s q → job .layout .aisles - n ≡ suc left → triedAt left ≤ 5 → n < 16 → (k s₁ q₁ v₂ p s₂ : ℕ) → Found k s₁ q₁ v₂ p s₂ → Traced job (set stages n (record { action = getD (actionsOf (job .layout .cells)) k Void; passage = passageOf p })) (suc n) s₂ q₁
+  trace-next stages t m-is five low k s₁ q₁ v₂ p s₂ f =
+      let left-is : job .layout .aisles - suc n ≡ left = omega arith in
+      let l : Led (t .rest) = led (t .rest) (rw m-is at (t .leads)) in
+      let finite : here < noTour = rw m-is at (t .finite) in
+      let on : values job left (suc (suc n)) (passageStep job (suc n) (l .passage) (stateAfter (l .action))) (demandAfter (l .action)) < noTour = led-finite (t .rest) l finite in
+      let back = state-back k s₁ q₁ v₂ p s₂ f five (t .rest) l finite in
+      let b = after-it k s₁ q₁ v₂ p s₂ f five (t .rest) l finite in
+      record {
+        sized = length-set stages n _ ∙ t .sized;
+        seen = omega arith;
+        state-below = omega (arith, state-is k s₁ q₁ v₂ p s₂ f five (t .rest) l finite, alive job left (suc (suc n)) (passageStep job (suc n) (l .passage) (stateAfter (l .action))) (demandAfter (l .action)) on);
+        demand-below = b .demand-low;
+        rest = l .others;
+        leads = rw (left-is, back, b .demand-is) (l .leads-on);
+        finite = rw (left-is, back, b .demand-is) on;
+        whole = more-whole k s₁ q₁ v₂ p s₂ f five (t .rest) l finite stages (omega (arith, t .sized)) ∙ t .whole;
+      }
