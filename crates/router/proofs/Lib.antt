@@ -9,3 +9,4 @@ pub mod Composition
 pub mod TableValues
 pub mod FirstRanks
 pub mod TraceLaws
+pub mod TraceEnds
