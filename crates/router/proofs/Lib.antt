@@ -10,3 +10,4 @@ pub mod TableValues
 pub mod FirstRanks
 pub mod TraceLaws
 pub mod TraceEnds
+pub mod Numbers

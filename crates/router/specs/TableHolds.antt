@@ -38,3 +38,7 @@ abbrev pub TableFrom : Job → ℕ → List ℕ → Type 0
 TableFrom job j work =
     (i s q : ℕ) → j ≤ i → i ≤ job .layout .aisles → s < 8 → q < weight (job .lines)
     → getD work ((i - 1) * 2048 + (q * 8 + s)) 0 ≡ value (routing job (allActions job)) (suc (job .layout .aisles) - i) i (stateOf s) (demandOf (radices job) q)
+
+-- the row behind the last aisle: length 0 in the closed state with nothing lacking, else 'none'
+unfoldable pub endEntry : ℕ → ℕ
+endEntry i = cond (eqb i 1) 0 65535

@@ -4,3 +4,4 @@ mod choices;
 mod layers;
 mod rows;
 mod steps;
+mod table;
