@@ -9,6 +9,7 @@ use lib.ListN.{length, getD, set, length-set}
 use lib.Seq.{getD-set-same, getD-set-other}
 use Rattle.optimum.specs.Least.{noTour, sat}
 use Rattle.router.specs.Rows.{tab, afterAt, Relaxed, RelaxReady, RelaxedRow}
+use Rattle.router.specs.Stored.{StoredTo}
 
 -- an index below i + 1 is below i, or i
 pub below : (k i : ℕ) → k < i + 1 → (k < i) ⊎ (k ≡ i)
@@ -63,3 +64,15 @@ filled-one f xs i v in-list filled e k h =
     ⊎-elim (λ l. getD-set-other xs i k v 0 (λ p. omega arith) ∙ filled k l)
     (λ p. ap (λ n. getD (set xs i v) n 0) p ∙ getD-set-same xs i v 0 in-list ∙ e ∙ ap f (sym p))
     (below k i h)
+
+-- one more number of a row is stored
+pub stored-none : (work row : List ℕ) (at : ℕ) → StoredTo work work row at 0
+stored-none work row at = record { kept = refl; done = λ k h. absurd (omega arith); rest = λ k h. refl }
+
+pub stored-one : (work work′ row : List ℕ) (at i : ℕ) → at + i < length work → StoredTo work work′ row at i → StoredTo work (set work′ (at + i) (getD row i 0)) row at (i + 1)
+stored-one work work′ row at i in-work t =
+    record {
+      kept = length-set work′ (at + i) (getD row i 0) ∙ t .kept;
+      done = λ k h. ⊎-elim (λ l. getD-set-other work′ (at + i) (at + k) (getD row i 0) 0 (λ p. omega arith) ∙ t .done k l) (λ p. ap (λ n. getD (set work′ (at + i) (getD row i 0)) (at + n) 0) p ∙ getD-set-same work′ (at + i) (getD row i 0) 0 (omega (arith, t .kept)) ∙ ap (λ n. getD row n 0) (sym p)) (below k i h);
+      rest = λ k h. getD-set-other work′ (at + i) k (getD row i 0) 0 (λ p. ⊎-elim (λ l. omega arith) (λ l. omega arith) h) ∙ t .rest k (⊎-elim (λ l. inl l) (λ l. inr (omega arith)) h);
+    }

@@ -32,7 +32,7 @@ use Rattle.router.specs.Rows.{tab, afterAt, nextAt, throughPassage, Afte
 use Rattle.router.specs.Layers.{stepCode, leftCode, throughCandidate, throughAction, RowFilled}
 use Rattle.router.specs.Maps.{MapsReady}
 use Rattle.router.specs.Choosing.{leastAfter}
-use Rattle.router.specs.TableHolds.{sideOf, aisleOf, RowHolds}
+use Rattle.router.specs.TableHolds.{sideOf, aisleOf, triedAt, RowHolds}
 use Rattle.router.proofs.StepLaws.{state-of-code, cross-of, step-code}
 use Rattle.router.proofs.Passages.{state-small}
 use Rattle.router.proofs.ActionRows.{candidate-parts}
@@ -46,11 +46,6 @@ least-none f e (x ∷ xs) = omega (arith, e x, least-none f e xs)
 sat-none : (c : ℕ) → sat c noTour ≡ noTour
 unfolding sat
 sat-none c = omega arith
-
--- the first passage alone behind the last aisle, all of them elsewhere
-abbrev pub triedAt : ℕ → ℕ
-triedAt zero = 1
-triedAt (suc n) = 5
 
 pub tried-passages : (n : ℕ) → take (triedAt n) passagesInOrder ≡ passagesBehind passagesInOrder n
 unfolding passagesInOrder

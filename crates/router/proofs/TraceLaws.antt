@@ -32,13 +32,13 @@ use Rattle.router.specs.Rows.{throughPassage}
 use Rattle.router.specs.Layers.{stepCode, leftCode, throughAction}
 use Rattle.router.specs.Maps.{MapsReady}
 use Rattle.router.specs.Choosing.{leastAfter, FirstRank}
-use Rattle.router.specs.TableHolds.{sideOf, aisleOf, RowHolds}
+use Rattle.router.specs.TableHolds.{sideOf, aisleOf, triedAt, RowHolds}
 use Rattle.router.specs.Tracing.{stagesRest, Traced}
 use Rattle.router.proofs.StepLaws.{state-of-code, cross-of, step-code}
 use Rattle.router.proofs.Passages.{passage-tried, tried-length}
 use Rattle.router.proofs.ActionRows.{ranked-fits}
 use Rattle.router.proofs.FirstRanks.{rank-within}
-use Rattle.router.proofs.TableValues.{values, behind, triedAt, tried-passages, value-dead, below-weight, passage-value, least-after-value, left-code, through-value}
+use Rattle.router.proofs.TableValues.{values, behind, tried-passages, value-dead, below-weight, passage-value, least-after-value, left-code, through-value}
 
 -- a way on that leads somewhere started from something found
 on-found : {A B : Type 0} (o : Option A) (g : A → Option B) (y : B) → onFrom o g ≡ some y → (x : A) × (o ≡ some x) × (g x ≡ some y)

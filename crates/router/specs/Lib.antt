@@ -7,3 +7,4 @@ pub mod Layers
 pub mod TableHolds
 pub mod Choosing
 pub mod Tracing
+pub mod Stored

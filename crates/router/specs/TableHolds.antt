@@ -1,5 +1,5 @@
 -- What the work area holds when the table is filled.
-use Prim.Native.Nat.{ℕ, suc, _+_, _*_, _-_, _≤_, _<_}
+use Prim.Native.Nat.{ℕ, zero, suc, _+_, _*_, _-_, _≤_, _<_}
 use mathlib.Core.Path.{_≡_}
 use mathlib.Core.List.{List}
 use mathlib.Core.Bool.{Bool, cond}
@@ -27,6 +27,11 @@ flagOf b = cond b 1 0
 unfoldable pub aisleOf : Job → ℕ → Aisle
 aisleOf job j =
     record { layout = job .layout; policy = policyCode (job .policy); holds = flagOf (holdsListed job j); weight = weight (job .lines) }
+
+-- how many passages are tried with n aisles to the right: 00 alone behind the last aisle, all elsewhere
+abbrev pub triedAt : ℕ → ℕ
+triedAt zero = 1
+triedAt (suc n) = 5
 
 -- a row holds the table's values with n aisles left from aisle j on
 abbrev pub RowHolds : Job → ℕ → ℕ → List ℕ → Type 0

@@ -4,4 +4,5 @@ mod choices;
 mod layers;
 mod rows;
 mod steps;
+mod stored;
 mod table;
