@@ -11,3 +11,4 @@ pub mod FirstRanks
 pub mod TraceLaws
 pub mod TraceEnds
 pub mod Numbers
+pub mod TableFills

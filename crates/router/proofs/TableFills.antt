@@ -1,0 +1,86 @@
+-- The rows of the table, from the one behind the last aisle to the first. Assumes nothing.
+use Prim.Native.Nat.{ℕ, zero, suc, _+_, _*_, _-_, _≤_, _<_}
+use native.Mathlib.Omega.{arith}
+use native.Mathlib.Nat.{eq-or-lt-of-le}
+use mathlib.Core.Path.{_≡_, refl, sym, _∙_, ap, ap₂, subst}
+use mathlib.Core.Logic.{_⊎_, inl, inr, ⊎-elim}
+use mathlib.Core.List.{List}
+use mathlib.Core.Bool.{Bool, true, false, cond, _&&_}
+use lib.Dec.{eqb}
+use borrow.Author.Tests.{eqb-true, eqb-false, eq-eqb, ne-eqb}
+use lib.ListN.{length, getD}
+use Rattle.rules.specs.Jobs.{Job}
+use Rattle.rules.specs.Refusals.{weight}
+use Rattle.rules.specs.Machine.{isClosed}
+use Rattle.optimum.specs.Least.{noTour}
+use Rattle.optimum.specs.Demand.{radices, demandOf, met}
+use Rattle.router.specs.States.{stateOf}
+use Rattle.router.specs.Steps.{bit}
+use Rattle.router.specs.Rows.{tab}
+use Rattle.router.specs.Stored.{StoredTo}
+use Rattle.router.specs.TableHolds.{flagOf, triedAt, RowHolds, TableFrom, endEntry}
+use Rattle.router.proofs.TableValues.{values}
+use Rattle.router.proofs.Composition.{met-zero}
+
+-- the only closed state has the number 1
+closed-code : (s : ℕ) → isClosed (stateOf s) ≡ eqb s 1
+closed-code zero = refl
+closed-code (suc zero) = refl
+closed-code (suc (suc zero)) = refl
+closed-code (suc (suc (suc zero))) = refl
+closed-code (suc (suc (suc (suc zero)))) = refl
+closed-code (suc (suc (suc (suc (suc zero))))) = refl
+closed-code (suc (suc (suc (suc (suc (suc zero)))))) = refl
+closed-code (suc (suc (suc (suc (suc (suc (suc zero))))))) = refl
+closed-code (suc (suc (suc (suc (suc (suc (suc (suc s)))))))) = sym (ne-eqb (suc (suc (suc (suc (suc (suc (suc (suc s)))))))) 1 (λ e. omega arith))
+
+-- the place of the closed state with nothing lacking
+end-place : (s q : ℕ) → s < 8 → eqb (q * 8 + s) 1 ≡ (eqb s 1 && eqb q 0)
+end-place s q l = go (eqb s 1) refl (eqb q 0) refl
+  where
+    go : (a : Bool) → eqb s 1 ≡ a → (b : Bool) → eqb q 0 ≡ b → eqb (q * 8 + s) 1 ≡ (a && b)
+    go true e true f = eq-eqb (q * 8 + s) 1 (omega (arith, eqb-true s 1 e, eqb-true q 0 f))
+    go true e false f = ne-eqb (q * 8 + s) 1 (λ p. eqb-false q 0 f (omega (arith, eqb-true s 1 e)))
+    go false e b f = ne-eqb (q * 8 + s) 1 (λ p. eqb-false s 1 e (omega arith))
+
+module _ (job : Job) (small : weight (job .lines) ≤ 256) where
+  -- behind the last aisle
+  pub end-holds : (j : ℕ) (next : List ℕ) → ((k : ℕ) → k < 2048 → getD next k 0 ≡ endEntry k) → RowHolds job 0 j next
+  unfolding endEntry
+  end-holds j next filled s q l h =
+      filled (q * 8 + s) (omega arith)
+      ∙ ap (λ b. cond b 0 65535) (end-place s q l ∙ ap₂ _&&_ (sym (closed-code s)) (sym (met-zero job q h)))
+
+  -- a copy of a row
+  pub row-copied : (n j : ℕ) (row next : List ℕ) → RowHolds job n j row → ((k : ℕ) → k < 2048 → getD next k 0 ≡ getD row k 0) → RowHolds job n j next
+  row-copied n j row next holds same s q l h = same (q * 8 + s) (omega arith) ∙ holds s q l h
+
+  -- what the table holds for aisle i
+  abbrev Entry : List ℕ → ℕ → ℕ → ℕ → Type 0
+  Entry work i s q = getD work ((i - 1) * 2048 + (q * 8 + s)) 0 ≡ values job (suc (job .layout .aisles) - i) i (stateOf s) (demandOf (radices job) q)
+
+  -- one more row of the table
+  pub table-more : (j : ℕ) (work work′ row : List ℕ) → 1 ≤ j → j ≤ job .layout .aisles → TableFrom job (suc j) work → StoredTo work work′ row ((j - 1) * 2048) 2048 → RowHolds job (suc (job .layout .aisles - j)) j row → TableFrom job j work′
+  table-more j work work′ row low high table stored holds i s q l m t h = ⊎-elim here later (eq-or-lt-of-le l)
+    where
+      left-is : suc (job .layout .aisles) - j ≡ suc (job .layout .aisles - j)
+      left-is = omega arith
+
+      at-j : Entry work′ j s q
+      at-j = stored .done (q * 8 + s) (omega arith) ∙ holds s q t h ∙ ap (λ n. values job n j (stateOf s) (demandOf (radices job) q)) (sym left-is)
+
+      here : j ≡ i → Entry work′ i s q
+      here e = subst (λ k. Entry work′ k s q) e at-j
+
+      later : j < i → Entry work′ i s q
+      later k = stored .rest ((i - 1) * 2048 + (q * 8 + s)) (inr (omega arith)) ∙ table i s q k m t h
+
+  -- a row of the table that is loaded
+  pub row-loaded : (j : ℕ) (work next : List ℕ) → TableFrom job 1 work → 1 ≤ j → j ≤ job .layout .aisles → ((k : ℕ) → k < 2048 → getD next k 0 ≡ getD work ((j - 1) * 2048 + k) 0) → RowHolds job (suc (job .layout .aisles) - j) j next
+  row-loaded j work next table low high same s q l h = same (q * 8 + s) (omega arith) ∙ table j s q low high l h
+
+-- a flag is the number of its test
+pub flag-is : (r : ℕ) (b : Bool) → bit r ≡ b → r < 2 → r ≡ flagOf b
+flag-is zero b e l = ap flagOf e
+flag-is (suc zero) b e l = ap flagOf e
+flag-is (suc (suc r)) b e l = absurd (omega arith)
