@@ -1,3 +1,5 @@
 pub mod Bytes
 pub mod Told
 pub mod Behind
+pub mod Storing
+pub mod Whole
