@@ -3,3 +3,7 @@ pub mod Told
 pub mod Behind
 pub mod Storing
 pub mod Whole
+pub mod Left
+pub mod Ranges
+pub mod Cells
+pub mod Sums

@@ -16,7 +16,7 @@ use Rattle.rules.specs.Jobs.{Job}
 use Rattle.rules.specs.JobFile.{Reading, _>>=_, readRecord, readLine, readSection, readLayoutSection, readSections, readJob, atEnd, jobFileLimit, letterS, letterD}
 use Rattle.jobfile.specs.declared.JobValue.{JobValue}
 use Rattle.jobfile.specs.declared.raw.RawJob.{RawJob}
-use Rattle.jobfile.specs.Kept.{kept, keptOf, Held, Sized, Keeps, RawOf, Raw, NoJob}
+use Rattle.jobfile.specs.Kept.{kept, keptOf, Held, Keeps, RawOf, Raw, NoJob}
 use Rattle.jobfile.proofs.Bytes.{bytes-from}
 
 -- lines that were read, up to next, and the first of them in an array

@@ -9,6 +9,7 @@ use Rattle.rules.specs.Jobs.{Job}
 use Rattle.rules.specs.JobFile.{Reading, _>>=_, readJob}
 use Rattle.jobfile.specs.declared.JobValue.{JobValue}
 use Rattle.jobfile.specs.declared.raw.RawJob.{RawJob}
+use Rattle.jobfile.specs.Values.{Sized}
 
 -- of the lines that were read: their number and the first of them, as many as there is room for
 abbrev pub kept : {A : Type 0} → ℕ → Reading (List A) → Reading (ℕ × List A)
@@ -25,11 +26,6 @@ keptOf s false next count xs = none
 pub record Held {A : Type 0} (room : ℕ) (s : List ℕ) (reading : Reading (List A)) (ok : Bool) (next count : ℕ) (xs : List A) : Type 0 where
   pub same : keptOf s ok next count xs ≡ kept room reading
   pub size : length xs ≡ room
-
--- the arrays of a job have the room that they are declared with
-pub record Sized (value : JobValue) : Type 0 where
-  pub stock : length (value .stock) ≡ 384
-  pub lines : length (value .lines) ≡ 8
 
 -- a job by value holds a job, with the first 384 of its records and the first 8 of its lines
 pub record Keeps (value : JobValue) (job : Job) : Type 0 where

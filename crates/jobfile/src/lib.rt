@@ -1,8 +1,11 @@
 // Reading a job: job bytes to the job by value, or to the first refusal that applies.
+mod amounts;
+mod bounds;
 mod cursor;
 mod lines;
 mod raw;
 mod sections;
+mod twice;
 
 use rules::Layout;
 use rules::OrderLine;

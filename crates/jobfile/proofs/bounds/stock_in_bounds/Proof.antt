@@ -1,0 +1,91 @@
+use lib.ListN.{take}
+use Rattle.rules.specs.Lists.{allOf}
+use Rattle.jobfile.proofs.Ranges.{noRecord, stock-many, stock-tested}
+use borrow.Author.Tests.{not-true, not-false}
+use borrow.Author.Needs.{needs}
+use native.Mathlib.Omega.{arith}
+use mathlib.Core.Path.{sym, _∙_}
+use mathlib.Core.Path.{sym, _∙_, ap}
+use Rattle.jobfile.proofs.Left.{left-all, AllFrom, all-hold, all-fails, all-more}
+use Rattle.jobfile.specs.Values.{storeOnly}
+use Rattle.rules.specs.Refusals.{recordInBounds}
+use Prim.Native.Nat.{_-_, _≤_}
+use Rattle.jobfile.proofs.bounds.stock_in_bounds.Statement.{statement}
+use Rattle.jobfile.proofs.bounds.stock_in_bounds.Tie as tie
+use Rattle.jobfile.proofs.bounds.stock_in_bounds.Reads as reads
+use Rattle.jobfile.proofs.bounds.stock_in_bounds.Lts as lts
+use Rattle.jobfile.proofs.bounds.record_in_bounds.Reads as record-in-bounds-reads
+
+abbrev Inv-loop : tie.InvT-loop
+Inv-loop job records z i₀ i = AllFrom (recordInBounds (storeOnly z)) records (job .stock) (allOf (recordInBounds (storeOnly z)) (take records (job .stock))) i
+
+abbrev μ-loop : tie.MeasureT-loop
+μ-loop job records z i₀ i = records - i
+
+-- src/bounds.rt:50:9
+returns : tie.Need-returns Inv-loop μ-loop
+returns c = sym (stock-many (c .before .args .t1) (c .before .pre) (c .if1 .taken))
+
+-- src/bounds.rt:54:5
+loop-holds : tie.Need-loop-holds Inv-loop μ-loop
+loop-holds c = let job = c .before .before .args .t1 in ap (allOf (recordInBounds (storeOnly (job .layout)))) (left-all (job .records) (job .stock))
+
+-- src/bounds.rt:55:19
+mul-row : tie.Need-mul-row Inv-loop μ-loop
+mul-row c = omega arith
+
+-- src/bounds.rt:55:19
+element-copy-out-row : tie.Need-element-copy-out-row Inv-loop μ-loop
+element-copy-out-row c = omega arith
+
+-- src/bounds.rt:56:13
+record-in-bounds-requires : tie.Need-record-in-bounds-requires Inv-loop μ-loop
+record-in-bounds-requires c κs = search needs
+
+-- src/bounds.rt:57:13
+returns-2 : tie.Need-returns-2 Inv-loop μ-loop
+returns-2 c = let x = c .before .before .before .before .before .before .before in
+    let job = x .args .t1 in
+    let l = c .before .before .before .before .loop in
+    let r = c .before .record-in-bounds in
+    sym (stock-tested job (x .pre) (c .before .before .before .before .before .before .if1 .left) ∙ all-fails (recordInBounds (storeOnly (job .layout))) (job .records) (job .stock) (allOf (recordInBounds (storeOnly (job .layout))) (take (job .records) (job .stock))) (l .i) noRecord (c .before .before .before .loop-test .taken) (omega (arith, x .pre .stock)) (l .inv) (sym (r .ensures) ∙ not-true (r .result) (c .if2 .taken)))
+
+-- src/bounds.rt:59:9
+add-i : tie.Need-add-i Inv-loop μ-loop
+add-i c = omega arith
+
+-- src/bounds.rt:54:5
+loop-less : tie.Need-loop-less Inv-loop μ-loop
+loop-less c = omega arith
+
+-- src/bounds.rt:54:5
+loop-again : tie.Need-loop-again Inv-loop μ-loop
+loop-again c = let x = c .before .before .before .before .before .before .before in
+    let job = x .args .t1 in
+    let l = c .before .before .before .before .loop in
+    let r = c .before .record-in-bounds in
+    all-more (recordInBounds (storeOnly (job .layout))) (job .records) (job .stock) (allOf (recordInBounds (storeOnly (job .layout))) (take (job .records) (job .stock))) (l .i) noRecord (c .before .before .before .loop-test .taken) (omega (arith, x .pre .stock)) (l .inv) (sym (r .ensures) ∙ not-false (r .result) (c .if2 .left))
+
+-- src/bounds.rt:44:1
+returns-3 : tie.Need-returns-3 Inv-loop μ-loop
+returns-3 c = let x = c .before .before .before .before in
+    let job = x .args .t1 in
+    let l = c .before .loop in
+    sym (stock-tested job (x .pre) (c .before .before .before .if1 .left) ∙ all-hold (recordInBounds (storeOnly (job .layout))) (job .records) (job .stock) (allOf (recordInBounds (storeOnly (job .layout))) (take (job .records) (job .stock))) (l .i) (l .inv) (c .loop-test .left))
+
+pub stock-in-bounds-spec : {M : Type 1} → statement M
+stock-in-bounds-spec =
+    tie.close
+    (tie.spec
+    Inv-loop
+    μ-loop
+    returns
+    loop-holds
+    mul-row
+    element-copy-out-row
+    record-in-bounds-requires
+    returns-2
+    add-i
+    loop-less
+    loop-again
+    returns-3)

@@ -1,0 +1,79 @@
+use Rattle.jobfile.proofs.Left.{left, AnyFrom, any-fails, any-holds, any-more}
+use Rattle.jobfile.proofs.Ranges.{noLine}
+use Rattle.rules.specs.Refusals.{sameArticle}
+use Rattle.rules.specs.Lists.{anyOf}
+use Rattle.rules.specs.declared.OrderLine.{OrderLine}
+use lib.Dec.{eqb}
+use borrow.Author.Tests.{eq-eqb, ne-eqb}
+use native.Mathlib.Omega.{arith}
+use mathlib.Core.Path.{refl, sym}
+use Prim.Native.Nat.{_-_, _≤_}
+use Rattle.jobfile.proofs.twice.article_from.Statement.{statement}
+use Rattle.jobfile.proofs.twice.article_from.Tie as tie
+use Rattle.jobfile.proofs.twice.article_from.Reads as reads
+use Rattle.jobfile.proofs.twice.article_from.Lts as lts
+
+abbrev Inv-loop : tie.InvT-loop
+Inv-loop count from lines article i₀ i = AnyFrom (λ (l : OrderLine). eqb article (l .article)) count lines (anyOf (λ (l : OrderLine). eqb article (l .article)) (left count from lines)) i
+
+abbrev μ-loop : tie.MeasureT-loop
+μ-loop count from lines article i₀ i = count - i
+
+-- src/twice.rt:40:5
+loop-holds : tie.Need-loop-holds Inv-loop μ-loop
+loop-holds c = refl
+
+-- src/twice.rt:41:21
+mul-other : tie.Need-mul-other Inv-loop μ-loop
+mul-other c = omega (arith, c .before .before .pre .0)
+
+-- src/twice.rt:41:21
+array-copy-out-other : tie.Need-array-copy-out-other Inv-loop μ-loop
+array-copy-out-other c = omega (arith, c .before .before .pre .0)
+
+-- src/twice.rt:43:13
+returns : tie.Need-returns Inv-loop μ-loop
+unfolding sameArticle
+returns c = let x = c .before .before .before .before .before in
+    let l = c .before .before .before .before .loop in
+    let a = x .args in
+    sym (any-holds (sameArticle (a .line)) (a .count) (a .t1) (anyOf (sameArticle (a .line)) (left (a .count) (a .from) (a .t1))) (l .i) noLine (c .before .before .before .loop-test .taken) (omega (arith, x .pre .0, x .pre .1)) (l .inv) (eq-eqb _ _ (c .if1 .taken)))
+
+-- src/twice.rt:45:9
+add-i : tie.Need-add-i Inv-loop μ-loop
+add-i c = omega (arith, c .before .before .before .before .before .pre .0)
+
+-- src/twice.rt:40:5
+loop-less : tie.Need-loop-less Inv-loop μ-loop
+loop-less c = omega arith
+
+-- src/twice.rt:40:5
+loop-again : tie.Need-loop-again Inv-loop μ-loop
+unfolding sameArticle
+loop-again c = let x = c .before .before .before .before .before in
+    let l = c .before .before .before .before .loop in
+    let a = x .args in
+    any-more (sameArticle (a .line)) (a .count) (a .t1) (anyOf (sameArticle (a .line)) (left (a .count) (a .from) (a .t1))) (l .i) noLine (c .before .before .before .loop-test .taken) (omega (arith, x .pre .0, x .pre .1)) (l .inv) (ne-eqb _ _ (c .if1 .left))
+
+-- src/twice.rt:34:1
+returns-2 : tie.Need-returns-2 Inv-loop μ-loop
+unfolding sameArticle
+returns-2 c = let x = c .before .before in
+    let l = c .before .loop in
+    let a = x .args in
+    sym (any-fails (sameArticle (a .line)) (a .count) (a .t1) (anyOf (sameArticle (a .line)) (left (a .count) (a .from) (a .t1))) (l .i) (l .inv) (c .loop-test .left))
+
+pub article-from-spec : {M : Type 1} → statement M
+article-from-spec =
+    tie.close
+    (tie.spec
+    Inv-loop
+    μ-loop
+    loop-holds
+    mul-other
+    array-copy-out-other
+    returns
+    add-i
+    loop-less
+    loop-again
+    returns-2)

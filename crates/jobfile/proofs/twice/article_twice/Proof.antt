@@ -1,0 +1,87 @@
+use Rattle.jobfile.proofs.Left.{left-all, TwoFrom, two-none, two-found, two-more}
+use Rattle.jobfile.proofs.Ranges.{noLine}
+use Rattle.rules.specs.Refusals.{sameArticle}
+use Rattle.rules.specs.Lists.{anyTwo}
+use lib.ListN.{take}
+use native.Mathlib.Omega.{arith}
+use mathlib.Core.Path.{sym, _∙_, ap}
+use Prim.Native.Nat.{_-_}
+use Rattle.jobfile.proofs.twice.article_twice.Statement.{statement}
+use Rattle.jobfile.proofs.twice.article_twice.Tie as tie
+use Rattle.jobfile.proofs.twice.article_twice.Reads as reads
+use Rattle.jobfile.proofs.twice.article_twice.Lts as lts
+use Rattle.jobfile.proofs.twice.article_from.Reads as article-from-reads
+
+abbrev Inv-loop : tie.InvT-loop
+Inv-loop count lines i₀ i = TwoFrom sameArticle count lines (anyTwo sameArticle (take count lines)) i
+
+abbrev μ-loop : tie.MeasureT-loop
+μ-loop count lines i₀ i = count - i
+
+-- src/twice.rt:58:5
+loop-holds : tie.Need-loop-holds Inv-loop μ-loop
+loop-holds c = let job = c .before .args .job in ap (anyTwo sameArticle) (left-all (job .«order_lines») (job .lines))
+
+-- src/twice.rt:59:20
+mul-line : tie.Need-mul-line Inv-loop μ-loop
+mul-line c = omega (arith, c .before .before .before .pre .count)
+
+-- src/twice.rt:59:20
+array-copy-out-line : tie.Need-array-copy-out-line Inv-loop μ-loop
+array-copy-out-line c = omega (arith, c .before .before .before .pre .count)
+
+-- src/twice.rt:60:39
+add-article-from : tie.Need-add-article-from Inv-loop μ-loop
+add-article-from c = omega (arith, c .before .before .before .before .pre .count)
+
+-- src/twice.rt:60:12
+article-from-requires : tie.Need-article-from-requires Inv-loop μ-loop
+article-from-requires c κs = let p = c .before .before .before .before .pre in (p .count, p .size)
+
+-- src/twice.rt:61:13
+returns : tie.Need-returns Inv-loop μ-loop
+returns c = let x = c .before .before .before .before .before .before in
+    let l = c .before .before .before .before .loop in
+    let job = x .args .job in
+    let r = c .before .article-from in
+    sym (two-found sameArticle (job .«order_lines») (job .lines) (anyTwo sameArticle (take (job .«order_lines») (job .lines))) (l .i) noLine (c .before .before .before .loop-test .taken) (omega (arith, x .pre .size, x .pre .count)) (l .inv) (sym (r .ensures) ∙ c .if1 .taken))
+
+-- src/twice.rt:63:9
+add-i : tie.Need-add-i Inv-loop μ-loop
+add-i c = omega (arith, c .before .before .before .before .before .before .pre .count)
+
+-- src/twice.rt:58:5
+loop-less : tie.Need-loop-less Inv-loop μ-loop
+loop-less c = omega arith
+
+-- src/twice.rt:58:5
+loop-again : tie.Need-loop-again Inv-loop μ-loop
+loop-again c = let x = c .before .before .before .before .before .before in
+    let l = c .before .before .before .before .loop in
+    let job = x .args .job in
+    let r = c .before .article-from in
+    two-more sameArticle (job .«order_lines») (job .lines) (anyTwo sameArticle (take (job .«order_lines») (job .lines))) (l .i) noLine (c .before .before .before .loop-test .taken) (omega (arith, x .pre .size, x .pre .count)) (l .inv) (sym (r .ensures) ∙ c .if1 .left)
+
+-- src/twice.rt:51:1
+returns-2 : tie.Need-returns-2 Inv-loop μ-loop
+returns-2 c = let x = c .before .before .before in
+    let l = c .before .loop in
+    let job = x .args .job in
+    sym (two-none sameArticle (job .«order_lines») (job .lines) (anyTwo sameArticle (take (job .«order_lines») (job .lines))) (l .i) (l .inv) (c .loop-test .left))
+
+pub article-twice-spec : {M : Type 1} → statement M
+article-twice-spec =
+    tie.close
+    (tie.spec
+    Inv-loop
+    μ-loop
+    loop-holds
+    mul-line
+    array-copy-out-line
+    add-article-from
+    article-from-requires
+    returns
+    add-i
+    loop-less
+    loop-again
+    returns-2)
