@@ -7,3 +7,4 @@ pub mod Left
 pub mod Ranges
 pub mod Cells
 pub mod Sums
+pub mod Verdicts

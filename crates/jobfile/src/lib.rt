@@ -12,6 +12,9 @@ use rules::OrderLine;
 use rules::Policy;
 use rules::Refusal;
 use rules::StockRecord;
+ghost use mathlib.Core.Path.{_≡_};
+ghost use Rattle.jobfile.specs.Values.{Sized};
+ghost use Rattle.jobfile.specs.Answer.{Decides, ReadsJob};
 
 // A job by value: its stock is the first `records` elements of `stock`, its list the first `order_lines` elements of `lines`.
 pub struct JobValue {
@@ -33,4 +36,48 @@ pub enum Verdict {
 pub struct ReadJob {
     pub verdict: Verdict,
     pub job: JobValue,
+}
+
+// The first refusal that applies to a job, in the order of the table.
+fn verdict_on(job: JobValue) -> Verdict
+    requires { ⌜ Sized job ⌝ }
+    ensures { λ r. ⌜ Decides job r ⌝ }
+{
+    let z = job.layout;
+    if !bounds::layout_in_bounds(z) {
+        return Verdict::Refused(Refusal::LayoutBounds);
+    }
+    if !bounds::stock_in_bounds(job) {
+        return Verdict::Refused(Refusal::StockBounds);
+    }
+    if twice::cell_twice(job) {
+        return Verdict::Refused(Refusal::CellTwice);
+    }
+    if !bounds::list_in_bounds(job) {
+        return Verdict::Refused(Refusal::ListBounds);
+    }
+    if twice::article_twice(job) {
+        return Verdict::Refused(Refusal::ArticleTwice);
+    }
+    if amounts::too_heavy(job) {
+        return Verdict::Refused(Refusal::TooHeavy);
+    }
+    if amounts::short_of_stock(job) {
+        return Verdict::Refused(Refusal::ShortOfStock);
+    }
+    Verdict::Admitted
+}
+
+// The bytes of a job file: the job by value if no refusal applies to it, or else the first refusal of 1 to 8.
+pub fn read_job(bytes: &[u8]) -> ReadJob
+    ensures { λ r. ⌜ ReadsJob (now (bytes .entry)) r ⌝ }
+{
+    let raw = raw::read_raw(bytes);
+    let job = raw.job;
+    if !raw.ok {
+        let verdict = Verdict::Refused(Refusal::NotAJobFile);
+        return ReadJob { verdict, job };
+    }
+    let verdict = verdict_on(job);
+    ReadJob { verdict, job }
 }
