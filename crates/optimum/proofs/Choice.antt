@@ -4,7 +4,7 @@ use Prim.Native.Nat.{ℕ, zero, suc, _+_, min, _≤_, _<_}
 use native.Mathlib.Omega.{arith}
 use mathlib.Core.Path.{_≡_, refl, sym, _∙_, ap, ap₂}
 use mathlib.Core.Logic.{_⊎_, inl, inr}
-use mathlib.Core.List.{List, [], _∷_, _++_, map}
+use mathlib.Core.List.{List, [], _∷_, _++_, map, List·Memᴰ, List·Memᴰ·head, List·Memᴰ·tail}
 use mathlib.Core.Bool.{Bool, true, false, cond}
 use mathlib.Core.Option.{Option, none, some}
 use lib.Dec.{eqb}
@@ -75,6 +75,17 @@ module _ {A : Type 0} where
       go : (b : Bool) → eqb (f x) v ≡ b → cond b (some x) (firstOf (λ z. eqb (f z) v) xs) ≡ some y → (firstOf (λ z. eqb (f z) v) xs ≡ some y → f y ≡ v) → f y ≡ v
       go true p q next = let same : x ≡ y = cc in ap f (sym same) ∙ eqb-true (f x) v p
       go false p q next = next q
+
+  -- the same, where the two agree on the members of the list
+  pub least-agree : (f g : A → ℕ) (xs : List A) → ((x : A) → List·Memᴰ x xs → f x ≡ g x) → leastOf f xs ≡ leastOf g xs
+  least-agree f g [] e = refl
+  least-agree f g (x ∷ xs) e = ap₂ min (e x (List·Memᴰ·head refl)) (least-agree f g xs (λ y m. e y (List·Memᴰ·tail m)))
+
+  pub first-agree : (f g : A → ℕ) (v : ℕ) (xs : List A) → ((x : A) → List·Memᴰ x xs → f x ≡ g x) → firstAt f v xs ≡ firstAt g v xs
+  unfolding firstAt
+  first-agree f g v [] e = refl
+  first-agree f g v (x ∷ xs) e =
+      ap₂ (λ n o. cond (eqb n v) (some x) o) (e x (List·Memᴰ·head refl)) (first-agree f g v xs (λ y m. e y (List·Memᴰ·tail m)))
 
   pub first-at-cong : (f g : A → ℕ) → ((x : A) → f x ≡ g x) → (v : ℕ) (xs : List A) → firstAt f v xs ≡ firstAt g v xs
   unfolding firstAt

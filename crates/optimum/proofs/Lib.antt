@@ -1,2 +1,6 @@
 pub mod Choice
 pub mod Table
+pub mod Demand
+pub mod Shortest
+pub mod Optimum
+pub mod Radix

@@ -1,2 +1,4 @@
 pub mod Least
 pub mod Table
+pub mod Demand
+pub mod Routing

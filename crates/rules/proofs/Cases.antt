@@ -13,7 +13,8 @@ use Rattle.rules.specs.Jobs.{Job}
 use Rattle.rules.specs.Plans.{Plan}
 use Rattle.rules.specs.BestPlan.{firstShortest, servingPlans}
 use Rattle.rules.specs.Examples.{tour, walked, HasTour, Meets, AllHold, Holds}
-use Rattle.rules.specs.Sheet.{Run, runsOf}
+use Rattle.rules.specs.declared.Run.{Run}
+use Rattle.rules.specs.Sheet.{runsOf}
 use Rattle.rules.proofs.Pruning.{fastServing, fast-serving}
 use Rattle.rules.specs.Answers.{cleared, refused, written, answerChecked, answer, hostAnswer, output}
 use Rattle.rules.specs.BestPlan.{actionsOf, passagesInOrder, single, prepend, shorterOf, emptyPlan, bestPlan}

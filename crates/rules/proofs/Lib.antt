@@ -1,5 +1,10 @@
+pub mod Lists
 pub mod Numbers
 pub mod Reading
+pub mod Admission
+pub mod Lengths
+pub mod Serving
+pub mod Enumeration
 pub mod Pruning
 pub mod Cases
 pub mod WrongTurnings

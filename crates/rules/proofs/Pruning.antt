@@ -17,49 +17,8 @@ use Rattle.rules.specs.Plans.{Plan, planPasses}
 use Rattle.rules.specs.Policies.{passageNamed}
 use Rattle.rules.specs.Machine.{State, nothing, closed, atFront, atBack, odd, joined, split, ending, dead, lawfulStep, traversalStep, midpointStep, policyStep, actionPossible, actionStep, crossStep, passageStep, runFrom, isClosed, accepts}
 use Rattle.rules.specs.Serving.{serves}
+use Rattle.rules.proofs.Lists.{select-none, select-both, select-concat, select-map, concat-cong, concat-none}
 use Rattle.rules.specs.BestPlan.{actionsOf, passagesInOrder, single, prepend, plansOf, servingPlans}
-
-module _ {A : Type 0} where
-  select-append : (t : A → Bool) (xs ys : List A) → select t (xs ++ ys) ≡ select t xs ++ select t ys
-  select-append t [] ys = refl
-  select-append t (x ∷ xs) ys = go (t x) (select-append t xs ys)
-    where
-      go : (b : Bool) → select t (xs ++ ys) ≡ select t xs ++ select t ys → cond b (x ∷ select t (xs ++ ys)) (select t (xs ++ ys)) ≡ cond b (x ∷ select t xs) (select t xs) ++ select t ys
-      go true e = ap (λ l. x ∷ l) e
-      go false e = e
-
-  select-none : (t : A → Bool) → ((x : A) → t x ≡ false) → (xs : List A) → select t xs ≡ []
-  select-none t none-holds [] = refl
-  select-none t none-holds (x ∷ xs) = rw (none-holds x) (select-none t none-holds xs)
-
-  select-both : (s t : A → Bool) (xs : List A) → select (λ x. s x && t x) xs ≡ select t (select s xs)
-  select-both s t [] = refl
-  select-both s t (x ∷ xs) = go (s x) (select-both s t xs)
-    where
-      go : (b : Bool) → select (λ y. s y && t y) xs ≡ select t (select s xs) → cond (b && t x) (x ∷ select (λ y. s y && t y) xs) (select (λ y. s y && t y) xs) ≡ select t (cond b (x ∷ select s xs) (select s xs))
-      go true e = ap (λ l. cond (t x) (x ∷ l) l) e
-      go false e = e
-
-module _ {A B : Type 0} where
-  select-concat : (t : B → Bool) (f : A → List B) (xs : List A) → select t (concatOf f xs) ≡ concatOf (λ x. select t (f x)) xs
-  select-concat t f [] = refl
-  select-concat t f (x ∷ xs) = select-append t (f x) (concatOf f xs) ∙ ap (λ l. select t (f x) ++ l) (select-concat t f xs)
-
-  select-map : (t : B → Bool) (f : A → B) (xs : List A) → select t (map f xs) ≡ map f (select (λ x. t (f x)) xs)
-  select-map t f [] = refl
-  select-map t f (x ∷ xs) = go (t (f x)) (select-map t f xs)
-    where
-      go : (b : Bool) → select t (map f xs) ≡ map f (select (λ y. t (f y)) xs) → cond b (f x ∷ select t (map f xs)) (select t (map f xs)) ≡ map f (cond b (x ∷ select (λ y. t (f y)) xs) (select (λ y. t (f y)) xs))
-      go true e = ap (λ l. f x ∷ l) e
-      go false e = e
-
-  concat-cong : (f g : A → List B) → ((x : A) → f x ≡ g x) → (xs : List A) → concatOf f xs ≡ concatOf g xs
-  concat-cong f g e [] = refl
-  concat-cong f g e (x ∷ xs) = ap₂ (λ k l. k ++ l) (e x) (concat-cong f g e xs)
-
-  concat-none : (f : A → List B) → ((x : A) → f x ≡ []) → (xs : List A) → concatOf f xs ≡ []
-  concat-none f e [] = refl
-  concat-none f e (x ∷ xs) = rw (e x) (concat-none f e xs)
 
 -- the machine stays dead
 lawful-dead : (a : Action) → lawfulStep a dead ≡ dead

@@ -14,12 +14,13 @@ use Rattle.rules.specs.declared.Passage.the-variants.{P00, P02, P11, P20
 use Rattle.rules.specs.declared.Direction.{Direction}
 use Rattle.rules.specs.declared.Direction.the-variants.{Back, Front, Left, Right}
 use Rattle.rules.specs.declared.Refusal.{Refusal}
+use Rattle.rules.specs.declared.Run.{Run}
 use Rattle.rules.specs.Jobs.{Job}
 use Rattle.rules.specs.Refusals.{jobRefusal, numberOf}
 use Rattle.rules.specs.Plans.{Plan, planLength}
 use Rattle.rules.specs.BestPlan.{bestPlan}
 use Rattle.rules.specs.FirstWalk.{firstWalk}
-use Rattle.rules.specs.Sheet.{Run, runsOf}
+use Rattle.rules.specs.Sheet.{runsOf}
 
 -- a stock record: aisle cell article quantity
 unfoldable pub stocked : ℕ → ℕ → ℕ → ℕ → StockRecord

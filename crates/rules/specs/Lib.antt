@@ -4,6 +4,7 @@ pub mod Jobs
 pub mod JobFile
 pub mod Refusals
 pub mod Plans
+pub mod Lengths
 pub mod Lawful
 pub mod Walks
 pub mod Serving

@@ -11,6 +11,7 @@ use Rattle.rules.specs.declared.Passage.{Passage}
 use Rattle.rules.specs.declared.Direction.{Direction}
 use Rattle.rules.specs.declared.Direction.the-variants.{Back, Front, Left, Right}
 use Rattle.rules.specs.declared.Pick.{Pick}
+use Rattle.rules.specs.declared.Run.{Run}
 use Rattle.rules.specs.Lists.{concatOf}
 use Rattle.rules.specs.Jobs.{Job}
 use Rattle.rules.specs.JobFile.{space, lineFeed, field, header, policyWord, sectionText}
@@ -64,12 +65,7 @@ letterOf Front = 70
 letterOf Left = 76
 letterOf Right = 82
 
--- equal letters run together: a letter and its step count
-pub record Run : Type 0 where
-  pub direction : Direction
-  pub steps : ℕ
-
--- a step in front of the runs: the first run grows, or a new one starts
+-- equal letters run together: a step in front of the runs makes the first run grow, or starts a new one
 abbrev pub addStep : Direction → List Run → List Run
 addStep d [] = record { direction = d; steps = 1 } ∷ []
 addStep d (r ∷ rs) =

@@ -61,6 +61,12 @@ pub enum Direction {
     Right,
 }
 
+// Equal steps run together: a direction and a step count.
+pub struct Run {
+    pub direction: Direction,
+    pub steps: usize,
+}
+
 // What is taken from one cell.
 pub struct Pick {
     pub aisle: usize,

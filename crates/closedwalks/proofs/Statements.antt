@@ -1,0 +1,87 @@
+-- The laws of closed walks, in one place: Euler, the first walk, walks read as plans, steps and lengths.
+use Prim.Native.Nat.{ℕ, _≤_}
+use native.Mathlib.Omega.{arith}
+use mathlib.Core.Path.{_≡_}
+use mathlib.Core.List.{[], List·Memᴰ}
+use mathlib.Core.Bool.{true}
+use lib.ListN.{length}
+use Rattle.rules.specs.declared.Layout.{Layout}
+use Rattle.rules.specs.declared.StockRecord.{StockRecord}
+use Rattle.rules.specs.Jobs.{Job}
+use Rattle.rules.specs.Store.{Point, Edge, InStore, depotPoint, layoutInBounds}
+use Rattle.rules.specs.Plans.{Plan, WellFormed, multiplicity, planPasses, planLength}
+use Rattle.rules.specs.Lawful.{Lawful}
+use Rattle.rules.specs.Walks.{Walk, ClosedWalk, walkTreads, walkPasses, walkLength, NotAfter}
+use Rattle.rules.specs.FirstWalk.{WalkOf, firstWalk, stepsOf}
+use Rattle.rules.specs.Serving.{PlanServes, WalkServes}
+use Rattle.closedwalks.specs.Ways.{PointOf, Balanced, Leads, treadsFrom, Joined}
+use Rattle.closedwalks.specs.Greedy.{LetterTest, greedy, TellsJoined}
+use Rattle.closedwalks.proofs.Euler as Euler
+use Rattle.closedwalks.proofs.Walked as Walked
+use Rattle.closedwalks.proofs.First as First
+use Rattle.closedwalks.proofs.Greedily as Greedily
+use Rattle.closedwalks.proofs.WalkReads as WalkReads
+use Rattle.closedwalks.proofs.Determined as Determined
+use Rattle.closedwalks.proofs.Counts as Counts
+use Rattle.closedwalks.proofs.Passing as Passing
+use Rattle.closedwalks.proofs.Serving.{serves-too}
+
+module _ (z : Layout) (low : 1 ≤ z .depot) (high : z .depot ≤ z .aisles) where
+  -- every lawful plan has a closed walk that treads each edge exactly as the plan says
+  pub lawful-walked : (plan : Plan) → WellFormed z plan → Lawful z plan → (walk : Walk) × WalkOf z plan walk
+  lawful-walked plan wf law = Walked.lawful-walked z plan wf law low high
+
+  -- its first walk is one of them, and none of them comes before it in the alphabet
+  pub first-walk : (plan : Plan) → WellFormed z plan → Lawful z plan → WalkOf z plan (firstWalk z plan) × ((walk : Walk) → WalkOf z plan walk → NotAfter (firstWalk z plan) walk)
+  first-walk = First.first-walk z low high
+
+  -- the first walk takes at each point the first letter behind which all that remains can be reached, whatever test tells that
+  pub greedy-first : (test : LetterTest) → TellsJoined z test → (plan : Plan) → WellFormed z plan → Lawful z plan
+      → greedy z test (stepsOf z (multiplicity plan)) (multiplicity plan) (depotPoint z) ≡ firstWalk z plan
+  greedy-first test tells plan = Greedily.greedy-first z test tells plan low high
+
+  -- a closed walk that treads some edge, and none more than twice, reads as a lawful plan
+  pub walk-reads : (walk : Walk) → ¬ (walk ≡ []) → ClosedWalk z walk → ((e : Edge) → InStore z e → walkTreads z walk e ≤ 2)
+      → (plan : Plan) × WellFormed z plan × ((e : Edge) → InStore z e → multiplicity plan e ≡ walkTreads z walk e) × Lawful z plan
+  walk-reads = WalkReads.walk-reads z low high
+
+  -- for every closed walk with a step, however often it treads an edge, a lawful plan passes the same cells and is no longer
+  pub walk-plan : (walk : Walk) → ¬ (walk ≡ []) → ClosedWalk z walk
+      → (plan : Plan) × WellFormed z plan × Lawful z plan
+      × ((j c : ℕ) → walkPasses z walk j c ≡ true → 1 ≤ c → c ≤ z .cells → planPasses plan j c ≡ true)
+      × (planLength z plan ≤ walkLength z walk)
+  walk-plan = WalkReads.walk-plan z low high
+
+  -- a walk of a plan has as many steps as the plan has treads, and the plan's length
+  pub walk-steps : (plan : Plan) (walk : Walk) → WalkOf z plan walk → length walk ≡ stepsOf z (multiplicity plan)
+  walk-steps = Counts.walk-steps z low high
+
+  pub walk-length : (plan : Plan) (walk : Walk) → WalkOf z plan walk → walkLength z walk ≡ planLength z plan
+  walk-length = Counts.walk-long z low high
+
+  -- it has at most 860 steps within the bounds of the layout
+  pub few-steps : (plan : Plan) (walk : Walk) → WalkOf z plan walk → layoutInBounds z ≡ true → length walk ≤ 860
+  few-steps plan walk w h = omega (arith, walk-steps plan walk w, Counts.few-treads z plan h)
+
+  -- and it passes the cells that the plan passes, and no others
+  pub walk-passes : (plan : Plan) (walk : Walk) → WalkOf z plan walk → (j c : ℕ) → 1 ≤ j → j ≤ z .aisles → 1 ≤ c → c ≤ z .cells → walkPasses z walk j c ≡ planPasses plan j c
+  walk-passes = Passing.walk-passes z low high
+
+-- from a point: treads that are balanced between x and y and can all be reached from x are exactly those of a walk from x to y
+pub completed : (z : Layout) (left : Edge → ℕ) (x y : Point) → PointOf z x → Balanced z left x y → Joined z left x
+    → (walk : Walk) × Leads z x walk y × ((e : Edge) → InStore z e → treadsFrom x walk e ≡ left e)
+completed = Euler.completed
+
+-- no two plans of a store tread each edge alike
+pub plan-determined : (z : Layout) (plan other : Plan) → WellFormed z plan → WellFormed z other → ((e : Edge) → InStore z e → multiplicity plan e ≡ multiplicity other e) → plan ≡ other
+plan-determined = Determined.plan-determined
+
+-- a closed walk that serves a job's list gives a lawful plan that serves it and is no longer
+pub walk-plan-serves : (job : Job) → 1 ≤ job .layout .depot → job .layout .depot ≤ job .layout .aisles
+    → ((r : StockRecord) → List·Memᴰ r (job .stock) → (1 ≤ r .cell) × (r .cell ≤ job .layout .cells))
+    → (walk : Walk) → ¬ (walk ≡ []) → ClosedWalk (job .layout) walk → WalkServes job walk
+    → (plan : Plan) × WellFormed (job .layout) plan × Lawful (job .layout) plan × PlanServes job plan × (planLength (job .layout) plan ≤ walkLength (job .layout) walk)
+unfolding PlanServes WalkServes
+walk-plan-serves job low high cells walk some closed serves =
+    let t = walk-plan (job .layout) low high walk some closed in
+    (t .0, t .1, t .2, serves-too job (walkPasses (job .layout) walk) (planPasses (t .0)) (λ r m h. t .3 (r .aisle) (r .cell) h (cells r m .0) (cells r m .1)) serves, t .4)

@@ -1,0 +1,4 @@
+pub mod Tables
+pub mod Geometry
+pub mod Ranks
+pub mod Relaxing

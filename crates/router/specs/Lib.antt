@@ -1,0 +1,4 @@
+pub mod States
+pub mod Steps
+pub mod Candidates
+pub mod Rows

@@ -1,0 +1,4 @@
+// The router: for an admitted job, the first of the shortest allowed plans that serve its list.
+mod candidates;
+mod rows;
+mod steps;

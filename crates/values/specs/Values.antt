@@ -1,0 +1,41 @@
+-- What the values stand for.
+use Prim.Native.Nat.{ℕ, _-_}
+use mathlib.Core.List.{List, map}
+use lib.ListN.{take}
+use Rattle.rules.specs.declared.Action.{Action}
+use Rattle.rules.specs.declared.Passage.{Passage}
+use Rattle.rules.specs.declared.Pick.{Pick}
+use Rattle.rules.specs.declared.Run.{Run}
+use Rattle.rules.specs.Jobs.{Job}
+use Rattle.rules.specs.Plans.{Plan}
+use Rattle.values.specs.declared.JobValue.{JobValue}
+use Rattle.values.specs.declared.Stage.{Stage}
+use Rattle.values.specs.declared.PlanValue.{PlanValue}
+use Rattle.values.specs.declared.PickList.{PickList}
+use Rattle.values.specs.declared.RunList.{RunList}
+
+-- the job of a value
+unfoldable pub jobOf : JobValue → Job
+jobOf v =
+    record {
+      layout = v .layout;
+      policy = v .policy;
+      stock = take (v .records) (v .stock);
+      lines = take (v .orders) (v .lines);
+    }
+
+-- the plan of a value
+unfoldable pub planOf : PlanValue → Plan
+planOf v =
+    record {
+      actions = map (λ (s : Stage). s .action) (take (v .aisles) (v .stages));
+      passages = map (λ (s : Stage). s .passage) (take (v .aisles - 1) (v .stages));
+    }
+
+-- the picks of a value
+unfoldable pub picksOfValue : PickList → List Pick
+picksOfValue v = take (v .count) (v .picks)
+
+-- the runs of a value
+unfoldable pub runsOfValue : RunList → List Run
+runsOfValue v = take (v .count) (v .runs)

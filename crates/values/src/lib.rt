@@ -1,0 +1,43 @@
+// The values that the code crates hand to each other: arrays with a count, where the definitions have lists.
+use rules::Action;
+use rules::Layout;
+use rules::OrderLine;
+use rules::Passage;
+use rules::Pick;
+use rules::Policy;
+use rules::Run;
+use rules::StockRecord;
+
+// A job: the first `records` of its stock records and the first `orders` of its order lines count.
+pub struct JobValue {
+    pub layout: Layout,
+    pub policy: Policy,
+    pub records: usize,
+    pub stock: [StockRecord; 384],
+    pub orders: usize,
+    pub lines: [OrderLine; 8],
+}
+
+// One aisle of a plan: its action and the passage behind it.
+pub struct Stage {
+    pub action: Action,
+    pub passage: Passage,
+}
+
+// A plan: the first `aisles` stages count; the passage behind the last aisle is 00.
+pub struct PlanValue {
+    pub aisles: usize,
+    pub stages: [Stage; 16],
+}
+
+// The picks of a plan: the first `count` of them.
+pub struct PickList {
+    pub count: usize,
+    pub picks: [Pick; 384],
+}
+
+// The runs of a walk: the first `count` of them.
+pub struct RunList {
+    pub count: usize,
+    pub runs: [Run; 860],
+}
