@@ -16,12 +16,13 @@ use Rattle.rules.specs.declared.Layout.{Layout}
 use Rattle.rules.specs.declared.StockRecord.{StockRecord}
 use Rattle.rules.specs.Lists.{allOf, anyOf, anyTwo}
 use Rattle.rules.specs.Store.{layoutInBounds}
+use Rattle.rules.proofs.Admission.{layout-within, record-within}
 use Rattle.rules.proofs.Numbers.{both-true}
 use Rattle.rules.specs.Refusals.{sameCell, recordInBounds}
-use Rattle.jobfile.specs.declared.JobValue.{JobValue}
-use Rattle.jobfile.specs.Values.{storeOnly}
+use Rattle.values.specs.declared.JobValue.{JobValue}
+use Rattle.jobfile.specs.Ready.{storeOnly}
 use Rattle.jobfile.proofs.Left.{left, left-all, left-more, left-none}
-use Rattle.jobfile.proofs.Ranges.{noRecord, RecordWithin, record-told, layout-told}
+use Rattle.jobfile.proofs.Ranges.{noRecord}
 
 -- the bit k of a number
 abbrev bit : ℕ → ℕ → ℕ
@@ -161,9 +162,9 @@ module _ (job : JobValue) (layout : layoutInBounds (job .layout) ≡ true) where
   -- a record within the bounds lies in the marks
   in-marks : (r : StockRecord) → recordInBounds (storeOnly (job .layout)) r ≡ true → InMarks r
   in-marks r e =
-      let w = record-told (job .layout) r e in
-      let z = layout-told (job .layout) layout in
-      omega (arith, w .aisle .0, w .aisle .1, w .cell .0, w .cell .1, z .0, z .1)
+      let w = record-within (storeOnly (job .layout)) r .0 e in
+      let z = layout-within (job .layout) .0 layout in
+      omega (arith, w .aisle .0, w .aisle .1, w .cell .0, w .cell .1, z .aisles .1, z .cells .1)
 
   -- before the first record
   pub cells-start : allOf (recordInBounds (storeOnly (job .layout))) (take (job .records) (job .stock)) ≡ true → CellsTo job noMarks 0

@@ -13,7 +13,7 @@ use borrow.Author.Tests.{eq-eqb, ne-eqb}
 use Rattle.rules.specs.declared.Layout.{Layout}
 use Rattle.rules.specs.declared.Policy.{Policy}
 use Rattle.rules.specs.JobFile.{Reading, _>>=_, readHeader, readLayout, readLines, readLayoutSection, letterL}
-use Rattle.jobfile.specs.Kept.{kept, keptOf, Held}
+use Rattle.jobfile.specs.Kept.{kept, keptOf}
 use Rattle.jobfile.proofs.Behind.{behind, behind-nothing, behind-one}
 
 -- the line of the L section, if its count is 1
@@ -58,8 +58,8 @@ module _ {A : Type 0} (read : List ℕ → Reading A) (room n start : ℕ) (s : 
     left = omega arith
 
     -- the line cannot be read
-    pub lines-fail : read (drop at s) ≡ none → (next count : ℕ) → Held room s (readLines read n (drop start s)) false next count array
-    lines-fail e next count = record { same = rw (r .so-far, left, readLines, e); size = r .size }
+    pub lines-fail : read (drop at s) ≡ none → (next count : ℕ) → keptOf s false next count array ≡ kept room (readLines read n (drop start s))
+    lines-fail e next count = rw (r .so-far, left, readLines, e)
 
     -- a line that was read
     more : (x : A) (next : ℕ) → read (drop at s) ≡ some (x, drop next s) → readLines read n (drop start s) ≡ behind (r .lines ++ (x ∷ [])) (readLines read (n - (i + 1)) (drop next s))
@@ -88,8 +88,8 @@ module _ {A : Type 0} (read : List ℕ → Reading A) (room n start : ℕ) (s : 
     }
 
   -- all lines have been read
-  pub lines-read : (at i : ℕ) (array : List A) → LinesTo read room n start s at i array → n ≤ i → Held room s (readLines read n (drop start s)) true at n array
+  pub lines-read : (at i : ℕ) (array : List A) → LinesTo read room n start s at i array → n ≤ i → keptOf s true at n array ≡ kept room (readLines read n (drop start s))
   lines-read at i array r h =
       let e : n - i ≡ 0 = omega arith in
       let m : i ≡ n = omega (arith, r .limit) in
-      record { same = rw (r .so-far, e, readLines, append-nil (r .lines), ← r .first, r .many, m); size = r .size }
+      rw (r .so-far, e, readLines, append-nil (r .lines), ← r .first, r .many, m)

@@ -12,10 +12,12 @@ use Rattle.rules.specs.declared.StockRecord.{StockRecord}
 use Rattle.rules.specs.declared.OrderLine.{OrderLine}
 use Rattle.rules.specs.Lists.{allOf, sumOf, productOf}
 use Rattle.rules.specs.Refusals.{recordInBounds, lineInBounds, weight, allStock}
-use Rattle.jobfile.specs.declared.JobValue.{JobValue}
-use Rattle.jobfile.specs.Values.{jobOf, storeOnly}
+use Rattle.rules.proofs.Admission.{record-within, line-within}
+use Rattle.values.specs.declared.JobValue.{JobValue}
+use Rattle.values.specs.Values.{jobOf}
+use Rattle.jobfile.specs.Ready.{storeOnly}
 use Rattle.jobfile.proofs.Left.{left, left-all, left-more, left-none, all-apart}
-use Rattle.jobfile.proofs.Ranges.{noRecord, noLine, record-told, line-told}
+use Rattle.jobfile.proofs.Ranges.{noRecord, noLine}
 
 -- a list weighs at least 1
 weight-positive : (lines : List OrderLine) → 0 < weight lines
@@ -52,7 +54,7 @@ module _ (lines : List OrderLine) (n : ℕ) where
     apart = all-apart lineInBounds n i lines noLine h l (r .bounded)
 
     pub quantity-small : line .quantity ≤ 255
-    quantity-small = line-told line (apart .0)
+    quantity-small = line-within line .0 (apart .0) .quantity .1
 
     -- the product does not wrap
     pub product-small : product * (line .quantity + 1) ≤ 65536
@@ -83,7 +85,7 @@ module _ (job : JobValue) (article : ℕ) where
   held r = cond (eqb (r .article) article) (r .quantity) 0
 
   pub stock-start : allOf (recordInBounds (storeOnly (job .layout))) (take (job .records) (job .stock)) ≡ true → StockTo job article 0 0
-  unfolding allStock
+  unfolding allStock jobOf
   stock-start e = record {
     small = omega arith;
     bounded = rw (left-all (job .records) (job .stock)) e;
@@ -102,7 +104,7 @@ module _ (job : JobValue) (article : ℕ) where
     both = all-apart (recordInBounds (storeOnly (job .layout))) (job .records) i (job .stock) noRecord h l (r .bounded)
 
     pub record-small : here .quantity ≤ 255
-    record-small = record-told (job .layout) here (both .0) .quantity
+    record-small = record-within (storeOnly (job .layout)) here .0 (both .0) .quantity .1
 
     -- what is left with the record there apart
     parted : sum + (held here + sumOf held (left (job .records) (i + 1) (job .stock))) ≡ allStock (jobOf job) article

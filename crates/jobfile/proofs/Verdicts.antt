@@ -15,17 +15,19 @@ use Rattle.rules.specs.declared.StockRecord.{StockRecord}
 use Rattle.rules.specs.declared.OrderLine.{OrderLine}
 use Rattle.rules.specs.declared.Refusal.{Refusal}
 use Rattle.rules.specs.declared.Refusal.the-variants.{NotAJobFile, LayoutBounds, StockBounds, CellTwice, ListBounds, ArticleTwice, TooHeavy, ShortOfStock}
-use Rattle.rules.specs.Lists.{allOf, anyTwo}
+use Rattle.rules.specs.Lists.{anyTwo}
 use Rattle.rules.specs.Store.{within, layoutInBounds}
 use Rattle.rules.specs.Jobs.{Job}
 use Rattle.rules.specs.JobFile.{readJob}
-use Rattle.rules.specs.Refusals.{recordInBounds, stockInBounds, sameCell, lineInBounds, listInBounds, sameArticle, weight, shortOfStock, firstRow, jobRows, jobRefusal, Checked, good, bad, checkJob, checkBytes}
+use Rattle.rules.specs.Refusals.{recordInBounds, stockInBounds, sameCell, listInBounds, sameArticle, weight, shortOfStock, firstRow, jobRows, jobRefusal, Checked, good, bad, checkJob, checkBytes}
+use Rattle.rules.proofs.Admission.{stock-within, list-within, admitted}
 use Rattle.rules.proofs.Numbers.{both-true}
-use Rattle.jobfile.specs.declared.JobValue.{JobValue}
+use Rattle.values.specs.declared.JobValue.{JobValue}
 use Rattle.jobfile.specs.declared.Verdict.{Verdict}
-use Rattle.jobfile.specs.Values.{Sized, jobOf, StockReady, ListReady}
+use Rattle.values.specs.Values.{jobOf, Sound}
+use Rattle.jobfile.specs.Ready.{StockReady, ListReady}
 use Rattle.jobfile.specs.Kept.{Keeps}
-use Rattle.jobfile.specs.Answer.{refusalOf, checkedAs, Roomy}
+use Rattle.jobfile.specs.Answer.{refusalOf, checkedAs}
 
 module _ (value : JobValue) (job : Job) (k : Keeps value job) where
   -- all records were kept
@@ -33,11 +35,12 @@ module _ (value : JobValue) (job : Job) (k : Keeps value job) where
   same-stock h = k .stock ∙ take-all 384 (job .stock) (omega (arith, k .records))
 
   -- all lines were kept
-  same-lines : value .«order_lines» ≤ 8 → take (value .«order_lines») (value .lines) ≡ job .lines
-  same-lines h = k .lines ∙ take-all 8 (job .lines) (omega (arith, k .order-lines))
+  same-lines : value .orders ≤ 8 → take (value .orders) (value .lines) ≡ job .lines
+  same-lines h = k .lines ∙ take-all 8 (job .lines) (omega (arith, k .orders))
 
   -- the whole job was kept
-  same-job : value .records ≤ 384 → value .«order_lines» ≤ 8 → jobOf value ≡ job
+  same-job : value .records ≤ 384 → value .orders ≤ 8 → jobOf value ≡ job
+  unfolding jobOf
   same-job h l =
       ap₂ (λ (records : List StockRecord) (lines : List OrderLine). record { layout = value .layout; policy = value .policy; stock = records; lines = lines }) (same-stock h) (same-lines l)
       ∙ ap₂ (λ (z : Layout) (p : Policy). record { layout = z; policy = p; stock = job .stock; lines = job .lines }) (k .layout) (k .policy)
@@ -46,7 +49,7 @@ module _ (value : JobValue) (job : Job) (k : Keeps value job) where
   layout-same = ap layoutInBounds (k .layout)
 
   pub stock-same : leb (value .records) 384 && stockInBounds (jobOf value) ≡ stockInBounds job
-  unfolding stockInBounds recordInBounds
+  unfolding stockInBounds recordInBounds jobOf
   stock-same = go (leb (value .records) 384) refl
     where
       go : (b : Bool) → leb (value .records) 384 ≡ b → b && stockInBounds (jobOf value) ≡ stockInBounds job
@@ -54,39 +57,42 @@ module _ (value : JobValue) (job : Job) (k : Keeps value job) where
           ap₂ (λ (z : Layout) (records : List StockRecord). stockInBounds (record { layout = z; policy = job .policy; stock = records; lines = job .lines })) (k .layout) (same-stock (leb-true (value .records) 384 e))
       go false e = rw (stockInBounds, lt-leb (length (job .stock)) 384 (omega (arith, k .records, leb-false (value .records) 384 e)))
 
-  pub cells-same : value .records ≤ 384 → anyTwo sameCell (take (value .records) (value .stock)) ≡ anyTwo sameCell (job .stock)
+  pub cells-same : value .records ≤ 384 → anyTwo sameCell (jobOf value .stock) ≡ anyTwo sameCell (job .stock)
+  unfolding jobOf
   cells-same h = ap (anyTwo sameCell) (same-stock h)
 
-  pub list-same : leb (value .«order_lines») 8 && listInBounds (jobOf value) ≡ listInBounds job
-  unfolding listInBounds within
-  list-same = go (leb (value .«order_lines») 8) refl
+  pub list-same : leb (value .orders) 8 && listInBounds (jobOf value) ≡ listInBounds job
+  unfolding listInBounds within jobOf
+  list-same = go (leb (value .orders) 8) refl
     where
-      go : (b : Bool) → leb (value .«order_lines») 8 ≡ b → b && listInBounds (jobOf value) ≡ listInBounds job
-      go true e = ap (λ (lines : List OrderLine). listInBounds (record { layout = job .layout; policy = job .policy; stock = job .stock; lines = lines })) (same-lines (leb-true (value .«order_lines») 8 e))
+      go : (b : Bool) → leb (value .orders) 8 ≡ b → b && listInBounds (jobOf value) ≡ listInBounds job
+      go true e = ap (λ (lines : List OrderLine). listInBounds (record { layout = job .layout; policy = job .policy; stock = job .stock; lines = lines })) (same-lines (leb-true (value .orders) 8 e))
       go false e =
-          let many : 8 < length (job .lines) = omega (arith, k .order-lines, leb-false (value .«order_lines») 8 e) in
+          let many : 8 < length (job .lines) = omega (arith, k .orders, leb-false (value .orders) 8 e) in
           rw (listInBounds, within, le-leb 1 (length (job .lines)) (omega arith), lt-leb (length (job .lines)) 8 many)
 
-  pub articles-same : value .«order_lines» ≤ 8 → anyTwo sameArticle (take (value .«order_lines») (value .lines)) ≡ anyTwo sameArticle (job .lines)
+  pub articles-same : value .orders ≤ 8 → anyTwo sameArticle (jobOf value .lines) ≡ anyTwo sameArticle (job .lines)
+  unfolding jobOf
   articles-same h = ap (anyTwo sameArticle) (same-lines h)
 
-  pub weight-same : value .«order_lines» ≤ 8 → ltb 256 (weight (take (value .«order_lines») (value .lines))) ≡ ltb 256 (weight (job .lines))
+  pub weight-same : value .orders ≤ 8 → ltb 256 (weight (jobOf value .lines)) ≡ ltb 256 (weight (job .lines))
+  unfolding jobOf
   weight-same h = ap (λ (lines : List OrderLine). ltb 256 (weight lines)) (same-lines h)
 
-  pub short-same : value .records ≤ 384 → value .«order_lines» ≤ 8 → shortOfStock (jobOf value) ≡ shortOfStock job
+  pub short-same : value .records ≤ 384 → value .orders ≤ 8 → shortOfStock (jobOf value) ≡ shortOfStock job
   short-same h l = ap shortOfStock (same-job h l)
 
 -- the stock has passed its tests
-pub stock-ready : (value : JobValue) → Sized value → layoutInBounds (value .layout) ≡ true → leb (value .records) 384 && stockInBounds (jobOf value) ≡ true → StockReady value
-stock-ready value size z e =
+pub stock-ready : (value : JobValue) → layoutInBounds (value .layout) ≡ true → leb (value .records) 384 && stockInBounds (jobOf value) ≡ true → StockReady value
+stock-ready value z e =
     let t = both-true (leb (value .records) 384) (stockInBounds (jobOf value)) e in
-    record { size = size .stock; count = leb-true (value .records) 384 (t .0); layout = z; stock = t .1 }
+    record { count = leb-true (value .records) 384 (t .0); layout = z; stock = t .1 }
 
 -- the list has passed its tests
-pub list-ready : (value : JobValue) → Sized value → leb (value .«order_lines») 8 && listInBounds (jobOf value) ≡ true → ListReady value
-list-ready value size e =
-    let t = both-true (leb (value .«order_lines») 8) (listInBounds (jobOf value)) e in
-    record { size = size .lines; count = leb-true (value .«order_lines») 8 (t .0); list = t .1 }
+pub list-ready : (value : JobValue) → leb (value .orders) 8 && listInBounds (jobOf value) ≡ true → ListReady value
+list-ready value e =
+    let t = both-true (leb (value .orders) 8) (listInBounds (jobOf value)) e in
+    record { count = leb-true (value .orders) 8 (t .0); list = t .1 }
 
 -- the refusal of a job from the outcomes of its tests
 pub rows : (job : Job) {layout stock cells list articles heavy short : Bool}
@@ -101,38 +107,24 @@ pub no-job : (s : List ℕ) → readJob s ≡ none → bad NotAJobFile ≡ check
 unfolding checkBytes
 no-job s e = rw (checkBytes, e)
 
--- a row that applies is a refusal
-applies : {C : Type 0} {r : Refusal} → none ≡ some r → C
-applies e = let z : _≡_ {A = ℕ} 0 1 = cc in absurd (omega arith)
+-- a job to which no refusal applies is held whole, and admitted
+admitted-whole : (value : JobValue) (job : Job) → Keeps value job → jobRefusal job ≡ none → (jobOf value ≡ job) × Sound value
+admitted-whole value job k e =
+    let a = admitted job .0 e in
+    let records : value .records ≤ 384 = omega (arith, k .records, stock-within job .0 (a .stock) .count) in
+    let orders : value .orders ≤ 8 = omega (arith, k .orders, list-within job .0 (a .list) .count .1) in
+    let same = same-job value job k records orders in
+    (same, record { record-count = records; order-count = orders; admitted = rw same a })
 
--- if no row applies, the stock and the list are within the bounds
-none-applies : (layout stock cells list : Bool) (others : List (Bool × Refusal))
-    → none ≡ firstRow ((not layout, LayoutBounds) ∷ (not stock, StockBounds) ∷ (cells, CellTwice) ∷ (not list, ListBounds) ∷ others) → (stock ≡ true) × (list ≡ true)
-none-applies false stock cells list others e = applies e
-none-applies true false cells list others e = applies e
-none-applies true true true list others e = applies e
-none-applies true true false false others e = applies e
-none-applies true true false true others e = (refl, refl)
-
--- the counts of a job to which no refusal applies
-pub admitted-room : (value : JobValue) (job : Job) → Keeps value job → (verdict : Verdict) → refusalOf verdict ≡ jobRefusal job → verdict ≡ Verdict.Admitted → Roomy value
-unfolding jobRefusal jobRows stockInBounds listInBounds within
-admitted-room value job k verdict e q =
-    let b = none-applies (layoutInBounds (job .layout)) (stockInBounds job) (anyTwo sameCell (job .stock)) (listInBounds job) ((anyTwo sameArticle (job .lines), ArticleTwice) ∷ (ltb 256 (weight (job .lines)), TooHeavy) ∷ (shortOfStock job, ShortOfStock) ∷ []) (ap refusalOf (sym q) ∙ e) in
-    let stock = both-true (leb (length (job .stock)) 384) (allOf (recordInBounds job) (job .stock)) (b .0) in
-    let list = both-true (leb 1 (length (job .lines)) && leb (length (job .lines)) 8) (allOf lineInBounds (job .lines)) (b .1) in
-    let count = both-true (leb 1 (length (job .lines))) (leb (length (job .lines)) 8) (list .0) in
-    record {
-      records = omega (arith, k .records, leb-true (length (job .stock)) 384 (stock .0));
-      order-lines = omega (arith, k .order-lines, leb-true (length (job .lines)) 8 (count .1));
-    }
+-- a verdict that admits the job
+pub admitted-sound : (value : JobValue) (job : Job) → Keeps value job → (verdict : Verdict) → refusalOf verdict ≡ jobRefusal job → verdict ≡ Verdict.Admitted → Sound value
+admitted-sound value job k verdict e q = admitted-whole value job k (sym e ∙ ap refusalOf q) .1
 
 -- a job was read
 pub job-checked : (s : List ℕ) (value : JobValue) (job : Job) → readJob s ≡ some job → Keeps value job → (verdict : Verdict) → refusalOf verdict ≡ jobRefusal job → checkedAs value verdict ≡ checkBytes s
 unfolding checkBytes checkJob
 job-checked s value job r k Verdict.Admitted e =
-    let room = admitted-room value job k Verdict.Admitted e refl in
-    rw (checkBytes, r, checkJob, ← e) (ap good (same-job value job k (room .records) (room .order-lines)))
+    rw (checkBytes, r, checkJob, ← e) (ap good (admitted-whole value job k (sym e) .0))
 job-checked s value job r k (Verdict.Refused x) e = rw (checkBytes, r, checkJob, ← e)
 
 -- a refused job is not admitted

@@ -14,9 +14,9 @@ use Rattle.rules.specs.declared.StockRecord.{StockRecord}
 use Rattle.rules.specs.declared.OrderLine.{OrderLine}
 use Rattle.rules.specs.Jobs.{Job}
 use Rattle.rules.specs.JobFile.{Reading, _>>=_, readRecord, readLine, readSection, readLayoutSection, readSections, readJob, atEnd, jobFileLimit, letterS, letterD}
-use Rattle.jobfile.specs.declared.JobValue.{JobValue}
+use Rattle.values.specs.declared.JobValue.{JobValue}
 use Rattle.jobfile.specs.declared.raw.RawJob.{RawJob}
-use Rattle.jobfile.specs.Kept.{kept, keptOf, Held, Keeps, RawOf, Raw, NoJob}
+use Rattle.jobfile.specs.Kept.{kept, keptOf, Keeps, RawOf}
 use Rattle.jobfile.proofs.Bytes.{bytes-from}
 
 -- lines that were read, up to next, and the first of them in an array
@@ -26,23 +26,23 @@ pub record LinesRead {A : Type 0} (room : ℕ) (s : List ℕ) (next count : ℕ)
   pub counted : count ≡ length xs
   pub first : take count array ≡ take room xs
 
-module _ {A : Type 0} {room : ℕ} {s : List ℕ} {next count : ℕ} {array : List A} where
+module _ {A : Type 0} (room : ℕ) (s : List ℕ) (next count : ℕ) (array : List A) where
   -- lines that could not be read
-  pub held-none : (reading : Reading (List A)) (ok : Bool) → Held room s reading ok next count array → ok ≡ false → reading ≡ none
+  pub held-none : (reading : Reading (List A)) (ok : Bool) → keptOf s ok next count array ≡ kept room reading → ok ≡ false → reading ≡ none
   held-none none ok h e = refl
   held-none (some r) ok h e =
-      let p : none ≡ kept room (some r) = ap (λ (b : Bool). keptOf s b next count array) (sym e) ∙ h .same in
+      let p : none ≡ kept room (some r) = ap (λ (b : Bool). keptOf s b next count array) (sym e) ∙ h in
       let z : _≡_ {A = ℕ} 0 1 = cc in
       absurd (omega arith)
 
   -- lines that were read
-  pub held-some : (reading : Reading (List A)) (ok : Bool) → Held room s reading ok next count array → ok ≡ true → LinesRead room s next count array reading
+  pub held-some : (reading : Reading (List A)) (ok : Bool) → keptOf s ok next count array ≡ kept room reading → ok ≡ true → LinesRead room s next count array reading
   held-some none ok h e =
-      let p : some ((count, take count array), drop next s) ≡ kept {A = A} room none = ap (λ (b : Bool). keptOf s b next count array) (sym e) ∙ h .same in
+      let p : some ((count, take count array), drop next s) ≡ kept {A = A} room none = ap (λ (b : Bool). keptOf s b next count array) (sym e) ∙ h in
       let z : _≡_ {A = ℕ} 0 1 = cc in
       absurd (omega arith)
   held-some (some r) ok h e =
-      let p : some ((count, take count array), drop next s) ≡ kept room (some r) = ap (λ (b : Bool). keptOf s b next count array) (sym e) ∙ h .same in
+      let p : some ((count, take count array), drop next s) ≡ kept room (some r) = ap (λ (b : Bool). keptOf s b next count array) (sym e) ∙ h in
       let q : _≡_ {A = (ℕ × List A) × List ℕ} ((count, take count array), drop next s) ((length (r .0), take room (r .0)), r .1) = cc in
       record {
         xs = r .0;
@@ -52,8 +52,8 @@ module _ {A : Type 0} {room : ℕ} {s : List ℕ} {next count : ℕ} {array : Li
       }
 
 -- no job was read
-pub raw-none : (s : List ℕ) (r : RawJob) → NoJob r → readJob s ≡ none → Raw s r
-raw-none s r n e = record { size = n .size; told = rw (n .none-read) e }
+pub raw-none : (s : List ℕ) (r : RawJob) → r .ok ≡ false → readJob s ≡ none → RawOf s (r .ok) (r .job)
+raw-none s r n e = rw n e
 
 -- too many bytes
 pub too-long : (s : List ℕ) → 16384 < length s → readJob s ≡ none

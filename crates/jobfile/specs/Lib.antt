@@ -1,4 +1,4 @@
 pub mod Places
-pub mod Values
+pub mod Ready
 pub mod Kept
 pub mod Answer

@@ -1,16 +1,17 @@
 // The weight of the list and the stock of its articles: the refusals 7 and 8.
-use crate::JobValue;
+use values::JobValue;
 ghost use mathlib.Core.Path.{_≡_};
 ghost use lib.Dec.{ltb};
 ghost use Rattle.rules.specs.Refusals.{weight, allStock, shortOfStock};
-ghost use Rattle.jobfile.specs.Values.{StockReady, ListReady, jobOf};
+ghost use Rattle.values.specs.Values.{jobOf};
+ghost use Rattle.jobfile.specs.Ready.{StockReady, ListReady};
 
 // Whether the weight of the list is above 256. A weight above it only grows, so the product never wraps.
 pub fn too_heavy(job: JobValue) -> bool
     requires { ⌜ ListReady job ⌝ }
     ensures { λ r. ⌜ r ≡ ltb 256 (weight (jobOf job .lines)) ⌝ }
 {
-    let count = job.order_lines;
+    let count = job.orders;
     let mut product: usize = 1;
     let mut i = 0;
     while i < count {
@@ -48,7 +49,7 @@ pub fn short_of_stock(job: JobValue) -> bool
     requires { ⌜ ListReady job ⌝ }
     ensures { λ r. ⌜ r ≡ shortOfStock (jobOf job) ⌝ }
 {
-    let count = job.order_lines;
+    let count = job.orders;
     let mut i = 0;
     while i < count {
         let line = job.lines[i];

@@ -1,14 +1,15 @@
 // The bounds of the store: the refusals 2, 3 and 5.
-use crate::JobValue;
 use rules::Layout;
 use rules::OrderLine;
 use rules::StockRecord;
+use values::JobValue;
 ghost use mathlib.Core.Path.{_≡_};
 ghost use mathlib.Core.Bool.{_&&_};
 ghost use lib.Dec.{leb};
 ghost use Rattle.rules.specs.Store.{within, layoutInBounds};
 ghost use Rattle.rules.specs.Refusals.{recordInBounds, stockInBounds, lineInBounds, listInBounds};
-ghost use Rattle.jobfile.specs.Values.{Sized, jobOf, storeOnly};
+ghost use Rattle.values.specs.Values.{jobOf};
+ghost use Rattle.jobfile.specs.Ready.{storeOnly};
 
 // A number from a to b.
 pub fn is_within(a: usize, b: usize, n: usize) -> bool
@@ -42,7 +43,6 @@ pub fn record_in_bounds(z: Layout, row: StockRecord) -> bool
 
 // The number and the fields of the stock records.
 pub fn stock_in_bounds(job: JobValue) -> bool
-    requires { ⌜ Sized job ⌝ }
     ensures { λ r. ⌜ r ≡ leb (job .records) 384 && stockInBounds (jobOf job) ⌝ }
 {
     let records = job.records;
@@ -70,10 +70,9 @@ pub fn line_in_bounds(line: OrderLine) -> bool
 
 // The number and the fields of the order lines.
 pub fn list_in_bounds(job: JobValue) -> bool
-    requires { ⌜ Sized job ⌝ }
-    ensures { λ r. ⌜ r ≡ leb (job .«order_lines») 8 && listInBounds (jobOf job) ⌝ }
+    ensures { λ r. ⌜ r ≡ leb (job .orders) 8 && listInBounds (jobOf job) ⌝ }
 {
-    let count = job.order_lines;
+    let count = job.orders;
     if 8 < count {
         return false;
     }

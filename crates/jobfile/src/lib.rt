@@ -7,24 +7,12 @@ mod raw;
 mod sections;
 mod twice;
 
-use rules::Layout;
-use rules::OrderLine;
-use rules::Policy;
 use rules::Refusal;
-use rules::StockRecord;
+use values::JobValue;
 ghost use mathlib.Core.Path.{_≡_};
-ghost use Rattle.jobfile.specs.Values.{Sized};
-ghost use Rattle.jobfile.specs.Answer.{Decides, ReadsJob};
-
-// A job by value: its stock is the first `records` elements of `stock`, its list the first `order_lines` elements of `lines`.
-pub struct JobValue {
-    pub layout: Layout,
-    pub policy: Policy,
-    pub records: usize,
-    pub stock: [StockRecord; 384],
-    pub order_lines: usize,
-    pub lines: [OrderLine; 8],
-}
+ghost use Rattle.rules.specs.Refusals.{checkBytes};
+ghost use Rattle.values.specs.Values.{Sound};
+ghost use Rattle.jobfile.specs.Answer.{Decides, checkedOf};
 
 // What becomes of a job: no refusal applies to it, or the first that does.
 pub enum Verdict {
@@ -40,7 +28,6 @@ pub struct ReadJob {
 
 // The first refusal that applies to a job, in the order of the table.
 fn verdict_on(job: JobValue) -> Verdict
-    requires { ⌜ Sized job ⌝ }
     ensures { λ r. ⌜ Decides job r ⌝ }
 {
     let z = job.layout;
@@ -70,7 +57,8 @@ fn verdict_on(job: JobValue) -> Verdict
 
 // The bytes of a job file: the job by value if no refusal applies to it, or else the first refusal of 1 to 8.
 pub fn read_job(bytes: &[u8]) -> ReadJob
-    ensures { λ r. ⌜ ReadsJob (now (bytes .entry)) r ⌝ }
+    ensures { λ r. ⌜ checkedOf r ≡ checkBytes (now (bytes .entry)) ⌝ }
+    ensures { λ r. ⌜ (r .verdict ≡ Verdict.Admitted → Sound (r .job)) ⌝ }
 {
     let raw = raw::read_raw(bytes);
     let job = raw.job;

@@ -1,13 +1,14 @@
 // All of 'not a job file': the bytes of a job file as a job, whose numbers are not tested yet.
-use crate::JobValue;
 use crate::cursor::Cursor;
 use crate::lines::LayoutLine;
 use crate::sections::no_line;
 use crate::sections::no_record;
 use rules::Layout;
 use rules::Policy;
+use values::JobValue;
 ghost use mathlib.Core.Path.{_≡_};
-ghost use Rattle.jobfile.specs.Kept.{NoJob, Raw};
+ghost use mathlib.Core.Bool.{false};
+ghost use Rattle.jobfile.specs.Kept.{RawOf};
 
 // A job as it stands in a job file, with the first 384 records and the first 8 lines of it; or no job file.
 pub struct RawJob {
@@ -17,7 +18,7 @@ pub struct RawJob {
 
 // The answer where there is no job file.
 fn not_a_job_file() -> RawJob
-    ensures { λ r. ⌜ NoJob r ⌝ }
+    ensures { λ r. ⌜ r .ok ≡ false ⌝ }
 {
     let stock = [no_record(); 384];
     let lines = [no_line(); 8];
@@ -35,7 +36,7 @@ fn not_a_job_file() -> RawJob
         policy: Policy::Exact,
         records: 0,
         stock,
-        order_lines: 0,
+        orders: 0,
         lines,
     };
     RawJob { ok: false, job }
@@ -43,7 +44,7 @@ fn not_a_job_file() -> RawJob
 
 // The bytes as a job.
 pub fn read_raw(s: &[u8]) -> RawJob
-    ensures { λ r. ⌜ Raw (now (s .entry)) r ⌝ }
+    ensures { λ r. ⌜ RawOf (now (s .entry)) (r .ok) (r .job) ⌝ }
 {
     if 16384 < s.len() {
         return not_a_job_file();
@@ -71,7 +72,7 @@ pub fn read_raw(s: &[u8]) -> RawJob
         policy,
         records: records.count,
         stock,
-        order_lines: list.count,
+        orders: list.count,
         lines,
     };
     RawJob { ok: true, job }

@@ -7,9 +7,9 @@ use crate::lines::RecordLine;
 use rules::OrderLine;
 use rules::StockRecord;
 ghost use mathlib.Core.Path.{_≡_};
-ghost use lib.ListN.{length, drop};
+ghost use lib.ListN.{drop};
 ghost use Rattle.rules.specs.JobFile.{readRecord, readLine, readLines, readSection, readLayoutSection, letterS, letterD};
-ghost use Rattle.jobfile.specs.Kept.{Held};
+ghost use Rattle.jobfile.specs.Kept.{kept, keptOf};
 ghost use Rattle.jobfile.specs.Places.{layoutOf};
 
 // The stock records that were read: whether all lines were, the next place, their number and the first 384 of them.
@@ -49,7 +49,7 @@ pub fn no_line() -> OrderLine {
 impl Cursor {
     // The given number of stock records.
     fn stock_records(self, s: &[u8], count: usize) -> StockRead
-        ensures { λ r. ⌜ Held 384 (now (s .entry)) (readLines readRecord count (drop (self .at) (now (s .entry)))) (r .ok) (r .next) (r .count) (r .stock) ⌝ }
+        ensures { λ r. ⌜ keptOf (now (s .entry)) (r .ok) (r .next) (r .count) (r .stock) ≡ kept 384 (readLines readRecord count (drop (self .at) (now (s .entry)))) ⌝ }
     {
         let mut stock = [no_record(); 384];
         let mut at = self.at;
@@ -80,7 +80,7 @@ impl Cursor {
 
     // The S section.
     pub fn stock_section(self, s: &[u8]) -> StockRead
-        ensures { λ r. ⌜ Held 384 (now (s .entry)) (readSection letterS readRecord (drop (self .at) (now (s .entry)))) (r .ok) (r .next) (r .count) (r .stock) ⌝ }
+        ensures { λ r. ⌜ keptOf (now (s .entry)) (r .ok) (r .next) (r .count) (r .stock) ≡ kept 384 (readSection letterS readRecord (drop (self .at) (now (s .entry)))) ⌝ }
     {
         let Field::Number(count, first) = self.header(s, 83) else {
             let stock = [no_record(); 384];
@@ -96,7 +96,7 @@ impl Cursor {
 
     // The given number of order lines.
     fn order_lines(self, s: &[u8], count: usize) -> ListRead
-        ensures { λ r. ⌜ Held 8 (now (s .entry)) (readLines readLine count (drop (self .at) (now (s .entry)))) (r .ok) (r .next) (r .count) (r .lines) ⌝ }
+        ensures { λ r. ⌜ keptOf (now (s .entry)) (r .ok) (r .next) (r .count) (r .lines) ≡ kept 8 (readLines readLine count (drop (self .at) (now (s .entry)))) ⌝ }
     {
         let mut lines = [no_line(); 8];
         let mut at = self.at;
@@ -127,7 +127,7 @@ impl Cursor {
 
     // The D section.
     pub fn list_section(self, s: &[u8]) -> ListRead
-        ensures { λ r. ⌜ Held 8 (now (s .entry)) (readSection letterD readLine (drop (self .at) (now (s .entry)))) (r .ok) (r .next) (r .count) (r .lines) ⌝ }
+        ensures { λ r. ⌜ keptOf (now (s .entry)) (r .ok) (r .next) (r .count) (r .lines) ≡ kept 8 (readSection letterD readLine (drop (self .at) (now (s .entry)))) ⌝ }
     {
         let Field::Number(count, first) = self.header(s, 68) else {
             let lines = [no_line(); 8];

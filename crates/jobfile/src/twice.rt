@@ -1,12 +1,13 @@
 // A cell in two stock records and an article on two lines: the refusals 4 and 6.
-use crate::JobValue;
 use rules::OrderLine;
+use values::JobValue;
 ghost use mathlib.Core.Path.{_≡_};
 ghost use Prim.Native.Nat.{_-_, _≤_};
-ghost use lib.ListN.{length, take, drop};
+ghost use lib.ListN.{take, drop};
 ghost use Rattle.rules.specs.Lists.{anyOf, anyTwo};
 ghost use Rattle.rules.specs.Refusals.{sameCell, sameArticle};
-ghost use Rattle.jobfile.specs.Values.{StockReady, ListReady, jobOf};
+ghost use Rattle.values.specs.Values.{jobOf};
+ghost use Rattle.jobfile.specs.Ready.{StockReady, ListReady};
 
 // Whether a cell stands in two records: each aisle's cells are bits of a u32, tested and set as the records are read.
 pub fn cell_twice(job: JobValue) -> bool
@@ -32,7 +33,7 @@ pub fn cell_twice(job: JobValue) -> bool
 
 // Whether the article of a line stands on one of the lines from a place on, of the first count.
 fn article_from(lines: [OrderLine; 8], count: usize, from: usize, line: OrderLine) -> bool
-    requires { ⌜ (count ≤ 8) × (length lines ≡ 8) ⌝ }
+    requires { ⌜ count ≤ 8 ⌝ }
     ensures { λ r. ⌜ r ≡ anyOf (sameArticle line) (take (count - from) (drop from lines)) ⌝ }
 {
     let article = line.article;
@@ -52,7 +53,7 @@ pub fn article_twice(job: JobValue) -> bool
     requires { ⌜ ListReady job ⌝ }
     ensures { λ r. ⌜ r ≡ anyTwo sameArticle (jobOf job .lines) ⌝ }
 {
-    let count = job.order_lines;
+    let count = job.orders;
     let lines = job.lines;
     let mut i = 0;
     while i < count {

@@ -1,5 +1,5 @@
 -- What the values stand for.
-use Prim.Native.Nat.{ℕ, _-_}
+use Prim.Native.Nat.{ℕ, _-_, _≤_}
 use mathlib.Core.List.{List, map}
 use lib.ListN.{take}
 use Rattle.rules.specs.declared.Action.{Action}
@@ -8,6 +8,7 @@ use Rattle.rules.specs.declared.Pick.{Pick}
 use Rattle.rules.specs.declared.Run.{Run}
 use Rattle.rules.specs.Jobs.{Job}
 use Rattle.rules.specs.Plans.{Plan}
+use Rattle.rules.specs.Refusals.{Admitted}
 use Rattle.values.specs.declared.JobValue.{JobValue}
 use Rattle.values.specs.declared.Stage.{Stage}
 use Rattle.values.specs.declared.PlanValue.{PlanValue}
@@ -23,6 +24,12 @@ jobOf v =
       stock = take (v .records) (v .stock);
       lines = take (v .orders) (v .lines);
     }
+
+-- a job whose counts are within its arrays, and that no row of the table refuses
+pub record Sound (job : JobValue) : Type 0 where
+  pub record-count : job .records ≤ 384
+  pub order-count : job .orders ≤ 8
+  pub admitted : Admitted (jobOf job)
 
 -- the plan of a value
 unfoldable pub planOf : PlanValue → Plan

@@ -1,7 +1,8 @@
+use Rattle.jobfile.specs.Answer.{Decides}
 use mathlib.Core.Bool.{Bool, true, false}
 use mathlib.Core.Path.{subst}
 use Rattle.jobfile.specs.Kept.{RawOf}
-use Rattle.jobfile.proofs.Verdicts.{no-job, not-admitted, admitted-room, job-checked}
+use Rattle.jobfile.proofs.Verdicts.{no-job, not-admitted, admitted-sound, job-checked}
 use denote.Ref.{now}
 use borrow.Author.Tests.{not-true, not-false}
 use mathlib.Core.Path.{refl, sym, _∙_}
@@ -21,8 +22,8 @@ read-raw-requires c κs = search needs
 returns : tie.Need-returns
 returns c = let s = now (c .before .before .before .before .before .args .bytes) in
     let raw = c .before .before .before .read-raw in
-    let told = subst (λ (b : Bool). RawOf s b (raw .result .job)) (not-true (raw .result .ok) (c .if1 .taken)) (raw .ensures .told) in
-    record { answer = no-job s told; size = raw .ensures .size; room = λ q. not-admitted q }
+    let told = subst (λ (b : Bool). RawOf s b (raw .result .job)) (not-true (raw .result .ok) (c .if1 .taken)) (raw .ensures) in
+    (no-job s told, λ q. not-admitted q)
 
 -- src/lib.rt:81:9
 verdict-on-requires : tie.Need-verdict-on-requires
@@ -30,17 +31,14 @@ verdict-on-requires c κs = search needs
 
 -- src/lib.rt:72:1
 returns-2 : tie.Need-returns-2
+unfolding Decides
 returns-2 c = let s = now (c .before .before .before .before .before .before .args .bytes) in
     let raw = c .before .before .before .before .read-raw in
     let value = raw .result .job in
-    let told = subst (λ (b : Bool). RawOf s b value) (not-false (raw .result .ok) (c .before .if1 .left)) (raw .ensures .told) in
+    let told = subst (λ (b : Bool). RawOf s b value) (not-false (raw .result .ok) (c .before .if1 .left)) (raw .ensures) in
     let job = told .0 in
-    let first = c .verdict-on .ensures .first job (told .2) in
-    record {
-      answer = job-checked s value job (told .1) (told .2) (c .verdict-on .result) first;
-      size = raw .ensures .size;
-      room = admitted-room value job (told .2) (c .verdict-on .result) first;
-    }
+    let first = c .verdict-on .ensures job (told .2) in
+    (job-checked s value job (told .1) (told .2) (c .verdict-on .result) first, admitted-sound value job (told .2) (c .verdict-on .result) first)
 
 pub read-job-spec : {M : Type 1} → statement M
 read-job-spec = tie.close (tie.spec read-raw-requires returns verdict-on-requires returns-2)

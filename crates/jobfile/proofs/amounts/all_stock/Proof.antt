@@ -1,3 +1,5 @@
+use lib.ListN.{length, length-map}
+use mathlib.Core.Path.{_≡_}
 use Rattle.jobfile.proofs.Sums.{StockTo, stock-start, stock-summed, record-small, stock-hit, stock-miss}
 use Rattle.jobfile.proofs.Ranges.{all-records}
 use native.Mathlib.Omega.{arith}
@@ -15,6 +17,10 @@ Inv-loop article job records sum₀ i₀ sum i = StockTo job article sum i
 abbrev μ-loop : tie.MeasureT-loop
 μ-loop article job records sum₀ i₀ sum i = records - i
 
+-- the array's room
+size : (c : tie.Start Inv-loop μ-loop) → length (c .args .t1 .stock) ≡ 384
+size c = simp length-map at (c .good .0 .1 .1 .1 .1 .1 .0 .1 .0 .1)
+
 -- src/amounts.rt:35:5
 loop-holds : tie.Need-loop-holds Inv-loop μ-loop
 loop-holds c = let job = c .args .t1 in stock-start job (c .args .article) (all-records job (c .pre .stock))
@@ -29,7 +35,7 @@ element-copy-out-row c = omega (arith, c .before .before .pre .count)
 
 -- src/amounts.rt:38:13
 add-sum : tie.Need-add-sum Inv-loop μ-loop
-add-sum c = let x = c .before .before .before .before .before .before in let l = c .before .before .before .before .before .loop in omega (arith, record-small (x .args .t1) (x .args .article) (l .sum) (l .i) (l .inv) (c .before .before .before .before .loop-test .taken) (omega (arith, x .pre .size, x .pre .count)), l .inv .small, x .pre .count)
+add-sum c = let x = c .before .before .before .before .before .before in let l = c .before .before .before .before .before .loop in omega (arith, record-small (x .args .t1) (x .args .article) (l .sum) (l .i) (l .inv) (c .before .before .before .before .loop-test .taken) (omega (arith, size x, x .pre .count)), l .inv .small, x .pre .count)
 
 -- src/amounts.rt:40:9
 add-i : tie.Need-add-i Inv-loop μ-loop
@@ -44,7 +50,7 @@ loop-again : tie.Need-loop-again Inv-loop μ-loop
 loop-again c = let x = c .before .before .before .before .before in
     let l = c .before .before .before .before .loop in
     let t = c .before .before .before .loop-test .taken in
-    ⊎-elim (λ w. rw (w .2) (stock-hit (x .args .t1) (x .args .article) (l .sum) (l .i) (l .inv) t (omega (arith, x .pre .size, x .pre .count)) (w .0 .taken))) (λ w. rw (w .1) (stock-miss (x .args .t1) (x .args .article) (l .sum) (l .i) (l .inv) t (omega (arith, x .pre .size, x .pre .count)) (w .0 .left))) (c .if1 .came)
+    ⊎-elim (λ w. rw (w .2) (stock-hit (x .args .t1) (x .args .article) (l .sum) (l .i) (l .inv) t (omega (arith, size x, x .pre .count)) (w .0 .taken))) (λ w. rw (w .1) (stock-miss (x .args .t1) (x .args .article) (l .sum) (l .i) (l .inv) t (omega (arith, size x, x .pre .count)) (w .0 .left))) (c .if1 .came)
 
 -- src/amounts.rt:28:1
 returns : tie.Need-returns Inv-loop μ-loop

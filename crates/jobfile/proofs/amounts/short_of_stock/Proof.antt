@@ -1,7 +1,9 @@
+use lib.ListN.{length, length-map}
+use mathlib.Core.Path.{_≡_}
 use lib.ListN.{getD}
 use Rattle.jobfile.proofs.Left.{left-all, AnyFrom, any-fails, any-holds, any-more}
 use Rattle.jobfile.proofs.Ranges.{noLine}
-use Rattle.jobfile.specs.Values.{jobOf}
+use Rattle.values.specs.Values.{jobOf}
 use Rattle.rules.specs.Refusals.{allStock, shortOfStock}
 use Rattle.rules.specs.Lists.{anyOf}
 use Rattle.rules.specs.declared.OrderLine.{OrderLine}
@@ -24,10 +26,14 @@ Inv-loop job count i₀ i = AnyFrom (λ (l : OrderLine). ltb (allStock (jobOf jo
 abbrev μ-loop : tie.MeasureT-loop
 μ-loop job count i₀ i = count - i
 
+-- the array's room
+size : (c : tie.Start Inv-loop μ-loop) → length (c .args .t1 .lines) ≡ 8
+size c = simp length-map at (c .good .0 .1 .1 .1 .1 .1 .1 .1 .0 .1 .0 .1)
+
 -- src/amounts.rt:53:5
 loop-holds : tie.Need-loop-holds Inv-loop μ-loop
-unfolding shortOfStock
-loop-holds c = let job = c .args .t1 in ap (anyOf (λ (l : OrderLine). ltb (allStock (jobOf job) (l .article)) (l .quantity))) (left-all (job .«order_lines») (job .lines))
+unfolding shortOfStock jobOf
+loop-holds c = let job = c .args .t1 in ap (anyOf (λ (l : OrderLine). ltb (allStock (jobOf job) (l .article)) (l .quantity))) (left-all (job .orders) (job .lines))
 
 -- src/amounts.rt:54:20
 mul-line : tie.Need-mul-line Inv-loop μ-loop
@@ -48,7 +54,7 @@ returns c = let x = c .before .before .before .before .before .before in
     let job = x .args .t1 in
     let s = c .before .before .all-stock in
     let q = getD (job .lines) (l .i) noLine .quantity in
-    sym (any-holds (λ (l : OrderLine). ltb (allStock (jobOf job) (l .article)) (l .quantity)) (job .«order_lines») (job .lines) (shortOfStock (jobOf job)) (l .i) noLine (c .before .before .before .before .loop-test .taken) (omega (arith, x .pre .1 .size, x .pre .1 .count)) (l .inv) (ap (λ (n : ℕ). ltb n q) (sym (s .ensures)) ∙ lt-ltb (s .result) q (c .if1 .taken)))
+    sym (any-holds (λ (l : OrderLine). ltb (allStock (jobOf job) (l .article)) (l .quantity)) (job .orders) (job .lines) (shortOfStock (jobOf job)) (l .i) noLine (c .before .before .before .before .loop-test .taken) (omega (arith, size x, x .pre .1 .count)) (l .inv) (ap (λ (n : ℕ). ltb n q) (sym (s .ensures)) ∙ lt-ltb (s .result) q (c .if1 .taken)))
 
 -- src/amounts.rt:59:9
 add-i : tie.Need-add-i Inv-loop μ-loop
@@ -65,14 +71,14 @@ loop-again c = let x = c .before .before .before .before .before .before in
     let job = x .args .t1 in
     let s = c .before .before .all-stock in
     let q = getD (job .lines) (l .i) noLine .quantity in
-    any-more (λ (l : OrderLine). ltb (allStock (jobOf job) (l .article)) (l .quantity)) (job .«order_lines») (job .lines) (shortOfStock (jobOf job)) (l .i) noLine (c .before .before .before .before .loop-test .taken) (omega (arith, x .pre .1 .size, x .pre .1 .count)) (l .inv) (ap (λ (n : ℕ). ltb n q) (sym (s .ensures)) ∙ le-ltb (s .result) q (c .if1 .left))
+    any-more (λ (l : OrderLine). ltb (allStock (jobOf job) (l .article)) (l .quantity)) (job .orders) (job .lines) (shortOfStock (jobOf job)) (l .i) noLine (c .before .before .before .before .loop-test .taken) (omega (arith, size x, x .pre .1 .count)) (l .inv) (ap (λ (n : ℕ). ltb n q) (sym (s .ensures)) ∙ le-ltb (s .result) q (c .if1 .left))
 
 -- src/amounts.rt:46:1
 returns-2 : tie.Need-returns-2 Inv-loop μ-loop
 returns-2 c = let x = c .before .before in
     let l = c .before .loop in
     let job = x .args .t1 in
-    sym (any-fails (λ (l : OrderLine). ltb (allStock (jobOf job) (l .article)) (l .quantity)) (job .«order_lines») (job .lines) (shortOfStock (jobOf job)) (l .i) (l .inv) (c .loop-test .left))
+    sym (any-fails (λ (l : OrderLine). ltb (allStock (jobOf job) (l .article)) (l .quantity)) (job .orders) (job .lines) (shortOfStock (jobOf job)) (l .i) (l .inv) (c .loop-test .left))
 
 pub short-of-stock-spec : {M : Type 1} → statement M
 short-of-stock-spec =

@@ -1,6 +1,7 @@
+use lib.ListN.{length-map}
 use lib.ListN.{take}
 use Rattle.rules.specs.Lists.{allOf}
-use Rattle.jobfile.proofs.Ranges.{noLine, list-many, list-empty, list-tested}
+use Rattle.jobfile.proofs.Ranges.{Sized, noLine, list-many, list-empty, list-tested}
 use Rattle.jobfile.proofs.Left.{left-all, AllFrom, all-hold, all-fails, all-more}
 use Rattle.rules.specs.Refusals.{lineInBounds}
 use borrow.Author.Tests.{not-true, not-false}
@@ -20,17 +21,21 @@ Inv-loop job count i₀ i = AllFrom lineInBounds count (job .lines) (allOf lineI
 abbrev μ-loop : tie.MeasureT-loop
 μ-loop job count i₀ i = count - i
 
+-- the arrays' room
+sized : (c : tie.Start Inv-loop μ-loop) → Sized (c .args .t1)
+sized c = record { stock = simp length-map at (c .good .0 .1 .1 .1 .1 .1 .0 .1 .0 .1); lines = simp length-map at (c .good .0 .1 .1 .1 .1 .1 .1 .1 .0 .1 .0 .1) }
+
 -- src/bounds.rt:78:9
 returns : tie.Need-returns Inv-loop μ-loop
-returns c = sym (list-many (c .before .args .t1) (c .before .pre) (c .if1 .taken))
+returns c = sym (list-many (c .before .args .t1) (sized (c .before)) (c .if1 .taken))
 
 -- src/bounds.rt:81:9
 returns-2 : tie.Need-returns-2 Inv-loop μ-loop
-returns-2 c = sym (list-empty (c .before .before .args .t1) (c .before .before .pre) (c .if2 .taken))
+returns-2 c = sym (list-empty (c .before .before .args .t1) (sized (c .before .before)) (c .if2 .taken))
 
 -- src/bounds.rt:84:5
 loop-holds : tie.Need-loop-holds Inv-loop μ-loop
-loop-holds c = let job = c .before .before .args .t1 in ap (allOf lineInBounds) (left-all (job .«order_lines») (job .lines))
+loop-holds c = let job = c .before .before .args .t1 in ap (allOf lineInBounds) (left-all (job .orders) (job .lines))
 
 -- src/bounds.rt:85:20
 mul-line : tie.Need-mul-line Inv-loop μ-loop
@@ -50,7 +55,7 @@ returns-3 c = let x = c .before .before .before .before .before .before .before 
     let job = x .args .t1 in
     let l = c .before .before .before .before .loop in
     let r = c .before .line-in-bounds in
-    sym (list-tested job (x .pre) (c .before .before .before .before .before .if2 .left) (c .before .before .before .before .before .before .if1 .left) ∙ all-fails lineInBounds (job .«order_lines») (job .lines) (allOf lineInBounds (take (job .«order_lines») (job .lines))) (l .i) noLine (c .before .before .before .loop-test .taken) (omega (arith, x .pre .lines)) (l .inv) (sym (r .ensures) ∙ not-true (r .result) (c .if3 .taken)))
+    sym (list-tested job (sized x) (c .before .before .before .before .before .if2 .left) (c .before .before .before .before .before .before .if1 .left) ∙ all-fails lineInBounds (job .orders) (job .lines) (allOf lineInBounds (take (job .orders) (job .lines))) (l .i) noLine (c .before .before .before .loop-test .taken) (omega (arith, sized x .lines)) (l .inv) (sym (r .ensures) ∙ not-true (r .result) (c .if3 .taken)))
 
 -- src/bounds.rt:89:9
 add-i : tie.Need-add-i Inv-loop μ-loop
@@ -66,14 +71,14 @@ loop-again c = let x = c .before .before .before .before .before .before .before
     let job = x .args .t1 in
     let l = c .before .before .before .before .loop in
     let r = c .before .line-in-bounds in
-    all-more lineInBounds (job .«order_lines») (job .lines) (allOf lineInBounds (take (job .«order_lines») (job .lines))) (l .i) noLine (c .before .before .before .loop-test .taken) (omega (arith, x .pre .lines)) (l .inv) (sym (r .ensures) ∙ not-false (r .result) (c .if3 .left))
+    all-more lineInBounds (job .orders) (job .lines) (allOf lineInBounds (take (job .orders) (job .lines))) (l .i) noLine (c .before .before .before .loop-test .taken) (omega (arith, sized x .lines)) (l .inv) (sym (r .ensures) ∙ not-false (r .result) (c .if3 .left))
 
 -- src/bounds.rt:72:1
 returns-4 : tie.Need-returns-4 Inv-loop μ-loop
 returns-4 c = let x = c .before .before .before .before in
     let job = x .args .t1 in
     let l = c .before .loop in
-    sym (list-tested job (x .pre) (c .before .before .if2 .left) (c .before .before .before .if1 .left) ∙ all-hold lineInBounds (job .«order_lines») (job .lines) (allOf lineInBounds (take (job .«order_lines») (job .lines))) (l .i) (l .inv) (c .loop-test .left))
+    sym (list-tested job (sized x) (c .before .before .if2 .left) (c .before .before .before .if1 .left) ∙ all-hold lineInBounds (job .orders) (job .lines) (allOf lineInBounds (take (job .orders) (job .lines))) (l .i) (l .inv) (c .loop-test .left))
 
 pub list-in-bounds-spec : {M : Type 1} → statement M
 list-in-bounds-spec =

@@ -1,13 +1,14 @@
+use lib.ListN.{length-map}
 use lib.ListN.{take}
 use Rattle.rules.specs.Lists.{allOf}
-use Rattle.jobfile.proofs.Ranges.{noRecord, stock-many, stock-tested}
+use Rattle.jobfile.proofs.Ranges.{Sized, noRecord, stock-many, stock-tested}
 use borrow.Author.Tests.{not-true, not-false}
 use borrow.Author.Needs.{needs}
 use native.Mathlib.Omega.{arith}
 use mathlib.Core.Path.{sym, _∙_}
 use mathlib.Core.Path.{sym, _∙_, ap}
 use Rattle.jobfile.proofs.Left.{left-all, AllFrom, all-hold, all-fails, all-more}
-use Rattle.jobfile.specs.Values.{storeOnly}
+use Rattle.jobfile.specs.Ready.{storeOnly}
 use Rattle.rules.specs.Refusals.{recordInBounds}
 use Prim.Native.Nat.{_-_, _≤_}
 use Rattle.jobfile.proofs.bounds.stock_in_bounds.Statement.{statement}
@@ -22,9 +23,13 @@ Inv-loop job records z i₀ i = AllFrom (recordInBounds (storeOnly z)) records (
 abbrev μ-loop : tie.MeasureT-loop
 μ-loop job records z i₀ i = records - i
 
+-- the arrays' room
+sized : (c : tie.Start Inv-loop μ-loop) → Sized (c .args .t1)
+sized c = record { stock = simp length-map at (c .good .0 .1 .1 .1 .1 .1 .0 .1 .0 .1); lines = simp length-map at (c .good .0 .1 .1 .1 .1 .1 .1 .1 .0 .1 .0 .1) }
+
 -- src/bounds.rt:50:9
 returns : tie.Need-returns Inv-loop μ-loop
-returns c = sym (stock-many (c .before .args .t1) (c .before .pre) (c .if1 .taken))
+returns c = sym (stock-many (c .before .args .t1) (sized (c .before)) (c .if1 .taken))
 
 -- src/bounds.rt:54:5
 loop-holds : tie.Need-loop-holds Inv-loop μ-loop
@@ -48,7 +53,7 @@ returns-2 c = let x = c .before .before .before .before .before .before .before 
     let job = x .args .t1 in
     let l = c .before .before .before .before .loop in
     let r = c .before .record-in-bounds in
-    sym (stock-tested job (x .pre) (c .before .before .before .before .before .before .if1 .left) ∙ all-fails (recordInBounds (storeOnly (job .layout))) (job .records) (job .stock) (allOf (recordInBounds (storeOnly (job .layout))) (take (job .records) (job .stock))) (l .i) noRecord (c .before .before .before .loop-test .taken) (omega (arith, x .pre .stock)) (l .inv) (sym (r .ensures) ∙ not-true (r .result) (c .if2 .taken)))
+    sym (stock-tested job (sized x) (c .before .before .before .before .before .before .if1 .left) ∙ all-fails (recordInBounds (storeOnly (job .layout))) (job .records) (job .stock) (allOf (recordInBounds (storeOnly (job .layout))) (take (job .records) (job .stock))) (l .i) noRecord (c .before .before .before .loop-test .taken) (omega (arith, sized x .stock)) (l .inv) (sym (r .ensures) ∙ not-true (r .result) (c .if2 .taken)))
 
 -- src/bounds.rt:59:9
 add-i : tie.Need-add-i Inv-loop μ-loop
@@ -64,14 +69,14 @@ loop-again c = let x = c .before .before .before .before .before .before .before
     let job = x .args .t1 in
     let l = c .before .before .before .before .loop in
     let r = c .before .record-in-bounds in
-    all-more (recordInBounds (storeOnly (job .layout))) (job .records) (job .stock) (allOf (recordInBounds (storeOnly (job .layout))) (take (job .records) (job .stock))) (l .i) noRecord (c .before .before .before .loop-test .taken) (omega (arith, x .pre .stock)) (l .inv) (sym (r .ensures) ∙ not-false (r .result) (c .if2 .left))
+    all-more (recordInBounds (storeOnly (job .layout))) (job .records) (job .stock) (allOf (recordInBounds (storeOnly (job .layout))) (take (job .records) (job .stock))) (l .i) noRecord (c .before .before .before .loop-test .taken) (omega (arith, sized x .stock)) (l .inv) (sym (r .ensures) ∙ not-false (r .result) (c .if2 .left))
 
 -- src/bounds.rt:44:1
 returns-3 : tie.Need-returns-3 Inv-loop μ-loop
 returns-3 c = let x = c .before .before .before .before in
     let job = x .args .t1 in
     let l = c .before .loop in
-    sym (stock-tested job (x .pre) (c .before .before .before .if1 .left) ∙ all-hold (recordInBounds (storeOnly (job .layout))) (job .records) (job .stock) (allOf (recordInBounds (storeOnly (job .layout))) (take (job .records) (job .stock))) (l .i) (l .inv) (c .loop-test .left))
+    sym (stock-tested job (sized x) (c .before .before .before .if1 .left) ∙ all-hold (recordInBounds (storeOnly (job .layout))) (job .records) (job .stock) (allOf (recordInBounds (storeOnly (job .layout))) (take (job .records) (job .stock))) (l .i) (l .inv) (c .loop-test .left))
 
 pub stock-in-bounds-spec : {M : Type 1} → statement M
 stock-in-bounds-spec =

@@ -24,11 +24,17 @@ layout-told c = told (layoutOf (now (c .before .before .before .before .before .
 
 -- the S section was read
 stock-told : (c : tie.Else2) → LinesRead 384 (now (c .before .before .before .before .before .before .before .before .before .args .s)) (c .before .before .stock-section .result .next) (c .before .before .stock-section .result .count) (c .before .before .stock-section .result .stock) (readSection letterS readRecord (drop (c .before .before .before .before .layout .given .0 .1 .1 .0 .at) (now (c .before .before .before .before .before .before .before .before .before .args .s))))
-stock-told c = let r = c .before .before .stock-section in held-some _ (r .result .ok) (r .ensures) (not-false (r .result .ok) (c .if2 .left))
+stock-told c =
+    let r = c .before .before .stock-section in
+    let s = now (c .before .before .before .before .before .before .before .before .before .args .s) in
+    held-some 384 s (r .result .next) (r .result .count) (r .result .stock) (readSection letterS readRecord (drop (c .before .before .before .before .layout .given .0 .1 .1 .0 .at) s)) (r .result .ok) (r .ensures) (not-false (r .result .ok) (c .if2 .left))
 
 -- the D section was read
 list-told : (c : tie.Else3) → LinesRead 8 (now (c .before .before .before .before .before .before .before .before .before .before .before .before .args .s)) (c .before .before .list-section .result .next) (c .before .before .list-section .result .count) (c .before .before .list-section .result .lines) (readSection letterD readLine (drop (c .before .before .before .before .before .stock-section .result .next) (now (c .before .before .before .before .before .before .before .before .before .before .before .before .args .s))))
-list-told c = let r = c .before .before .list-section in held-some _ (r .result .ok) (r .ensures) (not-false (r .result .ok) (c .if3 .left))
+list-told c =
+    let r = c .before .before .list-section in
+    let s = now (c .before .before .before .before .before .before .before .before .before .before .before .before .args .s) in
+    held-some 8 s (r .result .next) (r .result .count) (r .result .lines) (readSection letterD readLine (drop (c .before .before .before .before .before .stock-section .result .next) s)) (r .result .ok) (r .ensures) (not-false (r .result .ok) (c .if3 .left))
 
 -- src/raw.rt:41:9
 not-a-job-file-requires : tie.Need-not-a-job-file-requires
@@ -72,7 +78,7 @@ returns-3 c = let s = now (c .before .before .before .before .before .before .be
     let r = c .before .before .before .stock-section in
     let l = c .before .before .before .before .before .layout .given .0 in
     raw-none s (c .not-a-job-file3 .result) (c .not-a-job-file3 .ensures)
-    (no-stock s (drop (l .1 .1 .0 .at) s) (l .0) (l .1 .0) (layout-told (c .before .before .before .before)) (held-none _ (r .result .ok) (r .ensures) (not-true (r .result .ok) (c .before .if2 .taken))))
+    (no-stock s (drop (l .1 .1 .0 .at) s) (l .0) (l .1 .0) (layout-told (c .before .before .before .before)) (held-none 384 s (r .result .next) (r .result .count) (r .result .stock) (readSection letterS readRecord (drop (l .1 .1 .0 .at) s)) (r .result .ok) (r .ensures) (not-true (r .result .ok) (c .before .if2 .taken))))
 
 -- src/raw.rt:52:9
 list-section-requires : tie.Need-list-section-requires
@@ -89,7 +95,7 @@ returns-4 c = let s = now (c .before .before .before .before .before .before .be
     let l = c .before .before .before .before .before .before .before .before .layout .given .0 in
     let stock = stock-told (c .before .before .before .before) in
     raw-none s (c .not-a-job-file4 .result) (c .not-a-job-file4 .ensures)
-    (no-list s (drop (l .1 .1 .0 .at) s) (l .0) (l .1 .0) (layout-told (c .before .before .before .before .before .before .before)) (stock .xs) (drop (c .before .before .before .before .before .before .stock-section .result .next) s) (stock .read) (held-none _ (r .result .ok) (r .ensures) (not-true (r .result .ok) (c .before .if3 .taken))))
+    (no-list s (drop (l .1 .1 .0 .at) s) (l .0) (l .1 .0) (layout-told (c .before .before .before .before .before .before .before)) (stock .xs) (drop (c .before .before .before .before .before .before .stock-section .result .next) s) (stock .read) (held-none 8 s (r .result .next) (r .result .count) (r .result .lines) (readSection letterD readLine (drop (c .before .before .before .before .before .before .stock-section .result .next) s)) (r .result .ok) (r .ensures) (not-true (r .result .ok) (c .before .if3 .taken))))
 
 -- src/raw.rt:57:9
 not-a-job-file-requires-5 : tie.Need-not-a-job-file-requires-5
@@ -110,15 +116,11 @@ returns-6 c = let x = c .before .before .before .before .before .before .before 
     let s = now (x .args .s) in
     let l = c .before .before .before .before .before .before .before .before .before .before .before .layout .given .0 in
     let stock = stock-told (c .before .before .before .before .before .before .before) in
-    let list = list-told (c .before .before .before .before) in
-    record {
-      size = record { stock = c .before .before .before .before .before .before .before .before .before .stock-section .ensures .size; lines = c .before .before .before .before .before .before .list-section .ensures .size };
-      told = (
-        record { layout = l .0; policy = l .1 .0; stock = stock .xs; lines = list .xs },
-        job-read s (drop (l .1 .1 .0 .at) s) (l .0) (l .1 .0) (layout-told (c .before .before .before .before .before .before .before .before .before .before)) (stock .xs) (drop (c .before .before .before .before .before .before .before .before .before .stock-section .result .next) s) (stock .read) (list .xs) (c .before .before .before .before .before .before .list-section .result .next) (list .read) (c .before .before .before .before .before .before .before .before .before .before .before .before .before .before .if1 .left) (c .before .before .if4 .left),
-        record { layout = refl; policy = refl; records = stock .counted; stock = stock .first; order-lines = list .counted; lines = list .first },
-      );
-    }
+    let list = list-told (c .before .before .before .before) in (
+      record { layout = l .0; policy = l .1 .0; stock = stock .xs; lines = list .xs },
+      job-read s (drop (l .1 .1 .0 .at) s) (l .0) (l .1 .0) (layout-told (c .before .before .before .before .before .before .before .before .before .before)) (stock .xs) (drop (c .before .before .before .before .before .before .before .before .before .stock-section .result .next) s) (stock .read) (list .xs) (c .before .before .before .before .before .before .list-section .result .next) (list .read) (c .before .before .before .before .before .before .before .before .before .before .before .before .before .before .if1 .left) (c .before .before .if4 .left),
+      record { layout = refl; policy = refl; records = stock .counted; stock = stock .first; orders = list .counted; lines = list .first },
+    )
 
 pub read-raw-spec : {M : Type 1} → statement M
 read-raw-spec =

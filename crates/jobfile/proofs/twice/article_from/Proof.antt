@@ -1,3 +1,5 @@
+use lib.ListN.{length}
+use mathlib.Core.Path.{_≡_}
 use Rattle.jobfile.proofs.Left.{left, AnyFrom, any-fails, any-holds, any-more}
 use Rattle.jobfile.proofs.Ranges.{noLine}
 use Rattle.rules.specs.Refusals.{sameArticle}
@@ -19,17 +21,21 @@ Inv-loop count from lines article i₀ i = AnyFrom (λ (l : OrderLine). eqb arti
 abbrev μ-loop : tie.MeasureT-loop
 μ-loop count from lines article i₀ i = count - i
 
+-- the array's room
+size : (c : tie.Start Inv-loop μ-loop) → length (c .args .t1) ≡ 8
+size c = c .good .0 .1 .0 .1
+
 -- src/twice.rt:40:5
 loop-holds : tie.Need-loop-holds Inv-loop μ-loop
 loop-holds c = refl
 
 -- src/twice.rt:41:21
 mul-other : tie.Need-mul-other Inv-loop μ-loop
-mul-other c = omega (arith, c .before .before .pre .0)
+mul-other c = omega (arith, c .before .before .pre)
 
 -- src/twice.rt:41:21
 array-copy-out-other : tie.Need-array-copy-out-other Inv-loop μ-loop
-array-copy-out-other c = omega (arith, c .before .before .pre .0)
+array-copy-out-other c = omega (arith, c .before .before .pre)
 
 -- src/twice.rt:43:13
 returns : tie.Need-returns Inv-loop μ-loop
@@ -37,11 +43,11 @@ unfolding sameArticle
 returns c = let x = c .before .before .before .before .before in
     let l = c .before .before .before .before .loop in
     let a = x .args in
-    sym (any-holds (sameArticle (a .line)) (a .count) (a .t1) (anyOf (sameArticle (a .line)) (left (a .count) (a .from) (a .t1))) (l .i) noLine (c .before .before .before .loop-test .taken) (omega (arith, x .pre .0, x .pre .1)) (l .inv) (eq-eqb _ _ (c .if1 .taken)))
+    sym (any-holds (sameArticle (a .line)) (a .count) (a .t1) (anyOf (sameArticle (a .line)) (left (a .count) (a .from) (a .t1))) (l .i) noLine (c .before .before .before .loop-test .taken) (omega (arith, x .pre, size x)) (l .inv) (eq-eqb _ _ (c .if1 .taken)))
 
 -- src/twice.rt:45:9
 add-i : tie.Need-add-i Inv-loop μ-loop
-add-i c = omega (arith, c .before .before .before .before .before .pre .0)
+add-i c = omega (arith, c .before .before .before .before .before .pre)
 
 -- src/twice.rt:40:5
 loop-less : tie.Need-loop-less Inv-loop μ-loop
@@ -53,7 +59,7 @@ unfolding sameArticle
 loop-again c = let x = c .before .before .before .before .before in
     let l = c .before .before .before .before .loop in
     let a = x .args in
-    any-more (sameArticle (a .line)) (a .count) (a .t1) (anyOf (sameArticle (a .line)) (left (a .count) (a .from) (a .t1))) (l .i) noLine (c .before .before .before .loop-test .taken) (omega (arith, x .pre .0, x .pre .1)) (l .inv) (ne-eqb _ _ (c .if1 .left))
+    any-more (sameArticle (a .line)) (a .count) (a .t1) (anyOf (sameArticle (a .line)) (left (a .count) (a .from) (a .t1))) (l .i) noLine (c .before .before .before .loop-test .taken) (omega (arith, x .pre, size x)) (l .inv) (ne-eqb _ _ (c .if1 .left))
 
 -- src/twice.rt:34:1
 returns-2 : tie.Need-returns-2 Inv-loop μ-loop

@@ -1,3 +1,6 @@
+use lib.ListN.{length, length-map}
+use mathlib.Core.Path.{_≡_}
+use Rattle.values.specs.Values.{jobOf}
 use Rattle.jobfile.proofs.Left.{left-all, TwoFrom, two-none, two-found, two-more}
 use Rattle.jobfile.proofs.Ranges.{noLine}
 use Rattle.rules.specs.Refusals.{sameArticle}
@@ -18,9 +21,13 @@ Inv-loop count lines i₀ i = TwoFrom sameArticle count lines (anyTwo sameArticl
 abbrev μ-loop : tie.MeasureT-loop
 μ-loop count lines i₀ i = count - i
 
+-- the array's room
+size : (c : tie.Start Inv-loop μ-loop) → length (c .args .job .lines) ≡ 8
+size c = simp length-map at (c .good .0 .1 .1 .1 .1 .1 .1 .1 .0 .1 .0 .1)
+
 -- src/twice.rt:58:5
 loop-holds : tie.Need-loop-holds Inv-loop μ-loop
-loop-holds c = let job = c .before .args .job in ap (anyTwo sameArticle) (left-all (job .«order_lines») (job .lines))
+loop-holds c = let job = c .before .args .job in ap (anyTwo sameArticle) (left-all (job .orders) (job .lines))
 
 -- src/twice.rt:59:20
 mul-line : tie.Need-mul-line Inv-loop μ-loop
@@ -36,15 +43,16 @@ add-article-from c = omega (arith, c .before .before .before .before .pre .count
 
 -- src/twice.rt:60:12
 article-from-requires : tie.Need-article-from-requires Inv-loop μ-loop
-article-from-requires c κs = let p = c .before .before .before .before .pre in (p .count, p .size)
+article-from-requires c κs = c .before .before .before .before .pre .count
 
 -- src/twice.rt:61:13
 returns : tie.Need-returns Inv-loop μ-loop
+unfolding jobOf
 returns c = let x = c .before .before .before .before .before .before in
     let l = c .before .before .before .before .loop in
     let job = x .args .job in
     let r = c .before .article-from in
-    sym (two-found sameArticle (job .«order_lines») (job .lines) (anyTwo sameArticle (take (job .«order_lines») (job .lines))) (l .i) noLine (c .before .before .before .loop-test .taken) (omega (arith, x .pre .size, x .pre .count)) (l .inv) (sym (r .ensures) ∙ c .if1 .taken))
+    sym (two-found sameArticle (job .orders) (job .lines) (anyTwo sameArticle (take (job .orders) (job .lines))) (l .i) noLine (c .before .before .before .loop-test .taken) (omega (arith, size x, x .pre .count)) (l .inv) (sym (r .ensures) ∙ c .if1 .taken))
 
 -- src/twice.rt:63:9
 add-i : tie.Need-add-i Inv-loop μ-loop
@@ -60,14 +68,15 @@ loop-again c = let x = c .before .before .before .before .before .before in
     let l = c .before .before .before .before .loop in
     let job = x .args .job in
     let r = c .before .article-from in
-    two-more sameArticle (job .«order_lines») (job .lines) (anyTwo sameArticle (take (job .«order_lines») (job .lines))) (l .i) noLine (c .before .before .before .loop-test .taken) (omega (arith, x .pre .size, x .pre .count)) (l .inv) (sym (r .ensures) ∙ c .if1 .left)
+    two-more sameArticle (job .orders) (job .lines) (anyTwo sameArticle (take (job .orders) (job .lines))) (l .i) noLine (c .before .before .before .loop-test .taken) (omega (arith, size x, x .pre .count)) (l .inv) (sym (r .ensures) ∙ c .if1 .left)
 
 -- src/twice.rt:51:1
 returns-2 : tie.Need-returns-2 Inv-loop μ-loop
+unfolding jobOf
 returns-2 c = let x = c .before .before .before in
     let l = c .before .loop in
     let job = x .args .job in
-    sym (two-none sameArticle (job .«order_lines») (job .lines) (anyTwo sameArticle (take (job .«order_lines») (job .lines))) (l .i) (l .inv) (c .loop-test .left))
+    sym (two-none sameArticle (job .orders) (job .lines) (anyTwo sameArticle (take (job .orders) (job .lines))) (l .i) (l .inv) (c .loop-test .left))
 
 pub article-twice-spec : {M : Type 1} → statement M
 article-twice-spec =

@@ -1,3 +1,6 @@
+use lib.ListN.{length, length-map}
+use mathlib.Core.Path.{_≡_}
+use Rattle.values.specs.Values.{jobOf}
 use Rattle.jobfile.proofs.Cells.{CellsTo, InMarks, noMarks, cells-start, cells-once, here-in-marks, cell-again, cell-new}
 use Rattle.jobfile.proofs.Ranges.{noRecord, all-records}
 use lib.ListN.{getD}
@@ -15,12 +18,16 @@ Inv-loop job records seen₀ i₀ seen i = CellsTo job seen i
 abbrev μ-loop : tie.MeasureT-loop
 μ-loop job records seen₀ i₀ seen i = records - i
 
+-- the array's room
+size : (c : tie.Start Inv-loop μ-loop) → length (c .args .t1 .stock) ≡ 384
+size c = simp length-map at (c .good .0 .1 .1 .1 .1 .1 .0 .1 .0 .1)
+
 -- the cell of the record that is read lies in the marks
 in-marks : (c : tie.In-loop Inv-loop μ-loop) → InMarks (getD (c .before .before .args .t1 .stock) (c .before .loop .i) noRecord)
 in-marks c =
     let x = c .before .before in
     let l = c .before .loop in
-    here-in-marks (x .args .t1) (x .pre .layout) (l .seen) (l .i) (l .inv) (c .loop-test .taken) (omega (arith, x .pre .size, x .pre .count))
+    here-in-marks (x .args .t1) (x .pre .layout) (l .seen) (l .i) (l .inv) (c .loop-test .taken) (omega (arith, size x, x .pre .count))
 
 loop-holds : tie.Need-loop-holds Inv-loop μ-loop
 loop-holds c = let job = c .args .t1 in cells-start job (c .pre .layout) (all-records job (c .pre .stock))
@@ -59,9 +66,10 @@ shr-if1 c = omega (arith, in-marks (c .before .before .before) .cell .1)
 
 -- src/twice.rt:23:13
 returns : tie.Need-returns Inv-loop μ-loop
+unfolding jobOf
 returns c = let x = c .before .before .before .before .before .before in
     let l = c .before .before .before .before .before .loop in
-    sym (cell-again (x .args .t1) (x .pre .layout) (l .seen) (l .i) (l .inv) (c .before .before .before .before .loop-test .taken) (omega (arith, x .pre .size, x .pre .count)) (c .if1 .taken))
+    sym (cell-again (x .args .t1) (x .pre .layout) (l .seen) (l .i) (l .inv) (c .before .before .before .before .loop-test .taken) (omega (arith, size x, x .pre .count)) (c .if1 .taken))
 
 -- src/twice.rt:25:37
 cast-seen : tie.Need-cast-seen Inv-loop μ-loop
@@ -91,10 +99,11 @@ loop-less c = omega arith
 loop-again : tie.Need-loop-again Inv-loop μ-loop
 loop-again c = let x = c .before .before .before .before .before .before in
     let l = c .before .before .before .before .before .loop in
-    cell-new (x .args .t1) (x .pre .layout) (l .seen) (l .i) (l .inv) (c .before .before .before .before .loop-test .taken) (omega (arith, x .pre .size, x .pre .count)) (c .if1 .left)
+    cell-new (x .args .t1) (x .pre .layout) (l .seen) (l .i) (l .inv) (c .before .before .before .before .loop-test .taken) (omega (arith, size x, x .pre .count)) (c .if1 .left)
 
 -- src/twice.rt:10:1
 returns-2 : tie.Need-returns-2 Inv-loop μ-loop
+unfolding jobOf
 returns-2 c = let x = c .before .before in
     let l = c .before .loop in
     sym (cells-once (x .args .t1) (x .pre .layout) (l .seen) (l .i) (l .inv) (c .loop-test .left))

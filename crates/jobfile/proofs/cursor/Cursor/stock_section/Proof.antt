@@ -2,7 +2,6 @@ use Rattle.jobfile.proofs.Told.{told}
 use Rattle.jobfile.specs.Places.{fieldOf}
 use Rattle.rules.specs.JobFile.{readSection}
 use denote.Ref.{now}
-use lib.ListN.{replicate, length-replicate}
 use borrow.Author.Needs.{needs}
 use Rattle.jobfile.proofs.cursor.Cursor.stock_section.Statement.{statement}
 use Rattle.jobfile.proofs.cursor.Cursor.stock_section.Tie as tie
@@ -31,7 +30,7 @@ no-record-requires c κs = search needs
 -- src/sections.rt:67:13
 returns : tie.Need-returns
 unfolding readSection
-returns c = let s = now (c .before .before .before .before .before .args .s) in record { same = rw (readSection, told (fieldOf s) (c .before .before .before .header .ensures) (c .before .enum-told .given .1)); size = length-replicate 384 (c .no-record .result) }
+returns c = let s = now (c .before .before .before .before .before .args .s) in rw (readSection, told (fieldOf s) (c .before .before .before .header .ensures) (c .before .enum-told .given .1))
 
 -- src/sections.rt:69:9
 stock-records-requires : tie.Need-stock-records-requires
