@@ -1,35 +1,27 @@
-use Rattle.jobfile.specs.Answer.{Decides}
-use mathlib.Core.Bool.{Bool, true, false}
+-- `jobfile::read_job` meets its contract: what was read, and the verdict on it.
+use mathlib.Core.Bool.{Bool}
 use mathlib.Core.Path.{subst}
+use borrow.Author.Needs.{needs}
+use borrow.Author.Tests.{not-true, not-false}
+use denote.Ref.{now}
+use Rattle.jobfile.specs.Answer.{Decides}
 use Rattle.jobfile.specs.Kept.{RawOf}
 use Rattle.jobfile.proofs.Verdicts.{no-job, not-admitted, admitted-sound, job-checked}
-use denote.Ref.{now}
-use borrow.Author.Tests.{not-true, not-false}
-use mathlib.Core.Path.{refl, sym, _∙_}
-use borrow.Author.Needs.{needs}
 use Rattle.jobfile.proofs.read_job.Statement.{statement}
 use Rattle.jobfile.proofs.read_job.Tie as tie
-use Rattle.jobfile.proofs.read_job.Reads as reads
-use Rattle.jobfile.proofs.read_job.Lts as lts
-use Rattle.jobfile.proofs.raw.read_raw.Reads as read-raw-reads
-use Rattle.jobfile.proofs.verdict_on.Reads as verdict-on-reads
 
--- src/lib.rt:75:9
 read-raw-requires : tie.Need-read-raw-requires
 read-raw-requires c κs = search needs
 
--- src/lib.rt:79:9
 returns : tie.Need-returns
 returns c = let s = now (c .before .before .before .before .before .args .bytes) in
     let raw = c .before .before .before .read-raw in
     let told = subst (λ (b : Bool). RawOf s b (raw .result .job)) (not-true (raw .result .ok) (c .if1 .taken)) (raw .ensures) in
     (no-job s told, λ q. not-admitted q)
 
--- src/lib.rt:81:9
 verdict-on-requires : tie.Need-verdict-on-requires
 verdict-on-requires c κs = search needs
 
--- src/lib.rt:72:1
 returns-2 : tie.Need-returns-2
 unfolding Decides
 returns-2 c = let s = now (c .before .before .before .before .before .before .args .bytes) in

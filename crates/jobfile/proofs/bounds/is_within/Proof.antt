@@ -1,11 +1,9 @@
-use Rattle.rules.specs.Store.{within}
+-- `jobfile::bounds::is_within` meets its contract: by computation.
 use mathlib.Core.Path.{refl}
+use Rattle.rules.specs.Store.{within}
 use Rattle.jobfile.proofs.bounds.is_within.Statement.{statement}
 use Rattle.jobfile.proofs.bounds.is_within.Tie as tie
-use Rattle.jobfile.proofs.bounds.is_within.Reads as reads
-use Rattle.jobfile.proofs.bounds.is_within.Lts as lts
 
--- src/bounds.rt:14:1
 returns : tie.Need-returns
 unfolding within
 returns c = refl

@@ -1,40 +1,30 @@
-use Rattle.rules.specs.Store.{layoutInBounds}
+-- `jobfile::bounds::layout_in_bounds` meets its contract: the tests of the numbers, joined.
 use borrow.Author.Needs.{needs}
+use Rattle.rules.specs.Store.{layoutInBounds}
 use Rattle.jobfile.proofs.bounds.layout_in_bounds.Statement.{statement}
 use Rattle.jobfile.proofs.bounds.layout_in_bounds.Tie as tie
-use Rattle.jobfile.proofs.bounds.layout_in_bounds.Reads as reads
-use Rattle.jobfile.proofs.bounds.layout_in_bounds.Lts as lts
-use Rattle.jobfile.proofs.bounds.is_within.Reads as is-within-reads
 
--- src/bounds.rt:24:5
 is-within-requires : tie.Need-is-within-requires
 is-within-requires c κs = search needs
 
--- src/bounds.rt:25:11
 is-within-requires-2 : tie.Need-is-within-requires-2
 is-within-requires-2 c κs = search needs
 
--- src/bounds.rt:26:11
 is-within-requires-3 : tie.Need-is-within-requires-3
 is-within-requires-3 c κs = search needs
 
--- src/bounds.rt:27:11
 is-within-requires-4 : tie.Need-is-within-requires-4
 is-within-requires-4 c κs = search needs
 
--- src/bounds.rt:28:11
 is-within-requires-5 : tie.Need-is-within-requires-5
 is-within-requires-5 c κs = search needs
 
--- src/bounds.rt:29:11
 is-within-requires-6 : tie.Need-is-within-requires-6
 is-within-requires-6 c κs = search needs
 
--- src/bounds.rt:30:11
 is-within-requires-7 : tie.Need-is-within-requires-7
 is-within-requires-7 c κs = search needs
 
--- src/bounds.rt:21:1
 returns : tie.Need-returns
 unfolding layoutInBounds
 returns c = rw (layoutInBounds, ← c .before .before .before .before .before .before .is-within .ensures, ← c .before .before .before .before .before .is-within2 .ensures, ← c .before .before .before .before .is-within3 .ensures, ← c .before .before .before .is-within4 .ensures, ← c .before .before .is-within5 .ensures, ← c .before .is-within6 .ensures, ← c .is-within7 .ensures)

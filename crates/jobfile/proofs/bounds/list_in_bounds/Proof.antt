@@ -1,19 +1,16 @@
-use lib.ListN.{length-map}
-use lib.ListN.{take}
-use Rattle.rules.specs.Lists.{allOf}
-use Rattle.jobfile.proofs.Ranges.{Sized, noLine, list-many, list-empty, list-tested}
-use Rattle.jobfile.proofs.Left.{left-all, AllFrom, all-hold, all-fails, all-more}
-use Rattle.rules.specs.Refusals.{lineInBounds}
-use borrow.Author.Tests.{not-true, not-false}
-use borrow.Author.Needs.{needs}
-use native.Mathlib.Omega.{arith}
-use mathlib.Core.Path.{sym, _∙_, ap}
+-- `jobfile::bounds::list_in_bounds` meets its contract: the answer is that of the lines from i on.
 use Prim.Native.Nat.{_-_}
+use mathlib.Core.Path.{sym, _∙_, ap}
+use native.Mathlib.Omega.{arith}
+use lib.ListN.{length-map, take}
+use borrow.Author.Needs.{needs}
+use borrow.Author.Tests.{not-true, not-false}
+use Rattle.rules.specs.Lists.{allOf}
+use Rattle.rules.specs.Refusals.{lineInBounds}
+use Rattle.jobfile.proofs.Left.{left-all, AllFrom, all-hold, all-fails, all-more}
+use Rattle.jobfile.proofs.Ranges.{Sized, noLine, list-many, list-empty, list-tested}
 use Rattle.jobfile.proofs.bounds.list_in_bounds.Statement.{statement}
 use Rattle.jobfile.proofs.bounds.list_in_bounds.Tie as tie
-use Rattle.jobfile.proofs.bounds.list_in_bounds.Reads as reads
-use Rattle.jobfile.proofs.bounds.list_in_bounds.Lts as lts
-use Rattle.jobfile.proofs.bounds.line_in_bounds.Reads as line-in-bounds-reads
 
 abbrev Inv-loop : tie.InvT-loop
 Inv-loop job count i₀ i = AllFrom lineInBounds count (job .lines) (allOf lineInBounds (take count (job .lines))) i
@@ -25,31 +22,24 @@ abbrev μ-loop : tie.MeasureT-loop
 sized : (c : tie.Start Inv-loop μ-loop) → Sized (c .args .t1)
 sized c = record { stock = simp length-map at (c .good .0 .1 .1 .1 .1 .1 .0 .1 .0 .1); lines = simp length-map at (c .good .0 .1 .1 .1 .1 .1 .1 .1 .0 .1 .0 .1) }
 
--- src/bounds.rt:78:9
 returns : tie.Need-returns Inv-loop μ-loop
 returns c = sym (list-many (c .before .args .t1) (sized (c .before)) (c .if1 .taken))
 
--- src/bounds.rt:81:9
 returns-2 : tie.Need-returns-2 Inv-loop μ-loop
 returns-2 c = sym (list-empty (c .before .before .args .t1) (sized (c .before .before)) (c .if2 .taken))
 
--- src/bounds.rt:84:5
 loop-holds : tie.Need-loop-holds Inv-loop μ-loop
 loop-holds c = let job = c .before .before .args .t1 in ap (allOf lineInBounds) (left-all (job .orders) (job .lines))
 
--- src/bounds.rt:85:20
 mul-line : tie.Need-mul-line Inv-loop μ-loop
 mul-line c = omega arith
 
--- src/bounds.rt:85:20
 element-copy-out-line : tie.Need-element-copy-out-line Inv-loop μ-loop
 element-copy-out-line c = omega arith
 
--- src/bounds.rt:86:13
 line-in-bounds-requires : tie.Need-line-in-bounds-requires Inv-loop μ-loop
 line-in-bounds-requires c κs = search needs
 
--- src/bounds.rt:87:13
 returns-3 : tie.Need-returns-3 Inv-loop μ-loop
 returns-3 c = let x = c .before .before .before .before .before .before .before in
     let job = x .args .t1 in
@@ -57,15 +47,12 @@ returns-3 c = let x = c .before .before .before .before .before .before .before 
     let r = c .before .line-in-bounds in
     sym (list-tested job (sized x) (c .before .before .before .before .before .if2 .left) (c .before .before .before .before .before .before .if1 .left) ∙ all-fails lineInBounds (job .orders) (job .lines) (allOf lineInBounds (take (job .orders) (job .lines))) (l .i) noLine (c .before .before .before .loop-test .taken) (omega (arith, sized x .lines)) (l .inv) (sym (r .ensures) ∙ not-true (r .result) (c .if3 .taken)))
 
--- src/bounds.rt:89:9
 add-i : tie.Need-add-i Inv-loop μ-loop
 add-i c = omega arith
 
--- src/bounds.rt:84:5
 loop-less : tie.Need-loop-less Inv-loop μ-loop
 loop-less c = omega arith
 
--- src/bounds.rt:84:5
 loop-again : tie.Need-loop-again Inv-loop μ-loop
 loop-again c = let x = c .before .before .before .before .before .before .before in
     let job = x .args .t1 in
@@ -73,7 +60,6 @@ loop-again c = let x = c .before .before .before .before .before .before .before
     let r = c .before .line-in-bounds in
     all-more lineInBounds (job .orders) (job .lines) (allOf lineInBounds (take (job .orders) (job .lines))) (l .i) noLine (c .before .before .before .loop-test .taken) (omega (arith, sized x .lines)) (l .inv) (sym (r .ensures) ∙ not-false (r .result) (c .if3 .left))
 
--- src/bounds.rt:72:1
 returns-4 : tie.Need-returns-4 Inv-loop μ-loop
 returns-4 c = let x = c .before .before .before .before in
     let job = x .args .t1 in

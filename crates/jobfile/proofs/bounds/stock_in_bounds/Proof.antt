@@ -1,21 +1,17 @@
-use lib.ListN.{length-map}
-use lib.ListN.{take}
-use Rattle.rules.specs.Lists.{allOf}
-use Rattle.jobfile.proofs.Ranges.{Sized, noRecord, stock-many, stock-tested}
-use borrow.Author.Tests.{not-true, not-false}
-use borrow.Author.Needs.{needs}
-use native.Mathlib.Omega.{arith}
-use mathlib.Core.Path.{sym, _∙_}
+-- `jobfile::bounds::stock_in_bounds` meets its contract: the answer is that of the records from i on.
+use Prim.Native.Nat.{_-_}
 use mathlib.Core.Path.{sym, _∙_, ap}
-use Rattle.jobfile.proofs.Left.{left-all, AllFrom, all-hold, all-fails, all-more}
-use Rattle.jobfile.specs.Ready.{storeOnly}
+use native.Mathlib.Omega.{arith}
+use lib.ListN.{length-map, take}
+use borrow.Author.Needs.{needs}
+use borrow.Author.Tests.{not-true, not-false}
+use Rattle.rules.specs.Lists.{allOf}
 use Rattle.rules.specs.Refusals.{recordInBounds}
-use Prim.Native.Nat.{_-_, _≤_}
+use Rattle.jobfile.specs.Ready.{storeOnly}
+use Rattle.jobfile.proofs.Left.{left-all, AllFrom, all-hold, all-fails, all-more}
+use Rattle.jobfile.proofs.Ranges.{Sized, noRecord, stock-many, stock-tested}
 use Rattle.jobfile.proofs.bounds.stock_in_bounds.Statement.{statement}
 use Rattle.jobfile.proofs.bounds.stock_in_bounds.Tie as tie
-use Rattle.jobfile.proofs.bounds.stock_in_bounds.Reads as reads
-use Rattle.jobfile.proofs.bounds.stock_in_bounds.Lts as lts
-use Rattle.jobfile.proofs.bounds.record_in_bounds.Reads as record-in-bounds-reads
 
 abbrev Inv-loop : tie.InvT-loop
 Inv-loop job records z i₀ i = AllFrom (recordInBounds (storeOnly z)) records (job .stock) (allOf (recordInBounds (storeOnly z)) (take records (job .stock))) i
@@ -27,27 +23,21 @@ abbrev μ-loop : tie.MeasureT-loop
 sized : (c : tie.Start Inv-loop μ-loop) → Sized (c .args .t1)
 sized c = record { stock = simp length-map at (c .good .0 .1 .1 .1 .1 .1 .0 .1 .0 .1); lines = simp length-map at (c .good .0 .1 .1 .1 .1 .1 .1 .1 .0 .1 .0 .1) }
 
--- src/bounds.rt:50:9
 returns : tie.Need-returns Inv-loop μ-loop
 returns c = sym (stock-many (c .before .args .t1) (sized (c .before)) (c .if1 .taken))
 
--- src/bounds.rt:54:5
 loop-holds : tie.Need-loop-holds Inv-loop μ-loop
 loop-holds c = let job = c .before .before .args .t1 in ap (allOf (recordInBounds (storeOnly (job .layout)))) (left-all (job .records) (job .stock))
 
--- src/bounds.rt:55:19
 mul-row : tie.Need-mul-row Inv-loop μ-loop
 mul-row c = omega arith
 
--- src/bounds.rt:55:19
 element-copy-out-row : tie.Need-element-copy-out-row Inv-loop μ-loop
 element-copy-out-row c = omega arith
 
--- src/bounds.rt:56:13
 record-in-bounds-requires : tie.Need-record-in-bounds-requires Inv-loop μ-loop
 record-in-bounds-requires c κs = search needs
 
--- src/bounds.rt:57:13
 returns-2 : tie.Need-returns-2 Inv-loop μ-loop
 returns-2 c = let x = c .before .before .before .before .before .before .before in
     let job = x .args .t1 in
@@ -55,15 +45,12 @@ returns-2 c = let x = c .before .before .before .before .before .before .before 
     let r = c .before .record-in-bounds in
     sym (stock-tested job (sized x) (c .before .before .before .before .before .before .if1 .left) ∙ all-fails (recordInBounds (storeOnly (job .layout))) (job .records) (job .stock) (allOf (recordInBounds (storeOnly (job .layout))) (take (job .records) (job .stock))) (l .i) noRecord (c .before .before .before .loop-test .taken) (omega (arith, sized x .stock)) (l .inv) (sym (r .ensures) ∙ not-true (r .result) (c .if2 .taken)))
 
--- src/bounds.rt:59:9
 add-i : tie.Need-add-i Inv-loop μ-loop
 add-i c = omega arith
 
--- src/bounds.rt:54:5
 loop-less : tie.Need-loop-less Inv-loop μ-loop
 loop-less c = omega arith
 
--- src/bounds.rt:54:5
 loop-again : tie.Need-loop-again Inv-loop μ-loop
 loop-again c = let x = c .before .before .before .before .before .before .before in
     let job = x .args .t1 in
@@ -71,7 +58,6 @@ loop-again c = let x = c .before .before .before .before .before .before .before
     let r = c .before .record-in-bounds in
     all-more (recordInBounds (storeOnly (job .layout))) (job .records) (job .stock) (allOf (recordInBounds (storeOnly (job .layout))) (take (job .records) (job .stock))) (l .i) noRecord (c .before .before .before .loop-test .taken) (omega (arith, sized x .stock)) (l .inv) (sym (r .ensures) ∙ not-false (r .result) (c .if2 .left))
 
--- src/bounds.rt:44:1
 returns-3 : tie.Need-returns-3 Inv-loop μ-loop
 returns-3 c = let x = c .before .before .before .before in
     let job = x .args .t1 in

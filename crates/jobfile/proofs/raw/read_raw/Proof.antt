@@ -1,22 +1,16 @@
-use Rattle.jobfile.proofs.Whole.{LinesRead}
-use Rattle.rules.specs.JobFile.{readLayoutSection, readSection, readRecord, readLine, letterS, letterD}
-use borrow.Author.Tests.{not-true, not-false}
-use lib.ListN.{drop}
+-- `jobfile::raw::read_raw` meets its contract: the length, the three sections and the end, each told by its test.
 use mathlib.Core.Option.{some}
 use mathlib.Core.Path.{_≡_, refl}
-use Rattle.jobfile.proofs.Whole.{held-none, held-some, raw-none, too-long, no-layout, no-stock, no-list, trailing, job-read}
-use Rattle.jobfile.proofs.Told.{told}
-use Rattle.jobfile.specs.Places.{layoutOf}
-use denote.Ref.{now}
+use lib.ListN.{drop}
 use borrow.Author.Needs.{needs}
+use borrow.Author.Tests.{not-true, not-false}
+use denote.Ref.{now}
+use Rattle.rules.specs.JobFile.{readLayoutSection, readSection, readRecord, readLine, letterS, letterD}
+use Rattle.jobfile.specs.Places.{layoutOf}
+use Rattle.jobfile.proofs.Told.{told}
+use Rattle.jobfile.proofs.Whole.{LinesRead, held-none, held-some, raw-none, too-long, no-layout, no-stock, no-list, trailing, job-read}
 use Rattle.jobfile.proofs.raw.read_raw.Statement.{statement}
 use Rattle.jobfile.proofs.raw.read_raw.Tie as tie
-use Rattle.jobfile.proofs.raw.read_raw.Reads as reads
-use Rattle.jobfile.proofs.raw.read_raw.Lts as lts
-use Rattle.jobfile.proofs.cursor.Cursor.layout_section.Reads as layout-section-reads
-use Rattle.jobfile.proofs.cursor.Cursor.list_section.Reads as list-section-reads
-use Rattle.jobfile.proofs.cursor.Cursor.stock_section.Reads as stock-section-reads
-use Rattle.jobfile.proofs.raw.not_a_job_file.Reads as not-a-job-file-reads
 
 -- the L section was read
 layout-told : (c : tie.After-known-told) → readLayoutSection (now (c .before .before .before .before .before .before .args .s)) ≡ some ((c .before .layout .given .0 .0, c .before .layout .given .0 .1 .0), drop (c .before .layout .given .0 .1 .1 .0 .at) (now (c .before .before .before .before .before .before .args .s)))
@@ -36,43 +30,33 @@ list-told c =
     let s = now (c .before .before .before .before .before .before .before .before .before .before .before .before .args .s) in
     held-some 8 s (r .result .next) (r .result .count) (r .result .lines) (readSection letterD readLine (drop (c .before .before .before .before .before .stock-section .result .next) s)) (r .result .ok) (r .ensures) (not-false (r .result .ok) (c .if3 .left))
 
--- src/raw.rt:41:9
 not-a-job-file-requires : tie.Need-not-a-job-file-requires
 not-a-job-file-requires c κs = search needs
 
--- src/raw.rt:41:9
 returns : tie.Need-returns
 returns c = let s = now (c .before .before .before .args .s) in raw-none s (c .not-a-job-file .result) (c .not-a-job-file .ensures) (too-long s (c .before .if1 .taken))
 
--- src/raw.rt:44:50
 layout-section-requires : tie.Need-layout-section-requires
 layout-section-requires c κs = search needs
 
--- src/raw.rt:44:26
 enum-known-layout : tie.Need-enum-known-layout
 enum-known-layout c = search needs
 
--- src/raw.rt:45:9
 enum-told : tie.Need-enum-told
 enum-told c = search needs
 
--- src/raw.rt:45:9
 not-a-job-file-requires-2 : tie.Need-not-a-job-file-requires-2
 not-a-job-file-requires-2 c κs = search needs
 
--- src/raw.rt:45:9
 returns-2 : tie.Need-returns-2
 returns-2 c = let s = now (c .before .before .before .before .before .before .args .s) in raw-none s (c .not-a-job-file2 .result) (c .not-a-job-file2 .ensures) (no-layout s (told (layoutOf s) (c .before .before .before .layout-section .ensures) (c .before .enum-told .given .1)))
 
--- src/raw.rt:47:9
 stock-section-requires : tie.Need-stock-section-requires
 stock-section-requires c κs = search needs
 
--- src/raw.rt:49:9
 not-a-job-file-requires-3 : tie.Need-not-a-job-file-requires-3
 not-a-job-file-requires-3 c κs = search needs
 
--- src/raw.rt:49:9
 returns-3 : tie.Need-returns-3
 returns-3 c = let s = now (c .before .before .before .before .before .before .before .before .before .before .args .s) in
     let r = c .before .before .before .stock-section in
@@ -80,15 +64,12 @@ returns-3 c = let s = now (c .before .before .before .before .before .before .be
     raw-none s (c .not-a-job-file3 .result) (c .not-a-job-file3 .ensures)
     (no-stock s (drop (l .1 .1 .0 .at) s) (l .0) (l .1 .0) (layout-told (c .before .before .before .before)) (held-none 384 s (r .result .next) (r .result .count) (r .result .stock) (readSection letterS readRecord (drop (l .1 .1 .0 .at) s)) (r .result .ok) (r .ensures) (not-true (r .result .ok) (c .before .if2 .taken))))
 
--- src/raw.rt:52:9
 list-section-requires : tie.Need-list-section-requires
 list-section-requires c κs = search needs
 
--- src/raw.rt:54:9
 not-a-job-file-requires-4 : tie.Need-not-a-job-file-requires-4
 not-a-job-file-requires-4 c κs = search needs
 
--- src/raw.rt:54:9
 returns-4 : tie.Need-returns-4
 returns-4 c = let s = now (c .before .before .before .before .before .before .before .before .before .before .before .before .before .args .s) in
     let r = c .before .before .before .list-section in
@@ -97,11 +78,9 @@ returns-4 c = let s = now (c .before .before .before .before .before .before .be
     raw-none s (c .not-a-job-file4 .result) (c .not-a-job-file4 .ensures)
     (no-list s (drop (l .1 .1 .0 .at) s) (l .0) (l .1 .0) (layout-told (c .before .before .before .before .before .before .before)) (stock .xs) (drop (c .before .before .before .before .before .before .stock-section .result .next) s) (stock .read) (held-none 8 s (r .result .next) (r .result .count) (r .result .lines) (readSection letterD readLine (drop (c .before .before .before .before .before .before .stock-section .result .next) s)) (r .result .ok) (r .ensures) (not-true (r .result .ok) (c .before .if3 .taken))))
 
--- src/raw.rt:57:9
 not-a-job-file-requires-5 : tie.Need-not-a-job-file-requires-5
 not-a-job-file-requires-5 c κs = search needs
 
--- src/raw.rt:57:9
 returns-5 : tie.Need-returns-5
 returns-5 c = let s = now (c .before .before .before .before .before .before .before .before .before .before .before .before .before .before .before .args .s) in
     let l = c .before .before .before .before .before .before .before .before .before .before .layout .given .0 in
@@ -110,7 +89,6 @@ returns-5 c = let s = now (c .before .before .before .before .before .before .be
     raw-none s (c .not-a-job-file5 .result) (c .not-a-job-file5 .ensures)
     (trailing s (drop (l .1 .1 .0 .at) s) (l .0) (l .1 .0) (layout-told (c .before .before .before .before .before .before .before .before .before)) (stock .xs) (drop (c .before .before .before .before .before .before .before .before .stock-section .result .next) s) (stock .read) (list .xs) (c .before .before .before .before .before .list-section .result .next) (list .read) (c .before .if4 .taken))
 
--- src/raw.rt:37:1
 returns-6 : tie.Need-returns-6
 returns-6 c = let x = c .before .before .before .before .before .before .before .before .before .before .before .before .before .before .before .before in
     let s = now (x .args .s) in

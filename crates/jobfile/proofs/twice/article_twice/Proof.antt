@@ -1,19 +1,15 @@
-use lib.ListN.{length, length-map}
-use mathlib.Core.Path.{_≡_}
+-- `jobfile::twice::article_twice` meets its contract: the answer is that of the lines from i on.
+use Prim.Native.Nat.{_-_}
+use mathlib.Core.Path.{_≡_, sym, _∙_, ap}
+use native.Mathlib.Omega.{arith}
+use lib.ListN.{length, length-map, take}
+use Rattle.rules.specs.Lists.{anyTwo}
+use Rattle.rules.specs.Refusals.{sameArticle}
 use Rattle.values.specs.Values.{jobOf}
 use Rattle.jobfile.proofs.Left.{left-all, TwoFrom, two-none, two-found, two-more}
 use Rattle.jobfile.proofs.Ranges.{noLine}
-use Rattle.rules.specs.Refusals.{sameArticle}
-use Rattle.rules.specs.Lists.{anyTwo}
-use lib.ListN.{take}
-use native.Mathlib.Omega.{arith}
-use mathlib.Core.Path.{sym, _∙_, ap}
-use Prim.Native.Nat.{_-_}
 use Rattle.jobfile.proofs.twice.article_twice.Statement.{statement}
 use Rattle.jobfile.proofs.twice.article_twice.Tie as tie
-use Rattle.jobfile.proofs.twice.article_twice.Reads as reads
-use Rattle.jobfile.proofs.twice.article_twice.Lts as lts
-use Rattle.jobfile.proofs.twice.article_from.Reads as article-from-reads
 
 abbrev Inv-loop : tie.InvT-loop
 Inv-loop count lines i₀ i = TwoFrom sameArticle count lines (anyTwo sameArticle (take count lines)) i
@@ -25,27 +21,21 @@ abbrev μ-loop : tie.MeasureT-loop
 size : (c : tie.Start Inv-loop μ-loop) → length (c .args .job .lines) ≡ 8
 size c = simp length-map at (c .good .0 .1 .1 .1 .1 .1 .1 .1 .0 .1 .0 .1)
 
--- src/twice.rt:58:5
 loop-holds : tie.Need-loop-holds Inv-loop μ-loop
 loop-holds c = let job = c .before .args .job in ap (anyTwo sameArticle) (left-all (job .orders) (job .lines))
 
--- src/twice.rt:59:20
 mul-line : tie.Need-mul-line Inv-loop μ-loop
 mul-line c = omega (arith, c .before .before .before .pre .count)
 
--- src/twice.rt:59:20
 array-copy-out-line : tie.Need-array-copy-out-line Inv-loop μ-loop
 array-copy-out-line c = omega (arith, c .before .before .before .pre .count)
 
--- src/twice.rt:60:39
 add-article-from : tie.Need-add-article-from Inv-loop μ-loop
 add-article-from c = omega (arith, c .before .before .before .before .pre .count)
 
--- src/twice.rt:60:12
 article-from-requires : tie.Need-article-from-requires Inv-loop μ-loop
 article-from-requires c κs = c .before .before .before .before .pre .count
 
--- src/twice.rt:61:13
 returns : tie.Need-returns Inv-loop μ-loop
 unfolding jobOf
 returns c = let x = c .before .before .before .before .before .before in
@@ -54,15 +44,12 @@ returns c = let x = c .before .before .before .before .before .before in
     let r = c .before .article-from in
     sym (two-found sameArticle (job .orders) (job .lines) (anyTwo sameArticle (take (job .orders) (job .lines))) (l .i) noLine (c .before .before .before .loop-test .taken) (omega (arith, size x, x .pre .count)) (l .inv) (sym (r .ensures) ∙ c .if1 .taken))
 
--- src/twice.rt:63:9
 add-i : tie.Need-add-i Inv-loop μ-loop
 add-i c = omega (arith, c .before .before .before .before .before .before .pre .count)
 
--- src/twice.rt:58:5
 loop-less : tie.Need-loop-less Inv-loop μ-loop
 loop-less c = omega arith
 
--- src/twice.rt:58:5
 loop-again : tie.Need-loop-again Inv-loop μ-loop
 loop-again c = let x = c .before .before .before .before .before .before in
     let l = c .before .before .before .before .loop in
@@ -70,7 +57,6 @@ loop-again c = let x = c .before .before .before .before .before .before in
     let r = c .before .article-from in
     two-more sameArticle (job .orders) (job .lines) (anyTwo sameArticle (take (job .orders) (job .lines))) (l .i) noLine (c .before .before .before .loop-test .taken) (omega (arith, size x, x .pre .count)) (l .inv) (sym (r .ensures) ∙ c .if1 .left)
 
--- src/twice.rt:51:1
 returns-2 : tie.Need-returns-2 Inv-loop μ-loop
 unfolding jobOf
 returns-2 c = let x = c .before .before .before in

@@ -1,16 +1,13 @@
-use lib.ListN.{length, length-map}
-use mathlib.Core.Path.{_≡_}
-use Rattle.values.specs.Values.{jobOf}
-use Rattle.jobfile.proofs.Cells.{CellsTo, InMarks, noMarks, cells-start, cells-once, here-in-marks, cell-again, cell-new}
-use Rattle.jobfile.proofs.Ranges.{noRecord, all-records}
-use lib.ListN.{getD}
-use native.Mathlib.Omega.{arith}
-use mathlib.Core.Path.{sym, _∙_}
+-- `jobfile::twice::cell_twice` meets its contract: the cells of the records before i are marked.
 use Prim.Native.Nat.{_-_}
+use mathlib.Core.Path.{_≡_, sym}
+use native.Mathlib.Omega.{arith}
+use lib.ListN.{length, length-map, getD}
+use Rattle.values.specs.Values.{jobOf}
+use Rattle.jobfile.proofs.Cells.{CellsTo, InMarks, cells-start, cells-once, here-in-marks, cell-again, cell-new}
+use Rattle.jobfile.proofs.Ranges.{noRecord, all-records}
 use Rattle.jobfile.proofs.twice.cell_twice.Statement.{statement}
 use Rattle.jobfile.proofs.twice.cell_twice.Tie as tie
-use Rattle.jobfile.proofs.twice.cell_twice.Reads as reads
-use Rattle.jobfile.proofs.twice.cell_twice.Lts as lts
 
 abbrev Inv-loop : tie.InvT-loop
 Inv-loop job records seen₀ i₀ seen i = CellsTo job seen i
@@ -32,76 +29,59 @@ in-marks c =
 loop-holds : tie.Need-loop-holds Inv-loop μ-loop
 loop-holds c = let job = c .args .t1 in cells-start job (c .pre .layout) (all-records job (c .pre .stock))
 
--- src/twice.rt:18:19
 mul-row : tie.Need-mul-row Inv-loop μ-loop
 mul-row c = omega (arith, c .before .before .pre .count)
 
--- src/twice.rt:18:19
 element-copy-out-row : tie.Need-element-copy-out-row Inv-loop μ-loop
 element-copy-out-row c = omega (arith, c .before .before .pre .count)
 
--- src/twice.rt:19:21
 sub-aisle : tie.Need-sub-aisle Inv-loop μ-loop
 sub-aisle c = in-marks (c .before .before) .aisle .0
 
--- src/twice.rt:20:20
 sub-cell : tie.Need-sub-cell Inv-loop μ-loop
 sub-cell c = in-marks (c .before .before .before) .cell .0
 
--- src/twice.rt:21:21
 mul-cells : tie.Need-mul-cells Inv-loop μ-loop
 mul-cells c = omega (arith, in-marks (c .before .before .before) .aisle .1)
 
--- src/twice.rt:21:21
 array-read-cells : tie.Need-array-read-cells Inv-loop μ-loop
 array-read-cells c = omega (arith, in-marks (c .before .before .before) .aisle .1)
 
--- src/twice.rt:22:22
 cast-if1 : tie.Need-cast-if1 Inv-loop μ-loop
 cast-if1 c = omega (arith, in-marks (c .before .before .before) .cell .1)
 
--- src/twice.rt:22:13
 shr-if1 : tie.Need-shr-if1 Inv-loop μ-loop
 shr-if1 c = omega (arith, in-marks (c .before .before .before) .cell .1)
 
--- src/twice.rt:23:13
 returns : tie.Need-returns Inv-loop μ-loop
 unfolding jobOf
 returns c = let x = c .before .before .before .before .before .before in
     let l = c .before .before .before .before .before .loop in
     sym (cell-again (x .args .t1) (x .pre .layout) (l .seen) (l .i) (l .inv) (c .before .before .before .before .loop-test .taken) (omega (arith, size x, x .pre .count)) (c .if1 .taken))
 
--- src/twice.rt:25:37
 cast-seen : tie.Need-cast-seen Inv-loop μ-loop
 cast-seen c = omega (arith, in-marks (c .before .before .before .before) .cell .1)
 
--- src/twice.rt:25:32
 shl-seen : tie.Need-shl-seen Inv-loop μ-loop
 shl-seen c = omega (arith, in-marks (c .before .before .before .before) .cell .1)
 
--- src/twice.rt:25:9
 mul-seen : tie.Need-mul-seen Inv-loop μ-loop
 mul-seen c = omega (arith, in-marks (c .before .before .before .before) .aisle .1)
 
--- src/twice.rt:25:9
 array-write-seen : tie.Need-array-write-seen Inv-loop μ-loop
 array-write-seen c = omega (arith, in-marks (c .before .before .before .before) .aisle .1)
 
--- src/twice.rt:26:9
 add-i : tie.Need-add-i Inv-loop μ-loop
 add-i c = omega (arith, c .before .before .before .before .before .before .pre .count)
 
--- src/twice.rt:17:5
 loop-less : tie.Need-loop-less Inv-loop μ-loop
 loop-less c = omega arith
 
--- src/twice.rt:17:5
 loop-again : tie.Need-loop-again Inv-loop μ-loop
 loop-again c = let x = c .before .before .before .before .before .before in
     let l = c .before .before .before .before .before .loop in
     cell-new (x .args .t1) (x .pre .layout) (l .seen) (l .i) (l .inv) (c .before .before .before .before .loop-test .taken) (omega (arith, size x, x .pre .count)) (c .if1 .left)
 
--- src/twice.rt:10:1
 returns-2 : tie.Need-returns-2 Inv-loop μ-loop
 unfolding jobOf
 returns-2 c = let x = c .before .before in

@@ -1,23 +1,19 @@
-use Rattle.jobfile.proofs.Told.{told}
-use Rattle.jobfile.specs.declared.cursor.Step.{Step}
-use Rattle.jobfile.proofs.Bytes.{field-empty, field-long, field-large, field-zero, field-number, within-bytes}
-use Rattle.jobfile.specs.declared.cursor.Digits.{Digits}
-use Rattle.jobfile.specs.Places.{stepOf, digitsAt}
-use Rattle.rules.specs.JobFile.{_>>=_, leadingDigits, valueOf, readByte, readField}
-use denote.Ref.{now}
-use lib.ListN.{length, getD, drop}
-use native.Mathlib.Omega.{arith}
-use Prim.Native.Nat.{ℕ, _+_, _≤_, _<_, min}
-use mathlib.Core.Option.{some}
+-- `jobfile::cursor::Cursor::field` meets its contract: each test that fails says that the digits are no number; else the separator decides.
+use Prim.Native.Nat.{_+_, _<_, min}
 use mathlib.Core.Logic.{⊎-elim}
-use mathlib.Core.Path.{_≡_, refl, sym, _∙_, ap}
+use mathlib.Core.Option.{some}
+use mathlib.Core.Path.{_≡_, sym, ap}
+use native.Mathlib.Omega.{arith}
+use lib.ListN.{length, getD, drop}
 use borrow.Author.Needs.{needs}
+use denote.Ref.{now}
+use Rattle.rules.specs.JobFile.{_>>=_, leadingDigits, valueOf, readByte, readField}
+use Rattle.jobfile.specs.Places.{stepOf, digitsAt}
+use Rattle.jobfile.specs.declared.cursor.Digits.{Digits}
+use Rattle.jobfile.proofs.Bytes.{field-empty, field-long, field-large, field-zero, field-number, within-bytes}
+use Rattle.jobfile.proofs.Told.{told}
 use Rattle.jobfile.proofs.cursor.Cursor.field.Statement.{statement}
 use Rattle.jobfile.proofs.cursor.Cursor.field.Tie as tie
-use Rattle.jobfile.proofs.cursor.Cursor.field.Reads as reads
-use Rattle.jobfile.proofs.cursor.Cursor.field.Lts as lts
-use Rattle.jobfile.proofs.cursor.Cursor.byte.Reads as byte-reads
-use Rattle.jobfile.proofs.cursor.digits_from.Reads as digits-from-reads
 
 -- what the digits' run tells
 value-told : (c : tie.After-digits-from) → c .digits-from .result .value ≡ min 65536 (valueOf 0 (leadingDigits (drop (c .before .before .args .self .at) (now (c .before .before .args .s)))))
@@ -39,57 +35,44 @@ number c = let x = c .before .before .before .before .before .before .args in
     let z : 1 < length ds → getD s (x .self .at) 0 ≡ 48 → ⊥ = ⊎-elim (λ w h. w .2 .left) (λ w h q. omega arith) (c .if4 .came) in
     rw (e, v) (field-number s (x .self .at) (x .sep) (omega arith) (omega arith) (omega arith) z)
 
--- src/cursor.rt:73:13
 digits-from-requires : tie.Need-digits-from-requires
 digits-from-requires c κs = search needs
 
--- src/cursor.rt:77:13
 returns : tie.Need-returns
 returns c = let x = c .before .before .before .args in sym (field-empty (now (x .s)) (x .self .at) (x .sep) (omega (arith, end-told (c .before))))
 
--- src/cursor.rt:79:16
 sub-if2 : tie.Need-sub-if2
 sub-if2 c = omega (arith, end-told (c .before))
 
--- src/cursor.rt:80:13
 returns-2 : tie.Need-returns-2
 returns-2 c = let x = c .before .before .before .before .args in sym (field-long (now (x .s)) (x .self .at) (x .sep) (omega (arith, end-told (c .before .before))))
 
--- src/cursor.rt:83:13
 returns-3 : tie.Need-returns-3
 returns-3 c = let x = c .before .before .before .before .before .args in sym (field-large (now (x .s)) (x .self .at) (x .sep) (omega (arith, value-told (c .before .before .before))))
 
--- src/cursor.rt:85:16
 sub-if4 : tie.Need-sub-if4
 sub-if4 c = omega (arith, end-told (c .before .before .before))
 
--- src/cursor.rt:86:16
 shared-slice-read-if5 : tie.Need-shared-slice-read-if5
 shared-slice-read-if5 c = let x = c .before .before .before .before .before .before .before .args in within-bytes (now (x .s)) (x .self .at) (x .sep) (omega (arith, end-told (c .before .before .before .before .before)))
 
--- src/cursor.rt:87:17
 returns-4 : tie.Need-returns-4
 returns-4 c = let x = c .before .before .before .before .before .before .before .before .args in sym (field-zero (now (x .s)) (x .self .at) (x .sep) (omega (arith, end-told (c .before .before .before .before .before .before))) (c .if5 .taken))
 
--- src/cursor.rt:91:15
 byte-requires : tie.Need-byte-requires
 byte-requires c κs = search needs
 
--- src/cursor.rt:92:24
 enum-known-next : tie.Need-enum-known-next
 enum-known-next c = search needs
 
--- src/cursor.rt:93:26
 enum-told : tie.Need-enum-told
 enum-told c = search needs
 
--- src/cursor.rt:69:5
 returns-5 : tie.Need-returns-5
 returns-5 c = let x = c .before .before .before .before .before .before .before .before .before .before .args in
     let e = c .before .before .before .byte .ensures in
     rw (number (c .before .before .before .before), told (stepOf (x .sep) (now (x .s))) e (c .before .next .given .1))
 
--- src/cursor.rt:69:5
 returns-6 : tie.Need-returns-6
 returns-6 c = let x = c .before .before .before .before .before .before .before .before .before .args in
     let e = c .before .before .byte .ensures in

@@ -1,152 +1,116 @@
-use Rattle.jobfile.specs.Places.{fieldOf, policyOf}
-use Rattle.rules.specs.JobFile.{readLayout}
-use Rattle.jobfile.proofs.Told.{told}
-use denote.Ref.{now}
+-- `jobfile::cursor::Cursor::layout` meets its contract: the fields are read one behind the other.
 use borrow.Author.Needs.{needs}
+use denote.Ref.{now}
+use Rattle.rules.specs.JobFile.{readLayout}
+use Rattle.jobfile.specs.Places.{fieldOf, policyOf}
+use Rattle.jobfile.proofs.Told.{told}
 use Rattle.jobfile.proofs.cursor.Cursor.layout.Statement.{statement}
 use Rattle.jobfile.proofs.cursor.Cursor.layout.Tie as tie
-use Rattle.jobfile.proofs.cursor.Cursor.layout.Reads as reads
-use Rattle.jobfile.proofs.cursor.Cursor.layout.Lts as lts
-use Rattle.jobfile.proofs.cursor.Cursor.field.Reads as field-reads
-use Rattle.jobfile.proofs.cursor.Cursor.policy.Reads as policy-reads
 
--- src/lines.rt:65:41
 field-requires : tie.Need-field-requires
 field-requires c κs = search needs
 
--- src/lines.rt:65:27
 enum-known-aisles : tie.Need-enum-known-aisles
 enum-known-aisles c = search needs
 
--- src/lines.rt:66:13
 enum-told : tie.Need-enum-told
 enum-told c = search needs
 
--- src/lines.rt:66:13
 returns : tie.Need-returns
 unfolding readLayout
 returns c = let x = c .before .before .before .before .args in let s = now (x .s) in rw (readLayout, told (fieldOf s) (c .before .before .field .ensures) (c .enum-told .given .1))
 
--- src/lines.rt:68:40
 field-requires-2 : tie.Need-field-requires-2
 field-requires-2 c κs = search needs
 
--- src/lines.rt:68:27
 enum-known-cells : tie.Need-enum-known-cells
 enum-known-cells c = search needs
 
--- src/lines.rt:69:13
 enum-told-2 : tie.Need-enum-told-2
 enum-told-2 c = search needs
 
--- src/lines.rt:69:13
 returns-2 : tie.Need-returns-2
 unfolding readLayout
 returns-2 c = let x = c .before .before .before .before .before .before .before .before .args in let s = now (x .s) in rw (readLayout, told (fieldOf s) (c .before .before .before .before .before .before .field .ensures) (c .before .before .before .before .aisles .given .1), told (fieldOf s) (c .before .before .field2 .ensures) (c .enum-told2 .given .1))
 
--- src/lines.rt:71:40
 field-requires-3 : tie.Need-field-requires-3
 field-requires-3 c κs = search needs
 
--- src/lines.rt:71:27
 enum-known-front : tie.Need-enum-known-front
 enum-known-front c = search needs
 
--- src/lines.rt:72:13
 enum-told-3 : tie.Need-enum-told-3
 enum-told-3 c = search needs
 
--- src/lines.rt:72:13
 returns-3 : tie.Need-returns-3
 unfolding readLayout
 returns-3 c = let x = c .before .before .before .before .before .before .before .before .before .before .before .before .args in let s = now (x .s) in rw (readLayout, told (fieldOf s) (c .before .before .before .before .before .before .before .before .before .before .field .ensures) (c .before .before .before .before .before .before .before .before .aisles .given .1), told (fieldOf s) (c .before .before .before .before .before .before .field2 .ensures) (c .before .before .before .before .cells .given .1), told (fieldOf s) (c .before .before .field3 .ensures) (c .enum-told3 .given .1))
 
--- src/lines.rt:74:40
 field-requires-4 : tie.Need-field-requires-4
 field-requires-4 c κs = search needs
 
--- src/lines.rt:74:27
 enum-known-pitch : tie.Need-enum-known-pitch
 enum-known-pitch c = search needs
 
--- src/lines.rt:75:13
 enum-told-4 : tie.Need-enum-told-4
 enum-told-4 c = search needs
 
--- src/lines.rt:75:13
 returns-4 : tie.Need-returns-4
 unfolding readLayout
 returns-4 c = let x = c .before .before .before .before .before .before .before .before .before .before .before .before .before .before .before .before .args in let s = now (x .s) in rw (readLayout, told (fieldOf s) (c .before .before .before .before .before .before .before .before .before .before .before .before .before .before .field .ensures) (c .before .before .before .before .before .before .before .before .before .before .before .before .aisles .given .1), told (fieldOf s) (c .before .before .before .before .before .before .before .before .before .before .field2 .ensures) (c .before .before .before .before .before .before .before .before .cells .given .1), told (fieldOf s) (c .before .before .before .before .before .before .field3 .ensures) (c .before .before .before .before .front .given .1), told (fieldOf s) (c .before .before .field4 .ensures) (c .enum-told4 .given .1))
 
--- src/lines.rt:77:39
 field-requires-5 : tie.Need-field-requires-5
 field-requires-5 c κs = search needs
 
--- src/lines.rt:77:27
 enum-known-back : tie.Need-enum-known-back
 enum-known-back c = search needs
 
--- src/lines.rt:78:13
 enum-told-5 : tie.Need-enum-told-5
 enum-told-5 c = search needs
 
--- src/lines.rt:78:13
 returns-5 : tie.Need-returns-5
 unfolding readLayout
 returns-5 c = let x = c .before .before .before .before .before .before .before .before .before .before .before .before .before .before .before .before .before .before .before .before .args in let s = now (x .s) in rw (readLayout, told (fieldOf s) (c .before .before .before .before .before .before .before .before .before .before .before .before .before .before .before .before .before .before .field .ensures) (c .before .before .before .before .before .before .before .before .before .before .before .before .before .before .before .before .aisles .given .1), told (fieldOf s) (c .before .before .before .before .before .before .before .before .before .before .before .before .before .before .field2 .ensures) (c .before .before .before .before .before .before .before .before .before .before .before .before .cells .given .1), told (fieldOf s) (c .before .before .before .before .before .before .before .before .before .before .field3 .ensures) (c .before .before .before .before .before .before .before .before .front .given .1), told (fieldOf s) (c .before .before .before .before .before .before .field4 .ensures) (c .before .before .before .before .pitch .given .1), told (fieldOf s) (c .before .before .field5 .ensures) (c .enum-told5 .given .1))
 
--- src/lines.rt:80:40
 field-requires-6 : tie.Need-field-requires-6
 field-requires-6 c κs = search needs
 
--- src/lines.rt:80:27
 enum-known-width : tie.Need-enum-known-width
 enum-known-width c = search needs
 
--- src/lines.rt:81:13
 enum-told-6 : tie.Need-enum-told-6
 enum-told-6 c = search needs
 
--- src/lines.rt:81:13
 returns-6 : tie.Need-returns-6
 unfolding readLayout
 returns-6 c = let x = c .before .before .before .before .before .before .before .before .before .before .before .before .before .before .before .before .before .before .before .before .before .before .before .before .args in let s = now (x .s) in rw (readLayout, told (fieldOf s) (c .before .before .before .before .before .before .before .before .before .before .before .before .before .before .before .before .before .before .before .before .before .before .field .ensures) (c .before .before .before .before .before .before .before .before .before .before .before .before .before .before .before .before .before .before .before .before .aisles .given .1), told (fieldOf s) (c .before .before .before .before .before .before .before .before .before .before .before .before .before .before .before .before .before .before .field2 .ensures) (c .before .before .before .before .before .before .before .before .before .before .before .before .before .before .before .before .cells .given .1), told (fieldOf s) (c .before .before .before .before .before .before .before .before .before .before .before .before .before .before .field3 .ensures) (c .before .before .before .before .before .before .before .before .before .before .before .before .front .given .1), told (fieldOf s) (c .before .before .before .before .before .before .before .before .before .before .field4 .ensures) (c .before .before .before .before .before .before .before .before .pitch .given .1), told (fieldOf s) (c .before .before .before .before .before .before .field5 .ensures) (c .before .before .before .before .back .given .1), told (fieldOf s) (c .before .before .field6 .ensures) (c .enum-told6 .given .1))
 
--- src/lines.rt:83:40
 field-requires-7 : tie.Need-field-requires-7
 field-requires-7 c κs = search needs
 
--- src/lines.rt:83:27
 enum-known-depot : tie.Need-enum-known-depot
 enum-known-depot c = search needs
 
--- src/lines.rt:84:13
 enum-told-7 : tie.Need-enum-told-7
 enum-told-7 c = search needs
 
--- src/lines.rt:84:13
 returns-7 : tie.Need-returns-7
 unfolding readLayout
 returns-7 c = let x = c .before .before .before .before .before .before .before .before .before .before .before .before .before .before .before .before .before .before .before .before .before .before .before .before .before .before .before .before .args in let s = now (x .s) in rw (readLayout, told (fieldOf s) (c .before .before .before .before .before .before .before .before .before .before .before .before .before .before .before .before .before .before .before .before .before .before .before .before .before .before .field .ensures) (c .before .before .before .before .before .before .before .before .before .before .before .before .before .before .before .before .before .before .before .before .before .before .before .before .aisles .given .1), told (fieldOf s) (c .before .before .before .before .before .before .before .before .before .before .before .before .before .before .before .before .before .before .before .before .before .before .field2 .ensures) (c .before .before .before .before .before .before .before .before .before .before .before .before .before .before .before .before .before .before .before .before .cells .given .1), told (fieldOf s) (c .before .before .before .before .before .before .before .before .before .before .before .before .before .before .before .before .before .before .field3 .ensures) (c .before .before .before .before .before .before .before .before .before .before .before .before .before .before .before .before .front .given .1), told (fieldOf s) (c .before .before .before .before .before .before .before .before .before .before .before .before .before .before .field4 .ensures) (c .before .before .before .before .before .before .before .before .before .before .before .before .pitch .given .1), told (fieldOf s) (c .before .before .before .before .before .before .before .before .before .before .field5 .ensures) (c .before .before .before .before .before .before .before .before .back .given .1), told (fieldOf s) (c .before .before .before .before .before .before .field6 .ensures) (c .before .before .before .before .width .given .1), told (fieldOf s) (c .before .before .field7 .ensures) (c .enum-told7 .given .1))
 
--- src/lines.rt:86:45
 policy-requires : tie.Need-policy-requires
 policy-requires c κs = search needs
 
--- src/lines.rt:86:31
 enum-known-word : tie.Need-enum-known-word
 enum-known-word c = search needs
 
--- src/lines.rt:87:13
 enum-told-8 : tie.Need-enum-told-8
 enum-told-8 c = search needs
 
--- src/lines.rt:87:13
 returns-8 : tie.Need-returns-8
 unfolding readLayout
 returns-8 c = let x = c .before .before .before .before .before .before .before .before .before .before .before .before .before .before .before .before .before .before .before .before .before .before .before .before .before .before .before .before .before .before .before .before .args in let s = now (x .s) in rw (readLayout, told (fieldOf s) (c .before .before .before .before .before .before .before .before .before .before .before .before .before .before .before .before .before .before .before .before .before .before .before .before .before .before .before .before .before .before .field .ensures) (c .before .before .before .before .before .before .before .before .before .before .before .before .before .before .before .before .before .before .before .before .before .before .before .before .before .before .before .before .aisles .given .1), told (fieldOf s) (c .before .before .before .before .before .before .before .before .before .before .before .before .before .before .before .before .before .before .before .before .before .before .before .before .before .before .field2 .ensures) (c .before .before .before .before .before .before .before .before .before .before .before .before .before .before .before .before .before .before .before .before .before .before .before .before .cells .given .1), told (fieldOf s) (c .before .before .before .before .before .before .before .before .before .before .before .before .before .before .before .before .before .before .before .before .before .before .field3 .ensures) (c .before .before .before .before .before .before .before .before .before .before .before .before .before .before .before .before .before .before .before .before .front .given .1), told (fieldOf s) (c .before .before .before .before .before .before .before .before .before .before .before .before .before .before .before .before .before .before .field4 .ensures) (c .before .before .before .before .before .before .before .before .before .before .before .before .before .before .before .before .pitch .given .1), told (fieldOf s) (c .before .before .before .before .before .before .before .before .before .before .before .before .before .before .field5 .ensures) (c .before .before .before .before .before .before .before .before .before .before .before .before .back .given .1), told (fieldOf s) (c .before .before .before .before .before .before .before .before .before .before .field6 .ensures) (c .before .before .before .before .before .before .before .before .width .given .1), told (fieldOf s) (c .before .before .before .before .before .before .field7 .ensures) (c .before .before .before .before .depot .given .1), told (policyOf s) (c .before .before .policy .ensures) (c .enum-told8 .given .1))
 
--- src/lines.rt:62:5
 returns-9 : tie.Need-returns-9
 unfolding readLayout
 returns-9 c = let x = c .before .before .before .before .before .before .before .before .before .before .before .before .before .before .before .before .before .before .before .before .before .before .before .before .before .before .before .before .before .before .before .before .before .args in let s = now (x .s) in rw (readLayout, told (fieldOf s) (c .before .before .before .before .before .before .before .before .before .before .before .before .before .before .before .before .before .before .before .before .before .before .before .before .before .before .before .before .before .before .before .field .ensures) (c .before .before .before .before .before .before .before .before .before .before .before .before .before .before .before .before .before .before .before .before .before .before .before .before .before .before .before .before .before .aisles .given .1), told (fieldOf s) (c .before .before .before .before .before .before .before .before .before .before .before .before .before .before .before .before .before .before .before .before .before .before .before .before .before .before .before .field2 .ensures) (c .before .before .before .before .before .before .before .before .before .before .before .before .before .before .before .before .before .before .before .before .before .before .before .before .before .cells .given .1), told (fieldOf s) (c .before .before .before .before .before .before .before .before .before .before .before .before .before .before .before .before .before .before .before .before .before .before .before .field3 .ensures) (c .before .before .before .before .before .before .before .before .before .before .before .before .before .before .before .before .before .before .before .before .before .front .given .1), told (fieldOf s) (c .before .before .before .before .before .before .before .before .before .before .before .before .before .before .before .before .before .before .before .field4 .ensures) (c .before .before .before .before .before .before .before .before .before .before .before .before .before .before .before .before .before .pitch .given .1), told (fieldOf s) (c .before .before .before .before .before .before .before .before .before .before .before .before .before .before .before .field5 .ensures) (c .before .before .before .before .before .before .before .before .before .before .before .before .before .back .given .1), told (fieldOf s) (c .before .before .before .before .before .before .before .before .before .before .before .field6 .ensures) (c .before .before .before .before .before .before .before .before .before .width .given .1), told (fieldOf s) (c .before .before .before .before .before .before .before .field7 .ensures) (c .before .before .before .before .before .depot .given .1), told (policyOf s) (c .before .before .before .policy .ensures) (c .before .word .given .1))

@@ -1,42 +1,31 @@
-use Rattle.jobfile.proofs.Told.{told}
-use Rattle.jobfile.specs.Places.{fieldOf}
-use Rattle.rules.specs.JobFile.{readSection}
-use denote.Ref.{now}
+-- `jobfile::cursor::Cursor::list_section` meets its contract: the count, then its lines.
 use borrow.Author.Needs.{needs}
+use denote.Ref.{now}
+use Rattle.rules.specs.JobFile.{readSection}
+use Rattle.jobfile.specs.Places.{fieldOf}
+use Rattle.jobfile.proofs.Told.{told}
 use Rattle.jobfile.proofs.cursor.Cursor.list_section.Statement.{statement}
 use Rattle.jobfile.proofs.cursor.Cursor.list_section.Tie as tie
-use Rattle.jobfile.proofs.cursor.Cursor.list_section.Reads as reads
-use Rattle.jobfile.proofs.cursor.Cursor.list_section.Lts as lts
-use Rattle.jobfile.proofs.cursor.Cursor.header.Reads as header-reads
-use Rattle.jobfile.proofs.cursor.Cursor.order_lines.Reads as order-lines-reads
-use Rattle.jobfile.proofs.sections.no_line.Reads as no-line-reads
 
--- src/sections.rt:65:43
 header-requires : tie.Need-header-requires
 header-requires c κs = search needs
 
--- src/sections.rt:65:27
 enum-known-count : tie.Need-enum-known-count
 enum-known-count c = search needs
 
--- src/sections.rt:66:26
 enum-told : tie.Need-enum-told
 enum-told c = search needs
 
--- src/sections.rt:66:26
 no-line-requires : tie.Need-no-line-requires
 no-line-requires c κs = search needs
 
--- src/sections.rt:67:13
 returns : tie.Need-returns
 unfolding readSection
 returns c = let s = now (c .before .before .before .before .before .args .s) in rw (readSection, told (fieldOf s) (c .before .before .before .header .ensures) (c .before .enum-told .given .1))
 
--- src/sections.rt:69:9
 order-lines-requires : tie.Need-order-lines-requires
 order-lines-requires c κs = search needs
 
--- src/sections.rt:62:5
 returns-2 : tie.Need-returns-2
 unfolding readSection
 returns-2 c = let s = now (c .before .before .before .before .before .before .args .s) in rw (readSection, told (fieldOf s) (c .before .before .before .before .header .ensures) (c .before .before .count .given .1)) (c .order-lines .ensures)

@@ -1,49 +1,38 @@
-use Rattle.jobfile.specs.Places.{fieldOf}
-use Rattle.rules.specs.JobFile.{readLine}
-use Rattle.jobfile.proofs.Told.{told}
-use denote.Ref.{now}
+-- `jobfile::cursor::Cursor::order_line` meets its contract: the fields are read one behind the other.
 use borrow.Author.Needs.{needs}
+use denote.Ref.{now}
+use Rattle.rules.specs.JobFile.{readLine}
+use Rattle.jobfile.specs.Places.{fieldOf}
+use Rattle.jobfile.proofs.Told.{told}
 use Rattle.jobfile.proofs.cursor.Cursor.order_line.Statement.{statement}
 use Rattle.jobfile.proofs.cursor.Cursor.order_line.Tie as tie
-use Rattle.jobfile.proofs.cursor.Cursor.order_line.Reads as reads
-use Rattle.jobfile.proofs.cursor.Cursor.order_line.Lts as lts
-use Rattle.jobfile.proofs.cursor.Cursor.field.Reads as field-reads
 
--- src/lines.rt:117:42
 field-requires : tie.Need-field-requires
 field-requires c κs = search needs
 
--- src/lines.rt:117:27
 enum-known-article : tie.Need-enum-known-article
 enum-known-article c = search needs
 
--- src/lines.rt:118:13
 enum-told : tie.Need-enum-told
 enum-told c = search needs
 
--- src/lines.rt:118:13
 returns : tie.Need-returns
 unfolding readLine
 returns c = let x = c .before .before .before .before .args in let s = now (x .s) in rw (readLine, told (fieldOf s) (c .before .before .field .ensures) (c .enum-told .given .1))
 
--- src/lines.rt:120:45
 field-requires-2 : tie.Need-field-requires-2
 field-requires-2 c κs = search needs
 
--- src/lines.rt:120:27
 enum-known-quantity : tie.Need-enum-known-quantity
 enum-known-quantity c = search needs
 
--- src/lines.rt:121:13
 enum-told-2 : tie.Need-enum-told-2
 enum-told-2 c = search needs
 
--- src/lines.rt:121:13
 returns-2 : tie.Need-returns-2
 unfolding readLine
 returns-2 c = let x = c .before .before .before .before .before .before .before .before .args in let s = now (x .s) in rw (readLine, told (fieldOf s) (c .before .before .before .before .before .before .field .ensures) (c .before .before .before .before .article .given .1), told (fieldOf s) (c .before .before .field2 .ensures) (c .enum-told2 .given .1))
 
--- src/lines.rt:114:5
 returns-3 : tie.Need-returns-3
 unfolding readLine
 returns-3 c = let x = c .before .before .before .before .before .before .before .before .before .args in let s = now (x .s) in rw (readLine, told (fieldOf s) (c .before .before .before .before .before .before .before .field .ensures) (c .before .before .before .before .before .article .given .1), told (fieldOf s) (c .before .before .before .field2 .ensures) (c .before .quantity .given .1))

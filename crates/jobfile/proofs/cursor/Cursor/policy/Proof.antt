@@ -1,29 +1,23 @@
-use Rattle.jobfile.proofs.Told.{told}
-use Rattle.jobfile.specs.Places.{stepOf}
-use Rattle.rules.specs.declared.Policy.the-variants.{Exact, Return, Traversal, Midpoint, Composite}
-use Rattle.rules.specs.JobFile.{policyWord, lineFeed, readPolicy, readPolicyAs}
-use denote.Ref.{now}
+-- `jobfile::cursor::Cursor::policy` meets its contract: the five words are tried in their order.
 use mathlib.Core.List.{[], _∷_, _++_}
 use borrow.Author.Needs.{needs}
+use denote.Ref.{now}
+use Rattle.rules.specs.JobFile.{policyWord, lineFeed, readPolicy, readPolicyAs}
+use Rattle.rules.specs.declared.Policy.the-variants.{Exact, Return, Traversal, Midpoint, Composite}
+use Rattle.jobfile.specs.Places.{stepOf}
+use Rattle.jobfile.proofs.Told.{told}
 use Rattle.jobfile.proofs.cursor.Cursor.policy.Statement.{statement}
 use Rattle.jobfile.proofs.cursor.Cursor.policy.Tie as tie
-use Rattle.jobfile.proofs.cursor.Cursor.policy.Reads as reads
-use Rattle.jobfile.proofs.cursor.Cursor.policy.Lts as lts
-use Rattle.jobfile.proofs.cursor.Cursor.word.Reads as word-reads
 
--- src/lines.rt:43:48
 slice-aggregate-word : tie.Need-slice-aggregate-word
 slice-aggregate-word c = search needs
 
--- src/lines.rt:43:35
 word-requires : tie.Need-word-requires
 word-requires c κs = search needs
 
--- src/lines.rt:43:27
 enum-known-next : tie.Need-enum-known-next
 enum-known-next c = search needs
 
--- src/lines.rt:44:13
 returns : tie.Need-returns
 unfolding readPolicy readPolicyAs
 returns c = let s = now (c .before .before .before .before .before .before .args .s) in rw (readPolicy, readPolicyAs, told (stepOf (policyWord Exact ++ (lineFeed ∷ [])) s) (c .before .before .before .word .ensures) (c .before .next .given .1))
@@ -31,19 +25,15 @@ returns c = let s = now (c .before .before .before .before .before .before .args
 enum-told : tie.Need-enum-told
 enum-told c = search needs
 
--- src/lines.rt:46:48
 slice-aggregate-word-2 : tie.Need-slice-aggregate-word-2
 slice-aggregate-word-2 c = search needs
 
--- src/lines.rt:46:35
 word-requires-2 : tie.Need-word-requires-2
 word-requires-2 c κs = search needs
 
--- src/lines.rt:46:27
 enum-known-next-2 : tie.Need-enum-known-next-2
 enum-known-next-2 c = search needs
 
--- src/lines.rt:47:13
 returns-2 : tie.Need-returns-2
 unfolding readPolicy readPolicyAs
 returns-2 c = let s = now (c .before .before .before .before .before .before .before .before .before .before .args .s) in rw (readPolicy, readPolicyAs, told (stepOf (policyWord Exact ++ (lineFeed ∷ [])) s) (c .before .before .before .before .before .before .before .word .ensures) (c .before .before .before .before .before .enum-told .given .1), told (stepOf (policyWord Return ++ (lineFeed ∷ [])) s) (c .before .before .before .word2 .ensures) (c .before .next2 .given .1))
@@ -51,19 +41,15 @@ returns-2 c = let s = now (c .before .before .before .before .before .before .be
 enum-told-2 : tie.Need-enum-told-2
 enum-told-2 c = search needs
 
--- src/lines.rt:49:48
 slice-aggregate-word-3 : tie.Need-slice-aggregate-word-3
 slice-aggregate-word-3 c = search needs
 
--- src/lines.rt:49:35
 word-requires-3 : tie.Need-word-requires-3
 word-requires-3 c κs = search needs
 
--- src/lines.rt:49:27
 enum-known-next-3 : tie.Need-enum-known-next-3
 enum-known-next-3 c = search needs
 
--- src/lines.rt:50:13
 returns-3 : tie.Need-returns-3
 unfolding readPolicy readPolicyAs
 returns-3 c = let s = now (c .before .before .before .before .before .before .before .before .before .before .before .before .before .before .args .s) in rw (readPolicy, readPolicyAs, told (stepOf (policyWord Exact ++ (lineFeed ∷ [])) s) (c .before .before .before .before .before .before .before .before .before .before .before .word .ensures) (c .before .before .before .before .before .before .before .before .before .enum-told .given .1), told (stepOf (policyWord Return ++ (lineFeed ∷ [])) s) (c .before .before .before .before .before .before .before .word2 .ensures) (c .before .before .before .before .before .enum-told2 .given .1), told (stepOf (policyWord Traversal ++ (lineFeed ∷ [])) s) (c .before .before .before .word3 .ensures) (c .before .next3 .given .1))
@@ -71,19 +57,15 @@ returns-3 c = let s = now (c .before .before .before .before .before .before .be
 enum-told-3 : tie.Need-enum-told-3
 enum-told-3 c = search needs
 
--- src/lines.rt:52:48
 slice-aggregate-word-4 : tie.Need-slice-aggregate-word-4
 slice-aggregate-word-4 c = search needs
 
--- src/lines.rt:52:35
 word-requires-4 : tie.Need-word-requires-4
 word-requires-4 c κs = search needs
 
--- src/lines.rt:52:27
 enum-known-next-4 : tie.Need-enum-known-next-4
 enum-known-next-4 c = search needs
 
--- src/lines.rt:53:13
 returns-4 : tie.Need-returns-4
 unfolding readPolicy readPolicyAs
 returns-4 c = let s = now (c .before .before .before .before .before .before .before .before .before .before .before .before .before .before .before .before .before .before .args .s) in rw (readPolicy, readPolicyAs, told (stepOf (policyWord Exact ++ (lineFeed ∷ [])) s) (c .before .before .before .before .before .before .before .before .before .before .before .before .before .before .before .word .ensures) (c .before .before .before .before .before .before .before .before .before .before .before .before .before .enum-told .given .1), told (stepOf (policyWord Return ++ (lineFeed ∷ [])) s) (c .before .before .before .before .before .before .before .before .before .before .before .word2 .ensures) (c .before .before .before .before .before .before .before .before .before .enum-told2 .given .1), told (stepOf (policyWord Traversal ++ (lineFeed ∷ [])) s) (c .before .before .before .before .before .before .before .word3 .ensures) (c .before .before .before .before .before .enum-told3 .given .1), told (stepOf (policyWord Midpoint ++ (lineFeed ∷ [])) s) (c .before .before .before .word4 .ensures) (c .before .next4 .given .1))
@@ -91,19 +73,15 @@ returns-4 c = let s = now (c .before .before .before .before .before .before .be
 enum-told-4 : tie.Need-enum-told-4
 enum-told-4 c = search needs
 
--- src/lines.rt:55:48
 slice-aggregate-word-5 : tie.Need-slice-aggregate-word-5
 slice-aggregate-word-5 c = search needs
 
--- src/lines.rt:55:35
 word-requires-5 : tie.Need-word-requires-5
 word-requires-5 c κs = search needs
 
--- src/lines.rt:55:27
 enum-known-next-5 : tie.Need-enum-known-next-5
 enum-known-next-5 c = search needs
 
--- src/lines.rt:56:13
 returns-5 : tie.Need-returns-5
 unfolding readPolicy readPolicyAs
 returns-5 c = let s = now (c .before .before .before .before .before .before .before .before .before .before .before .before .before .before .before .before .before .before .before .before .before .before .args .s) in rw (readPolicy, readPolicyAs, told (stepOf (policyWord Exact ++ (lineFeed ∷ [])) s) (c .before .before .before .before .before .before .before .before .before .before .before .before .before .before .before .before .before .before .before .word .ensures) (c .before .before .before .before .before .before .before .before .before .before .before .before .before .before .before .before .before .enum-told .given .1), told (stepOf (policyWord Return ++ (lineFeed ∷ [])) s) (c .before .before .before .before .before .before .before .before .before .before .before .before .before .before .before .word2 .ensures) (c .before .before .before .before .before .before .before .before .before .before .before .before .before .enum-told2 .given .1), told (stepOf (policyWord Traversal ++ (lineFeed ∷ [])) s) (c .before .before .before .before .before .before .before .before .before .before .before .word3 .ensures) (c .before .before .before .before .before .before .before .before .before .enum-told3 .given .1), told (stepOf (policyWord Midpoint ++ (lineFeed ∷ [])) s) (c .before .before .before .before .before .before .before .word4 .ensures) (c .before .before .before .before .before .enum-told4 .given .1), told (stepOf (policyWord Composite ++ (lineFeed ∷ [])) s) (c .before .before .before .word5 .ensures) (c .before .next5 .given .1))
@@ -111,7 +89,6 @@ returns-5 c = let s = now (c .before .before .before .before .before .before .be
 enum-told-5 : tie.Need-enum-told-5
 enum-told-5 c = search needs
 
--- src/lines.rt:40:5
 returns-6 : tie.Need-returns-6
 unfolding readPolicy readPolicyAs
 returns-6 c = let s = now (c .before .before .before .before .before .before .before .before .before .before .before .before .before .before .before .before .before .before .before .before .before .args .s) in rw (readPolicy, readPolicyAs, told (stepOf (policyWord Exact ++ (lineFeed ∷ [])) s) (c .before .before .before .before .before .before .before .before .before .before .before .before .before .before .before .before .before .before .word .ensures) (c .before .before .before .before .before .before .before .before .before .before .before .before .before .before .before .before .enum-told .given .1), told (stepOf (policyWord Return ++ (lineFeed ∷ [])) s) (c .before .before .before .before .before .before .before .before .before .before .before .before .before .before .word2 .ensures) (c .before .before .before .before .before .before .before .before .before .before .before .before .enum-told2 .given .1), told (stepOf (policyWord Traversal ++ (lineFeed ∷ [])) s) (c .before .before .before .before .before .before .before .before .before .before .word3 .ensures) (c .before .before .before .before .before .before .before .before .enum-told3 .given .1), told (stepOf (policyWord Midpoint ++ (lineFeed ∷ [])) s) (c .before .before .before .before .before .before .word4 .ensures) (c .before .before .before .before .enum-told4 .given .1), told (stepOf (policyWord Composite ++ (lineFeed ∷ [])) s) (c .before .before .word5 .ensures) (c .enum-told5 .given .1))

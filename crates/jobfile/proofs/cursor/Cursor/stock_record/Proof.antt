@@ -1,83 +1,64 @@
-use Rattle.jobfile.specs.Places.{fieldOf}
-use Rattle.rules.specs.JobFile.{readRecord}
-use Rattle.jobfile.proofs.Told.{told}
-use denote.Ref.{now}
+-- `jobfile::cursor::Cursor::stock_record` meets its contract: the fields are read one behind the other.
 use borrow.Author.Needs.{needs}
+use denote.Ref.{now}
+use Rattle.rules.specs.JobFile.{readRecord}
+use Rattle.jobfile.specs.Places.{fieldOf}
+use Rattle.jobfile.proofs.Told.{told}
 use Rattle.jobfile.proofs.cursor.Cursor.stock_record.Statement.{statement}
 use Rattle.jobfile.proofs.cursor.Cursor.stock_record.Tie as tie
-use Rattle.jobfile.proofs.cursor.Cursor.stock_record.Reads as reads
-use Rattle.jobfile.proofs.cursor.Cursor.stock_record.Lts as lts
-use Rattle.jobfile.proofs.cursor.Cursor.field.Reads as field-reads
 
--- src/lines.rt:97:40
 field-requires : tie.Need-field-requires
 field-requires c κs = search needs
 
--- src/lines.rt:97:27
 enum-known-aisle : tie.Need-enum-known-aisle
 enum-known-aisle c = search needs
 
--- src/lines.rt:98:13
 enum-told : tie.Need-enum-told
 enum-told c = search needs
 
--- src/lines.rt:98:13
 returns : tie.Need-returns
 unfolding readRecord
 returns c = let x = c .before .before .before .before .args in let s = now (x .s) in rw (readRecord, told (fieldOf s) (c .before .before .field .ensures) (c .enum-told .given .1))
 
--- src/lines.rt:100:39
 field-requires-2 : tie.Need-field-requires-2
 field-requires-2 c κs = search needs
 
--- src/lines.rt:100:27
 enum-known-cell : tie.Need-enum-known-cell
 enum-known-cell c = search needs
 
--- src/lines.rt:101:13
 enum-told-2 : tie.Need-enum-told-2
 enum-told-2 c = search needs
 
--- src/lines.rt:101:13
 returns-2 : tie.Need-returns-2
 unfolding readRecord
 returns-2 c = let x = c .before .before .before .before .before .before .before .before .args in let s = now (x .s) in rw (readRecord, told (fieldOf s) (c .before .before .before .before .before .before .field .ensures) (c .before .before .before .before .aisle .given .1), told (fieldOf s) (c .before .before .field2 .ensures) (c .enum-told2 .given .1))
 
--- src/lines.rt:103:42
 field-requires-3 : tie.Need-field-requires-3
 field-requires-3 c κs = search needs
 
--- src/lines.rt:103:27
 enum-known-article : tie.Need-enum-known-article
 enum-known-article c = search needs
 
--- src/lines.rt:104:13
 enum-told-3 : tie.Need-enum-told-3
 enum-told-3 c = search needs
 
--- src/lines.rt:104:13
 returns-3 : tie.Need-returns-3
 unfolding readRecord
 returns-3 c = let x = c .before .before .before .before .before .before .before .before .before .before .before .before .args in let s = now (x .s) in rw (readRecord, told (fieldOf s) (c .before .before .before .before .before .before .before .before .before .before .field .ensures) (c .before .before .before .before .before .before .before .before .aisle .given .1), told (fieldOf s) (c .before .before .before .before .before .before .field2 .ensures) (c .before .before .before .before .cell .given .1), told (fieldOf s) (c .before .before .field3 .ensures) (c .enum-told3 .given .1))
 
--- src/lines.rt:106:45
 field-requires-4 : tie.Need-field-requires-4
 field-requires-4 c κs = search needs
 
--- src/lines.rt:106:27
 enum-known-quantity : tie.Need-enum-known-quantity
 enum-known-quantity c = search needs
 
--- src/lines.rt:107:13
 enum-told-4 : tie.Need-enum-told-4
 enum-told-4 c = search needs
 
--- src/lines.rt:107:13
 returns-4 : tie.Need-returns-4
 unfolding readRecord
 returns-4 c = let x = c .before .before .before .before .before .before .before .before .before .before .before .before .before .before .before .before .args in let s = now (x .s) in rw (readRecord, told (fieldOf s) (c .before .before .before .before .before .before .before .before .before .before .before .before .before .before .field .ensures) (c .before .before .before .before .before .before .before .before .before .before .before .before .aisle .given .1), told (fieldOf s) (c .before .before .before .before .before .before .before .before .before .before .field2 .ensures) (c .before .before .before .before .before .before .before .before .cell .given .1), told (fieldOf s) (c .before .before .before .before .before .before .field3 .ensures) (c .before .before .before .before .article .given .1), told (fieldOf s) (c .before .before .field4 .ensures) (c .enum-told4 .given .1))
 
--- src/lines.rt:94:5
 returns-5 : tie.Need-returns-5
 unfolding readRecord
 returns-5 c = let x = c .before .before .before .before .before .before .before .before .before .before .before .before .before .before .before .before .before .args in let s = now (x .s) in rw (readRecord, told (fieldOf s) (c .before .before .before .before .before .before .before .before .before .before .before .before .before .before .before .field .ensures) (c .before .before .before .before .before .before .before .before .before .before .before .before .before .aisle .given .1), told (fieldOf s) (c .before .before .before .before .before .before .before .before .before .before .before .field2 .ensures) (c .before .before .before .before .before .before .before .before .before .cell .given .1), told (fieldOf s) (c .before .before .before .before .before .before .before .field3 .ensures) (c .before .before .before .before .before .article .given .1), told (fieldOf s) (c .before .before .before .field4 .ensures) (c .before .quantity .given .1))

@@ -1,20 +1,16 @@
-use Rattle.jobfile.proofs.Storing.{LinesTo, lines-none, lines-fail, lines-stored, lines-passed, lines-read}
-use Rattle.jobfile.proofs.Told.{told}
-use Rattle.jobfile.specs.Places.{recordOf}
-use Rattle.rules.specs.JobFile.{readRecord}
-use denote.Ref.{now}
+-- `jobfile::cursor::Cursor::stock_records` meets its contract: the loop keeps what was read in front of what is left.
+use Prim.Native.Nat.{_-_}
+use mathlib.Core.Logic.{⊎-elim}
+use native.Mathlib.Omega.{arith}
 use lib.ListN.{replicate, length-replicate}
 use borrow.Author.Needs.{needs}
-use native.Mathlib.Omega.{arith}
-use mathlib.Core.Logic.{⊎-elim}
-use mathlib.Core.Path.{refl, sym, _∙_}
-use Prim.Native.Nat.{_-_}
+use denote.Ref.{now}
+use Rattle.rules.specs.JobFile.{readRecord}
+use Rattle.jobfile.specs.Places.{recordOf}
+use Rattle.jobfile.proofs.Storing.{LinesTo, lines-none, lines-fail, lines-stored, lines-passed, lines-read}
+use Rattle.jobfile.proofs.Told.{told}
 use Rattle.jobfile.proofs.cursor.Cursor.stock_records.Statement.{statement}
 use Rattle.jobfile.proofs.cursor.Cursor.stock_records.Tie as tie
-use Rattle.jobfile.proofs.cursor.Cursor.stock_records.Reads as reads
-use Rattle.jobfile.proofs.cursor.Cursor.stock_records.Lts as lts
-use Rattle.jobfile.proofs.cursor.Cursor.stock_record.Reads as stock-record-reads
-use Rattle.jobfile.proofs.sections.no_record.Reads as no-record-reads
 
 abbrev Inv-loop : tie.InvT-loop
 Inv-loop s count stock₀ at₀ i₀ stock at i = LinesTo readRecord 384 count at₀ s at i stock
@@ -22,47 +18,36 @@ Inv-loop s count stock₀ at₀ i₀ stock at i = LinesTo readRecord 384 count a
 abbrev μ-loop : tie.MeasureT-loop
 μ-loop s count stock₀ at₀ i₀ stock at i = count - i
 
--- src/sections.rt:44:26
 no-record-requires : tie.Need-no-record-requires Inv-loop μ-loop
 no-record-requires c κs = search needs
 
--- src/sections.rt:47:9
 loop-holds : tie.Need-loop-holds Inv-loop μ-loop
 loop-holds c = let x = c .before .before .args in lines-none readRecord 384 (x .count) (x .self .at) (now (x .s)) (replicate 384 (c .no-record .result)) (length-replicate 384 (c .no-record .result))
 
--- src/sections.rt:49:50
 stock-record-requires : tie.Need-stock-record-requires Inv-loop μ-loop
 stock-record-requires c κs = search needs
 
--- src/sections.rt:49:34
 enum-known-row : tie.Need-enum-known-row Inv-loop μ-loop
 enum-known-row c = search needs
 
--- src/sections.rt:50:64
 enum-told : tie.Need-enum-told Inv-loop μ-loop
 enum-told c = search needs
 
--- src/sections.rt:50:17
 returns : tie.Need-returns Inv-loop μ-loop
 returns c = let x = c .before .before .before .before .before .before .before .args in let l = c .before .before .before .before .loop in lines-fail readRecord 384 (x .count) (x .self .at) (now (x .s)) (l .at) (l .i) (l .stock) (l .inv) (c .before .before .before .loop-test .taken) (told (recordOf (now (x .s))) (c .before .before .stock-record .ensures) (c .enum-told .given .1)) (l .at) (x .count)
 
--- src/sections.rt:53:17
 mul-stock : tie.Need-mul-stock Inv-loop μ-loop
 mul-stock c = omega arith
 
--- src/sections.rt:53:17
 array-set-from-stock : tie.Need-array-set-from-stock Inv-loop μ-loop
 array-set-from-stock c = omega arith
 
--- src/sections.rt:56:13
 add-i : tie.Need-add-i Inv-loop μ-loop
 add-i c = omega arith
 
--- src/sections.rt:47:9
 loop-less : tie.Need-loop-less Inv-loop μ-loop
 loop-less c = omega arith
 
--- src/sections.rt:47:9
 loop-again : tie.Need-loop-again Inv-loop μ-loop
 loop-again c = let x = c .before .before .before .before .before .before .before .before .before .args in
     let l = c .before .before .before .before .before .before .loop in
@@ -71,7 +56,6 @@ loop-again c = let x = c .before .before .before .before .before .before .before
     let t = c .before .before .before .before .before .loop-test .taken in
     ⊎-elim (λ w. rw (w .1) (lines-stored readRecord 384 (x .count) (x .self .at) (now (x .s)) (l .at) (l .i) (l .stock) (l .inv) t (row .0) (row .1 .0 .at) e (w .0 .taken))) (λ w. rw (w .1) (lines-passed readRecord 384 (x .count) (x .self .at) (now (x .s)) (l .at) (l .i) (l .stock) (l .inv) t (row .0) (row .1 .0 .at) e (w .0 .left))) (c .if1 .came)
 
--- src/sections.rt:41:5
 returns-2 : tie.Need-returns-2 Inv-loop μ-loop
 returns-2 c = let x = c .before .before .before .before .args in let l = c .before .loop in lines-read readRecord 384 (x .count) (x .self .at) (now (x .s)) (l .at) (l .i) (l .stock) (l .inv) (c .loop-test .left)
 

@@ -1,14 +1,13 @@
-use Rattle.jobfile.proofs.Behind.{behind-nothing, WordTo, word-over, word-other, word-more, word-read}
-use Rattle.rules.specs.JobFile.{readWord}
-use denote.Ref.{now}
-use lib.ListN.{length, drop}
-use native.Mathlib.Omega.{arith}
-use mathlib.Core.Path.{sym}
+-- `jobfile::cursor::Cursor::word` meets its contract: the loop compares byte by byte.
 use Prim.Native.Nat.{_-_}
+use mathlib.Core.Path.{sym}
+use native.Mathlib.Omega.{arith}
+use lib.ListN.{length, drop}
+use denote.Ref.{now}
+use Rattle.rules.specs.JobFile.{readWord}
+use Rattle.jobfile.proofs.Behind.{behind-nothing, WordTo, word-over, word-other, word-more, word-read}
 use Rattle.jobfile.proofs.cursor.Cursor.word.Statement.{statement}
 use Rattle.jobfile.proofs.cursor.Cursor.word.Tie as tie
-use Rattle.jobfile.proofs.cursor.Cursor.word.Reads as reads
-use Rattle.jobfile.proofs.cursor.Cursor.word.Lts as lts
 
 abbrev Inv-loop : tie.InvT-loop
 Inv-loop s w at₀ i₀ at i = WordTo w s at₀ at i
@@ -16,43 +15,33 @@ Inv-loop s w at₀ i₀ at i = WordTo w s at₀ at i
 abbrev μ-loop : tie.MeasureT-loop
 μ-loop s w at₀ i₀ at i = length w - i
 
--- src/cursor.rt:116:9
 loop-holds : tie.Need-loop-holds Inv-loop μ-loop
 loop-holds c = let x = c .args in sym (behind-nothing (readWord (now (x .w)) (drop (x .self .at) (now (x .s)))))
 
--- src/cursor.rt:118:17
 returns : tie.Need-returns Inv-loop μ-loop
 returns c = let l = c .before .before .loop in let x = c .before .before .before .args in sym (word-over (now (x .w)) (now (x .s)) (x .self .at) (l .at) (l .i) (l .inv) (c .before .loop-test .taken) (c .if1 .taken))
 
--- src/cursor.rt:120:16
 shared-slice-read-if2 : tie.Need-shared-slice-read-if2 Inv-loop μ-loop
 shared-slice-read-if2 c = omega arith
 
--- src/cursor.rt:120:25
 shared-slice-read-if2-2 : tie.Need-shared-slice-read-if2-2 Inv-loop μ-loop
 shared-slice-read-if2-2 c = omega arith
 
--- src/cursor.rt:121:17
 returns-2 : tie.Need-returns-2 Inv-loop μ-loop
 returns-2 c = let l = c .before .before .before .before .before .loop in let x = c .before .before .before .before .before .before .args in sym (word-other (now (x .w)) (now (x .s)) (x .self .at) (l .at) (l .i) (l .inv) (omega arith) (omega arith) (c .if2 .taken))
 
--- src/cursor.rt:123:13
 add-at : tie.Need-add-at Inv-loop μ-loop
 add-at c = omega arith
 
--- src/cursor.rt:124:13
 add-i : tie.Need-add-i Inv-loop μ-loop
 add-i c = omega arith
 
--- src/cursor.rt:116:9
 loop-less : tie.Need-loop-less Inv-loop μ-loop
 loop-less c = omega arith
 
--- src/cursor.rt:116:9
 loop-again : tie.Need-loop-again Inv-loop μ-loop
 loop-again c = let l = c .before .before .before .before .before .loop in let x = c .before .before .before .before .before .before .args in word-more (now (x .w)) (now (x .s)) (x .self .at) (l .at) (l .i) (l .inv) (omega arith) (omega arith) (c .if2 .left)
 
--- src/cursor.rt:111:5
 returns-3 : tie.Need-returns-3 Inv-loop μ-loop
 returns-3 c = let l = c .before .loop in let x = c .before .before .args in sym (word-read (now (x .w)) (now (x .s)) (x .self .at) (l .at) (l .i) (l .inv) (c .loop-test .left))
 
