@@ -1,16 +1,16 @@
 -- Bytes and digits at a place of the job's bytes.
-use Prim.Native.Nat.{ℕ, zero, suc, _+_, _*_, _-_, _≤_, _<_, min}
+use Prim.Native.Nat.{ℕ, suc, _+_, _*_, _-_, _≤_, _<_, min}
 use mathlib.Core.Path.{_≡_, refl, sym, _∙_, ap, ap₂}
 use mathlib.Core.List.{List, [], _∷_}
 use mathlib.Core.Bool.{Bool, true, false, _&&_, not}
-use mathlib.Core.Option.{Option, none, some}
+use mathlib.Core.Option.{none, some}
 use native.Mathlib.Omega.{arith}
 use native.Mathlib.Numerals.{add-one}
 use lib.Dec.{leb}
 use lib.ListN.{length, getD, drop, drop-of-length-le, length-drop}
 use lib.Seq.{drop-cons, getD-drop, drop-drop}
 use borrow.Author.Tests.{le-leb, lt-leb, eq-eqb, ne-eqb}
-use Rattle.rules.specs.JobFile.{Reading, _>>=_, isDigit, leadingDigits, valueOf, badStart, isNumber, readByte, readField}
+use Rattle.rules.specs.JobFile.{_>>=_, isDigit, leadingDigits, valueOf, badStart, isNumber, readByte, readField}
 use Rattle.rules.proofs.Numbers.{digit-true}
 use Rattle.jobfile.specs.declared.cursor.Digits.{Digits}
 use Rattle.jobfile.specs.Places.{digitsAt}

@@ -1,8 +1,8 @@
 -- Products and sums over what is left: the weight of the list, and all the stock of an article.
-use Prim.Native.Nat.{ℕ, zero, suc, _+_, _*_, _-_, _≤_, _<_}
-use mathlib.Core.Path.{_≡_, refl, sym, _∙_, ap}
+use Prim.Native.Nat.{ℕ, _+_, _*_, _≤_, _<_}
+use mathlib.Core.Path.{_≡_, sym, _∙_}
 use mathlib.Core.List.{List, [], _∷_}
-use mathlib.Core.Bool.{Bool, true, false, cond}
+use mathlib.Core.Bool.{true, false, cond}
 use native.Mathlib.Omega.{arith}
 use native.Mathlib.Nat.{mul-one, one-mul, mul-assoc, mul-le-mul, mul-pos, le-mul-of-pos-right}
 use lib.Dec.{ltb, eqb}
@@ -10,7 +10,7 @@ use lib.ListN.{length, getD, take}
 use borrow.Author.Tests.{lt-ltb, le-ltb, eq-eqb, ne-eqb}
 use Rattle.rules.specs.declared.StockRecord.{StockRecord}
 use Rattle.rules.specs.declared.OrderLine.{OrderLine}
-use Rattle.rules.specs.Lists.{allOf, sumOf, productOf}
+use Rattle.rules.specs.Lists.{allOf, sumOf}
 use Rattle.rules.specs.Refusals.{recordInBounds, lineInBounds, weight, allStock}
 use Rattle.rules.proofs.Admission.{record-within, line-within}
 use Rattle.values.specs.declared.JobValue.{JobValue}

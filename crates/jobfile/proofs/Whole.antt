@@ -1,22 +1,21 @@
 -- A whole job file: its sections, its length and its end.
-use Prim.Native.Nat.{ℕ, suc, _+_, _≤_, _<_}
+use Prim.Native.Nat.{ℕ, _≤_, _<_}
 use mathlib.Core.Path.{_≡_, refl, sym, _∙_, ap}
-use mathlib.Core.List.{List, [], _∷_}
+use mathlib.Core.List.{List}
 use mathlib.Core.Bool.{Bool, true, false}
 use mathlib.Core.Option.{Option, none, some}
 use native.Mathlib.Omega.{arith}
 use lib.Dec.{leb}
-use lib.ListN.{length, take, drop, getD, drop-of-length-le}
+use lib.ListN.{length, take, drop, drop-of-length-le}
 use borrow.Author.Tests.{le-leb, lt-leb}
 use Rattle.rules.specs.declared.Layout.{Layout}
 use Rattle.rules.specs.declared.Policy.{Policy}
 use Rattle.rules.specs.declared.StockRecord.{StockRecord}
 use Rattle.rules.specs.declared.OrderLine.{OrderLine}
 use Rattle.rules.specs.Jobs.{Job}
-use Rattle.rules.specs.JobFile.{Reading, _>>=_, readRecord, readLine, readSection, readLayoutSection, readSections, readJob, atEnd, jobFileLimit, letterS, letterD}
-use Rattle.values.specs.declared.JobValue.{JobValue}
+use Rattle.rules.specs.JobFile.{Reading, readRecord, readLine, readSection, readLayoutSection, readSections, readJob, atEnd, jobFileLimit, letterS, letterD}
 use Rattle.jobfile.specs.declared.raw.RawJob.{RawJob}
-use Rattle.jobfile.specs.Kept.{kept, keptOf, Keeps, RawOf}
+use Rattle.jobfile.specs.Kept.{kept, keptOf, RawOf}
 use Rattle.jobfile.proofs.Bytes.{bytes-from}
 
 -- lines that were read, up to next, and the first of them in an array

@@ -1,14 +1,13 @@
 -- What a cursor's answers say in the terms of reading: a place stands for the bytes from there on.
 use Prim.Native.Nat.{ℕ, _+_, min}
 use mathlib.Core.List.{List}
-use mathlib.Core.Option.{Option, none, some}
+use mathlib.Core.Option.{none, some}
 use lib.ListN.{length, drop}
 use Rattle.rules.specs.JobFile.{Reading, leadingDigits, valueOf}
 use Rattle.rules.specs.declared.Layout.{Layout}
 use Rattle.rules.specs.declared.Policy.{Policy}
 use Rattle.rules.specs.declared.StockRecord.{StockRecord}
 use Rattle.rules.specs.declared.OrderLine.{OrderLine}
-use Rattle.jobfile.specs.declared.cursor.Cursor.{Cursor}
 use Rattle.jobfile.specs.declared.cursor.Step.{Step}
 use Rattle.jobfile.specs.declared.cursor.Field.{Field}
 use Rattle.jobfile.specs.declared.cursor.Digits.{Digits}
