@@ -1,44 +1,9 @@
-// Jobs too long for a byte string, built piece by piece.
-use crate::show;
-
-// A text: the bytes before `at`.
-struct Text {
-    bytes: [u8; 16400],
-    at: usize,
-}
-
-// A text that starts with a piece.
-fn start(piece: &[u8]) -> Text {
-    let bytes = [0u8; 16400];
-    let none = Text { bytes, at: 0 };
-    append(none, piece)
-}
-
-// A text with a piece behind it, as far as there is space.
-fn append(text: Text, piece: &[u8]) -> Text {
-    let mut bytes = text.bytes;
-    let mut at = text.at;
-    let mut i = 0;
-    while i < piece.len() {
-        if at < 16400 {
-            bytes[at] = piece[i];
-            at += 1;
-        }
-        i += 1;
-    }
-    Text { bytes, at }
-}
-
-// A text with a piece behind it as often as told.
-fn append_times(text: Text, piece: &[u8], times: usize) -> Text {
-    let mut whole = text;
-    let mut i = 0;
-    while i < times {
-        whole = append(whole, piece);
-        i += 1;
-    }
-    whole
-}
+// Jobs with many records.
+use crate::text::Text;
+use crate::text::append;
+use crate::text::append_times;
+use crate::text::show_text;
+use crate::text::start;
 
 // A text with a record of each cell but the last of a store of 16 aisles with 24 cells each.
 fn records_but_one(start: Text) -> Text {
@@ -107,15 +72,6 @@ fn records_but_one(start: Text) -> Text {
         text,
         b"16 1 1601 1\n16 2 1602 1\n16 3 1603 1\n16 4 1604 1\n16 5 1605 1\n16 6 1606 1\n16 7 1607 1\n16 8 1608 1\n16 9 1609 1\n16 10 1610 1\n16 11 1611 1\n16 12 1612 1\n16 13 1613 1\n16 14 1614 1\n16 15 1615 1\n16 16 1616 1\n16 17 1617 1\n16 18 1618 1\n16 19 1619 1\n16 20 1620 1\n16 21 1621 1\n16 22 1622 1\n16 23 1623 1\n",
     )
-}
-
-// Shows the job that a text holds.
-fn show_text(name: &[u8], text: Text) {
-    let bytes = text.bytes;
-    let at = text.at;
-    if at <= 16400 {
-        show(name, &bytes[..at]);
-    }
 }
 
 // Shows a job with those records, more behind them and a list.

@@ -1,6 +1,7 @@
 // Runs jobfile::read_job on jobs good and bad and prints the number of each verdict: 0 if the job is admitted.
 mod jobs;
 mod large;
+mod text;
 
 use jobfile::Verdict;
 use libc::STDOUT_FILENO;
@@ -65,15 +66,31 @@ fn truncations(bytes: &[u8]) {
 }
 
 fn main() {
+    jobs::policies();
     jobs::admitted();
-    jobs::layouts();
-    jobs::records();
+    jobs::light();
+    jobs::layouts_below();
+    jobs::layouts_above();
+    jobs::places();
+    jobs::amounts();
+    jobs::cells();
     jobs::lists();
+    jobs::articles();
+    jobs::stock();
     jobs::orders();
     jobs::counts();
+    jobs::high_counts();
+    jobs::sections();
     jobs::numbers();
-    jobs::bytes();
+    jobs::zeros();
+    jobs::signs();
+    jobs::neighbours();
+    jobs::ends();
+    jobs::carriage();
+    jobs::spaces();
+    jobs::fields();
     jobs::words();
+    jobs::more_words();
     truncations(b"L 1\n2 3 2 1 2 5 1 EXACT\nS 3\n1 1 7 1\n2 1 9 5\n2 3 7 1\nD 1\n9 1\n");
     large::records();
     large::lengths();
