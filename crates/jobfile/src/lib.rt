@@ -20,7 +20,7 @@ pub enum Verdict {
     Refused(Refusal),
 }
 
-// The answer to job bytes. The job is that of the bytes if it is admitted.
+// The answer to job bytes. If the job is admitted, it is that of the bytes; if it is refused, nothing is said of `job`.
 pub struct ReadJob {
     pub verdict: Verdict,
     pub job: JobValue,

@@ -1,12 +1,14 @@
 -- `jobfile::twice::article_twice` meets its contract: the answer is that of the lines from i on.
 use Prim.Native.Nat.{_-_}
-use mathlib.Core.Path.{_≡_, sym, _∙_, ap}
+use mathlib.Core.Path.{_≡_, sym, ap}
+use mathlib.Core.Bool.{Bool}
 use native.Mathlib.Omega.{arith}
 use lib.ListN.{length, length-map, take}
 use Rattle.rules.specs.Lists.{anyTwo}
 use Rattle.rules.specs.Refusals.{sameArticle}
 use Rattle.values.specs.Values.{jobOf}
 use Rattle.jobfile.proofs.Left.{left-all, TwoFrom, two-none, two-found, two-more}
+use Rattle.jobfile.proofs.Told.{told}
 use Rattle.jobfile.proofs.Ranges.{noLine}
 use Rattle.jobfile.proofs.twice.article_twice.Statement.{statement}
 use Rattle.jobfile.proofs.twice.article_twice.Tie as tie
@@ -42,7 +44,7 @@ returns c = let x = c .before .before .before .before .before .before in
     let l = c .before .before .before .before .loop in
     let job = x .args .job in
     let r = c .before .article-from in
-    sym (two-found sameArticle (job .orders) (job .lines) (anyTwo sameArticle (take (job .orders) (job .lines))) (l .i) noLine (c .before .before .before .loop-test .taken) (omega (arith, size x, x .pre .count)) (l .inv) (sym (r .ensures) ∙ c .if1 .taken))
+    sym (two-found sameArticle (job .orders) (job .lines) (anyTwo sameArticle (take (job .orders) (job .lines))) (l .i) noLine (c .before .before .before .loop-test .taken) (omega (arith, size x, x .pre .count)) (l .inv) (told (λ (b : Bool). b) (r .ensures) (c .if1 .taken)))
 
 add-i : tie.Need-add-i Inv-loop μ-loop
 add-i c = omega (arith, c .before .before .before .before .before .before .pre .count)
@@ -55,7 +57,7 @@ loop-again c = let x = c .before .before .before .before .before .before in
     let l = c .before .before .before .before .loop in
     let job = x .args .job in
     let r = c .before .article-from in
-    two-more sameArticle (job .orders) (job .lines) (anyTwo sameArticle (take (job .orders) (job .lines))) (l .i) noLine (c .before .before .before .loop-test .taken) (omega (arith, size x, x .pre .count)) (l .inv) (sym (r .ensures) ∙ c .if1 .left)
+    two-more sameArticle (job .orders) (job .lines) (anyTwo sameArticle (take (job .orders) (job .lines))) (l .i) noLine (c .before .before .before .loop-test .taken) (omega (arith, size x, x .pre .count)) (l .inv) (told (λ (b : Bool). b) (r .ensures) (c .if1 .left))
 
 returns-2 : tie.Need-returns-2 Inv-loop μ-loop
 unfolding jobOf
