@@ -77,7 +77,7 @@ pub record StockWithin (job : Job) : Type 0 where
   pub count : length (job .stock) ≤ 384
   pub records : (r : StockRecord) → List·Memᴰ r (job .stock) → RecordWithin (job .layout) r
 
-record-within : (job : Job) (r : StockRecord) → (recordInBounds job r ≡ true) ↔ RecordWithin (job .layout) r
+pub record-within : (job : Job) (r : StockRecord) → (recordInBounds job r ≡ true) ↔ RecordWithin (job .layout) r
 unfolding recordInBounds
 record-within job r =
     simp (and-eq-true-iff, within-bounds) (
@@ -101,7 +101,7 @@ pub record ListWithin (job : Job) : Type 0 where
   pub count : (1 ≤ length (job .lines)) × (length (job .lines) ≤ 8)
   pub lines : (l : OrderLine) → List·Memᴰ l (job .lines) → LineWithin l
 
-line-within : (l : OrderLine) → (lineInBounds l ≡ true) ↔ LineWithin l
+pub line-within : (l : OrderLine) → (lineInBounds l ≡ true) ↔ LineWithin l
 unfolding lineInBounds
 line-within l =
     simp (and-eq-true-iff, within-bounds) (λ p. record { article = p .0; quantity = p .1 }, λ b. (b .article, b .quantity))

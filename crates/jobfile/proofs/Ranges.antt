@@ -1,0 +1,72 @@
+-- The tests of the bounds on a job by value.
+use Prim.Native.Nat.{_≤_, _<_}
+use mathlib.Core.Path.{_≡_}
+use mathlib.Core.Bool.{true, false, _&&_}
+use native.Mathlib.Omega.{arith}
+use lib.Dec.{leb}
+use lib.ListN.{length, take}
+use lib.Seq.{length-take-le}
+use borrow.Author.Tests.{le-leb, lt-leb}
+use Rattle.rules.specs.declared.StockRecord.{StockRecord}
+use Rattle.rules.specs.declared.OrderLine.{OrderLine}
+use Rattle.rules.specs.Lists.{allOf}
+use Rattle.rules.specs.Store.{within}
+use Rattle.rules.specs.Refusals.{recordInBounds, stockInBounds, lineInBounds, listInBounds}
+use Rattle.rules.proofs.Numbers.{both-true}
+use Rattle.values.specs.declared.JobValue.{JobValue}
+use Rattle.values.specs.Values.{jobOf}
+use Rattle.jobfile.specs.Ready.{storeOnly}
+
+-- what is read past the end of an array
+abbrev pub noRecord : StockRecord
+noRecord = record { aisle = 0; cell = 0; article = 0; quantity = 0 }
+
+abbrev pub noLine : OrderLine
+noLine = record { article = 0; quantity = 0 }
+
+-- the arrays of a job by value have the room that they are declared with
+pub record Sized (job : JobValue) : Type 0 where
+  pub stock : length (job .stock) ≡ 384
+  pub lines : length (job .lines) ≡ 8
+
+module _ (job : JobValue) (size : Sized job) where
+  -- as many records as are counted
+  pub stock-length : job .records ≤ 384 → length (take (job .records) (job .stock)) ≡ job .records
+  stock-length h = length-take-le (job .records) (job .stock) (omega (arith, size .stock))
+
+  -- as many lines as are counted
+  pub list-length : job .orders ≤ 8 → length (take (job .orders) (job .lines)) ≡ job .orders
+  list-length h = length-take-le (job .orders) (job .lines) (omega (arith, size .lines))
+
+  -- too many records
+  pub stock-many : 384 < job .records → leb (job .records) 384 && stockInBounds (jobOf job) ≡ false
+  stock-many h = rw (lt-leb (job .records) 384 h)
+
+  -- not too many: the fields decide
+  pub stock-tested : job .records ≤ 384 → leb (job .records) 384 && stockInBounds (jobOf job) ≡ allOf (recordInBounds (storeOnly (job .layout))) (take (job .records) (job .stock))
+  unfolding stockInBounds recordInBounds jobOf
+  stock-tested h = rw (le-leb (job .records) 384 h, stockInBounds, stock-length h, le-leb (job .records) 384 h)
+
+  -- too many lines
+  pub list-many : 8 < job .orders → leb (job .orders) 8 && listInBounds (jobOf job) ≡ false
+  list-many h = rw (lt-leb (job .orders) 8 h)
+
+  -- no line
+  pub list-empty : job .orders < 1 → leb (job .orders) 8 && listInBounds (jobOf job) ≡ false
+  unfolding listInBounds within jobOf
+  list-empty h = rw (le-leb (job .orders) 8 (omega arith), listInBounds, within, list-length (omega arith), lt-leb 1 (job .orders) h)
+
+  -- as many as there may be: the fields decide
+  pub list-tested : 1 ≤ job .orders → job .orders ≤ 8 → leb (job .orders) 8 && listInBounds (jobOf job) ≡ allOf lineInBounds (take (job .orders) (job .lines))
+  unfolding listInBounds within jobOf
+  list-tested l h = rw (le-leb (job .orders) 8 h, listInBounds, within, list-length h, le-leb (job .orders) 8 h, le-leb 1 (job .orders) l)
+
+-- all records of a stock within the bounds are
+pub all-records : (job : JobValue) → stockInBounds (jobOf job) ≡ true → allOf (recordInBounds (storeOnly (job .layout))) (take (job .records) (job .stock)) ≡ true
+unfolding stockInBounds recordInBounds jobOf
+all-records job e = both-true (leb (length (take (job .records) (job .stock))) 384) (allOf (recordInBounds (storeOnly (job .layout))) (take (job .records) (job .stock))) e .1
+
+-- all lines of a list within the bounds are
+pub all-lines : (job : JobValue) → listInBounds (jobOf job) ≡ true → allOf lineInBounds (take (job .orders) (job .lines)) ≡ true
+unfolding listInBounds jobOf
+all-lines job e = both-true (within 1 8 (length (take (job .orders) (job .lines)))) (allOf lineInBounds (take (job .orders) (job .lines))) e .1

@@ -1,0 +1,43 @@
+-- `jobfile::bounds::layout_in_bounds` meets its contract: the tests of the numbers, joined.
+use borrow.Author.Needs.{needs}
+use Rattle.rules.specs.Store.{layoutInBounds}
+use Rattle.jobfile.proofs.bounds.layout_in_bounds.Statement.{statement}
+use Rattle.jobfile.proofs.bounds.layout_in_bounds.Tie as tie
+
+is-within-requires : tie.Need-is-within-requires
+is-within-requires c κs = search needs
+
+is-within-requires-2 : tie.Need-is-within-requires-2
+is-within-requires-2 c κs = search needs
+
+is-within-requires-3 : tie.Need-is-within-requires-3
+is-within-requires-3 c κs = search needs
+
+is-within-requires-4 : tie.Need-is-within-requires-4
+is-within-requires-4 c κs = search needs
+
+is-within-requires-5 : tie.Need-is-within-requires-5
+is-within-requires-5 c κs = search needs
+
+is-within-requires-6 : tie.Need-is-within-requires-6
+is-within-requires-6 c κs = search needs
+
+is-within-requires-7 : tie.Need-is-within-requires-7
+is-within-requires-7 c κs = search needs
+
+returns : tie.Need-returns
+unfolding layoutInBounds
+returns c = rw (layoutInBounds, ← c .before .before .before .before .before .before .is-within .ensures, ← c .before .before .before .before .before .is-within2 .ensures, ← c .before .before .before .before .is-within3 .ensures, ← c .before .before .before .is-within4 .ensures, ← c .before .before .is-within5 .ensures, ← c .before .is-within6 .ensures, ← c .is-within7 .ensures)
+
+pub layout-in-bounds-spec : {M : Type 1} → statement M
+layout-in-bounds-spec =
+    tie.close
+    (tie.spec
+    is-within-requires
+    is-within-requires-2
+    is-within-requires-3
+    is-within-requires-4
+    is-within-requires-5
+    is-within-requires-6
+    is-within-requires-7
+    returns)

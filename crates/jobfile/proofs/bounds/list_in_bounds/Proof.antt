@@ -1,0 +1,85 @@
+-- `jobfile::bounds::list_in_bounds` meets its contract: the answer is that of the lines from i on.
+use Prim.Native.Nat.{_-_}
+use mathlib.Core.Path.{sym, _∙_, ap}
+use native.Mathlib.Omega.{arith}
+use lib.ListN.{length-map, take}
+use borrow.Author.Needs.{needs}
+use borrow.Author.Tests.{not-true, not-false}
+use Rattle.rules.specs.Lists.{allOf}
+use Rattle.rules.specs.Refusals.{lineInBounds}
+use Rattle.jobfile.proofs.Left.{left-all, AllFrom, all-hold, all-fails, all-more}
+use Rattle.jobfile.proofs.Ranges.{Sized, noLine, list-many, list-empty, list-tested}
+use Rattle.jobfile.proofs.bounds.list_in_bounds.Statement.{statement}
+use Rattle.jobfile.proofs.bounds.list_in_bounds.Tie as tie
+
+abbrev Inv-loop : tie.InvT-loop
+Inv-loop job count i₀ i = AllFrom lineInBounds count (job .lines) (allOf lineInBounds (take count (job .lines))) i
+
+abbrev μ-loop : tie.MeasureT-loop
+μ-loop job count i₀ i = count - i
+
+-- the arrays' room
+sized : (c : tie.Start Inv-loop μ-loop) → Sized (c .args .t1)
+sized c = record { stock = simp length-map at (c .good .0 .1 .1 .1 .1 .1 .0 .1 .0 .1); lines = simp length-map at (c .good .0 .1 .1 .1 .1 .1 .1 .1 .0 .1 .0 .1) }
+
+returns : tie.Need-returns Inv-loop μ-loop
+returns c = sym (list-many (c .before .args .t1) (sized (c .before)) (c .if1 .taken))
+
+returns-2 : tie.Need-returns-2 Inv-loop μ-loop
+returns-2 c = sym (list-empty (c .before .before .args .t1) (sized (c .before .before)) (c .if2 .taken))
+
+loop-holds : tie.Need-loop-holds Inv-loop μ-loop
+loop-holds c = let job = c .before .before .args .t1 in ap (allOf lineInBounds) (left-all (job .orders) (job .lines))
+
+mul-line : tie.Need-mul-line Inv-loop μ-loop
+mul-line c = omega arith
+
+element-copy-out-line : tie.Need-element-copy-out-line Inv-loop μ-loop
+element-copy-out-line c = omega arith
+
+line-in-bounds-requires : tie.Need-line-in-bounds-requires Inv-loop μ-loop
+line-in-bounds-requires c κs = search needs
+
+returns-3 : tie.Need-returns-3 Inv-loop μ-loop
+returns-3 c = let x = c .before .before .before .before .before .before .before in
+    let job = x .args .t1 in
+    let l = c .before .before .before .before .loop in
+    let r = c .before .line-in-bounds in
+    sym (list-tested job (sized x) (c .before .before .before .before .before .if2 .left) (c .before .before .before .before .before .before .if1 .left) ∙ all-fails lineInBounds (job .orders) (job .lines) (allOf lineInBounds (take (job .orders) (job .lines))) (l .i) noLine (c .before .before .before .loop-test .taken) (omega (arith, sized x .lines)) (l .inv) (sym (r .ensures) ∙ not-true (r .result) (c .if3 .taken)))
+
+add-i : tie.Need-add-i Inv-loop μ-loop
+add-i c = omega arith
+
+loop-less : tie.Need-loop-less Inv-loop μ-loop
+loop-less c = omega arith
+
+loop-again : tie.Need-loop-again Inv-loop μ-loop
+loop-again c = let x = c .before .before .before .before .before .before .before in
+    let job = x .args .t1 in
+    let l = c .before .before .before .before .loop in
+    let r = c .before .line-in-bounds in
+    all-more lineInBounds (job .orders) (job .lines) (allOf lineInBounds (take (job .orders) (job .lines))) (l .i) noLine (c .before .before .before .loop-test .taken) (omega (arith, sized x .lines)) (l .inv) (sym (r .ensures) ∙ not-false (r .result) (c .if3 .left))
+
+returns-4 : tie.Need-returns-4 Inv-loop μ-loop
+returns-4 c = let x = c .before .before .before .before in
+    let job = x .args .t1 in
+    let l = c .before .loop in
+    sym (list-tested job (sized x) (c .before .before .if2 .left) (c .before .before .before .if1 .left) ∙ all-hold lineInBounds (job .orders) (job .lines) (allOf lineInBounds (take (job .orders) (job .lines))) (l .i) (l .inv) (c .loop-test .left))
+
+pub list-in-bounds-spec : {M : Type 1} → statement M
+list-in-bounds-spec =
+    tie.close
+    (tie.spec
+    Inv-loop
+    μ-loop
+    returns
+    returns-2
+    loop-holds
+    mul-line
+    element-copy-out-line
+    line-in-bounds-requires
+    returns-3
+    add-i
+    loop-less
+    loop-again
+    returns-4)

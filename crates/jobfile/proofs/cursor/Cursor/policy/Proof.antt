@@ -1,0 +1,125 @@
+-- `jobfile::cursor::Cursor::policy` meets its contract: the five words are tried in their order.
+use mathlib.Core.List.{[], _∷_, _++_}
+use borrow.Author.Needs.{needs}
+use denote.Ref.{now}
+use Rattle.rules.specs.JobFile.{policyWord, lineFeed, readPolicy, readPolicyAs}
+use Rattle.rules.specs.declared.Policy.the-variants.{Exact, Return, Traversal, Midpoint, Composite}
+use Rattle.jobfile.specs.Places.{stepOf}
+use Rattle.jobfile.proofs.Told.{told}
+use Rattle.jobfile.proofs.cursor.Cursor.policy.Statement.{statement}
+use Rattle.jobfile.proofs.cursor.Cursor.policy.Tie as tie
+
+slice-aggregate-word : tie.Need-slice-aggregate-word
+slice-aggregate-word c = search needs
+
+word-requires : tie.Need-word-requires
+word-requires c κs = search needs
+
+enum-known-next : tie.Need-enum-known-next
+enum-known-next c = search needs
+
+returns : tie.Need-returns
+unfolding readPolicy readPolicyAs
+returns c = let s = now (c .before .before .before .before .before .before .args .s) in rw (readPolicy, readPolicyAs, told (stepOf (policyWord Exact ++ (lineFeed ∷ [])) s) (c .before .before .before .word .ensures) (c .before .next .given .1))
+
+enum-told : tie.Need-enum-told
+enum-told c = search needs
+
+slice-aggregate-word-2 : tie.Need-slice-aggregate-word-2
+slice-aggregate-word-2 c = search needs
+
+word-requires-2 : tie.Need-word-requires-2
+word-requires-2 c κs = search needs
+
+enum-known-next-2 : tie.Need-enum-known-next-2
+enum-known-next-2 c = search needs
+
+returns-2 : tie.Need-returns-2
+unfolding readPolicy readPolicyAs
+returns-2 c = let s = now (c .before .before .before .before .before .before .before .before .before .before .args .s) in rw (readPolicy, readPolicyAs, told (stepOf (policyWord Exact ++ (lineFeed ∷ [])) s) (c .before .before .before .before .before .before .before .word .ensures) (c .before .before .before .before .before .enum-told .given .1), told (stepOf (policyWord Return ++ (lineFeed ∷ [])) s) (c .before .before .before .word2 .ensures) (c .before .next2 .given .1))
+
+enum-told-2 : tie.Need-enum-told-2
+enum-told-2 c = search needs
+
+slice-aggregate-word-3 : tie.Need-slice-aggregate-word-3
+slice-aggregate-word-3 c = search needs
+
+word-requires-3 : tie.Need-word-requires-3
+word-requires-3 c κs = search needs
+
+enum-known-next-3 : tie.Need-enum-known-next-3
+enum-known-next-3 c = search needs
+
+returns-3 : tie.Need-returns-3
+unfolding readPolicy readPolicyAs
+returns-3 c = let s = now (c .before .before .before .before .before .before .before .before .before .before .before .before .before .before .args .s) in rw (readPolicy, readPolicyAs, told (stepOf (policyWord Exact ++ (lineFeed ∷ [])) s) (c .before .before .before .before .before .before .before .before .before .before .before .word .ensures) (c .before .before .before .before .before .before .before .before .before .enum-told .given .1), told (stepOf (policyWord Return ++ (lineFeed ∷ [])) s) (c .before .before .before .before .before .before .before .word2 .ensures) (c .before .before .before .before .before .enum-told2 .given .1), told (stepOf (policyWord Traversal ++ (lineFeed ∷ [])) s) (c .before .before .before .word3 .ensures) (c .before .next3 .given .1))
+
+enum-told-3 : tie.Need-enum-told-3
+enum-told-3 c = search needs
+
+slice-aggregate-word-4 : tie.Need-slice-aggregate-word-4
+slice-aggregate-word-4 c = search needs
+
+word-requires-4 : tie.Need-word-requires-4
+word-requires-4 c κs = search needs
+
+enum-known-next-4 : tie.Need-enum-known-next-4
+enum-known-next-4 c = search needs
+
+returns-4 : tie.Need-returns-4
+unfolding readPolicy readPolicyAs
+returns-4 c = let s = now (c .before .before .before .before .before .before .before .before .before .before .before .before .before .before .before .before .before .before .args .s) in rw (readPolicy, readPolicyAs, told (stepOf (policyWord Exact ++ (lineFeed ∷ [])) s) (c .before .before .before .before .before .before .before .before .before .before .before .before .before .before .before .word .ensures) (c .before .before .before .before .before .before .before .before .before .before .before .before .before .enum-told .given .1), told (stepOf (policyWord Return ++ (lineFeed ∷ [])) s) (c .before .before .before .before .before .before .before .before .before .before .before .word2 .ensures) (c .before .before .before .before .before .before .before .before .before .enum-told2 .given .1), told (stepOf (policyWord Traversal ++ (lineFeed ∷ [])) s) (c .before .before .before .before .before .before .before .word3 .ensures) (c .before .before .before .before .before .enum-told3 .given .1), told (stepOf (policyWord Midpoint ++ (lineFeed ∷ [])) s) (c .before .before .before .word4 .ensures) (c .before .next4 .given .1))
+
+enum-told-4 : tie.Need-enum-told-4
+enum-told-4 c = search needs
+
+slice-aggregate-word-5 : tie.Need-slice-aggregate-word-5
+slice-aggregate-word-5 c = search needs
+
+word-requires-5 : tie.Need-word-requires-5
+word-requires-5 c κs = search needs
+
+enum-known-next-5 : tie.Need-enum-known-next-5
+enum-known-next-5 c = search needs
+
+returns-5 : tie.Need-returns-5
+unfolding readPolicy readPolicyAs
+returns-5 c = let s = now (c .before .before .before .before .before .before .before .before .before .before .before .before .before .before .before .before .before .before .before .before .before .before .args .s) in rw (readPolicy, readPolicyAs, told (stepOf (policyWord Exact ++ (lineFeed ∷ [])) s) (c .before .before .before .before .before .before .before .before .before .before .before .before .before .before .before .before .before .before .before .word .ensures) (c .before .before .before .before .before .before .before .before .before .before .before .before .before .before .before .before .before .enum-told .given .1), told (stepOf (policyWord Return ++ (lineFeed ∷ [])) s) (c .before .before .before .before .before .before .before .before .before .before .before .before .before .before .before .word2 .ensures) (c .before .before .before .before .before .before .before .before .before .before .before .before .before .enum-told2 .given .1), told (stepOf (policyWord Traversal ++ (lineFeed ∷ [])) s) (c .before .before .before .before .before .before .before .before .before .before .before .word3 .ensures) (c .before .before .before .before .before .before .before .before .before .enum-told3 .given .1), told (stepOf (policyWord Midpoint ++ (lineFeed ∷ [])) s) (c .before .before .before .before .before .before .before .word4 .ensures) (c .before .before .before .before .before .enum-told4 .given .1), told (stepOf (policyWord Composite ++ (lineFeed ∷ [])) s) (c .before .before .before .word5 .ensures) (c .before .next5 .given .1))
+
+enum-told-5 : tie.Need-enum-told-5
+enum-told-5 c = search needs
+
+returns-6 : tie.Need-returns-6
+unfolding readPolicy readPolicyAs
+returns-6 c = let s = now (c .before .before .before .before .before .before .before .before .before .before .before .before .before .before .before .before .before .before .before .before .before .args .s) in rw (readPolicy, readPolicyAs, told (stepOf (policyWord Exact ++ (lineFeed ∷ [])) s) (c .before .before .before .before .before .before .before .before .before .before .before .before .before .before .before .before .before .before .word .ensures) (c .before .before .before .before .before .before .before .before .before .before .before .before .before .before .before .before .enum-told .given .1), told (stepOf (policyWord Return ++ (lineFeed ∷ [])) s) (c .before .before .before .before .before .before .before .before .before .before .before .before .before .before .word2 .ensures) (c .before .before .before .before .before .before .before .before .before .before .before .before .enum-told2 .given .1), told (stepOf (policyWord Traversal ++ (lineFeed ∷ [])) s) (c .before .before .before .before .before .before .before .before .before .before .word3 .ensures) (c .before .before .before .before .before .before .before .before .enum-told3 .given .1), told (stepOf (policyWord Midpoint ++ (lineFeed ∷ [])) s) (c .before .before .before .before .before .before .word4 .ensures) (c .before .before .before .before .enum-told4 .given .1), told (stepOf (policyWord Composite ++ (lineFeed ∷ [])) s) (c .before .before .word5 .ensures) (c .enum-told5 .given .1))
+
+pub policy-spec : {M : Type 1} → statement M
+policy-spec =
+    tie.close
+    (tie.spec
+    slice-aggregate-word
+    word-requires
+    enum-known-next
+    returns
+    enum-told
+    slice-aggregate-word-2
+    word-requires-2
+    enum-known-next-2
+    returns-2
+    enum-told-2
+    slice-aggregate-word-3
+    word-requires-3
+    enum-known-next-3
+    returns-3
+    enum-told-3
+    slice-aggregate-word-4
+    word-requires-4
+    enum-known-next-4
+    returns-4
+    enum-told-4
+    slice-aggregate-word-5
+    word-requires-5
+    enum-known-next-5
+    returns-5
+    enum-told-5
+    returns-6)

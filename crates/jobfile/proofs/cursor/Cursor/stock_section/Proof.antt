@@ -1,0 +1,43 @@
+-- `jobfile::cursor::Cursor::stock_section` meets its contract: the count, then its lines.
+use borrow.Author.Needs.{needs}
+use denote.Ref.{now}
+use Rattle.rules.specs.JobFile.{readSection}
+use Rattle.jobfile.specs.Places.{fieldOf}
+use Rattle.jobfile.proofs.Told.{told}
+use Rattle.jobfile.proofs.cursor.Cursor.stock_section.Statement.{statement}
+use Rattle.jobfile.proofs.cursor.Cursor.stock_section.Tie as tie
+
+header-requires : tie.Need-header-requires
+header-requires c κs = search needs
+
+enum-known-count : tie.Need-enum-known-count
+enum-known-count c = search needs
+
+enum-told : tie.Need-enum-told
+enum-told c = search needs
+
+no-record-requires : tie.Need-no-record-requires
+no-record-requires c κs = search needs
+
+returns : tie.Need-returns
+unfolding readSection
+returns c = let s = now (c .before .before .before .before .before .args .s) in rw (readSection, told (fieldOf s) (c .before .before .before .header .ensures) (c .before .enum-told .given .1))
+
+stock-records-requires : tie.Need-stock-records-requires
+stock-records-requires c κs = search needs
+
+returns-2 : tie.Need-returns-2
+unfolding readSection
+returns-2 c = let s = now (c .before .before .before .before .before .before .args .s) in rw (readSection, told (fieldOf s) (c .before .before .before .before .header .ensures) (c .before .before .count .given .1)) (c .stock-records .ensures)
+
+pub stock-section-spec : {M : Type 1} → statement M
+stock-section-spec =
+    tie.close
+    (tie.spec
+    header-requires
+    enum-known-count
+    enum-told
+    no-record-requires
+    returns
+    stock-records-requires
+    returns-2)

@@ -1,0 +1,4 @@
+pub mod Places
+pub mod Ready
+pub mod Kept
+pub mod Answer

@@ -1,0 +1,91 @@
+// The bounds of the store: the refusals 2, 3 and 5.
+use rules::Layout;
+use rules::OrderLine;
+use rules::StockRecord;
+use values::JobValue;
+ghost use mathlib.Core.Path.{_≡_};
+ghost use mathlib.Core.Bool.{_&&_};
+ghost use lib.Dec.{leb};
+ghost use Rattle.rules.specs.Store.{within, layoutInBounds};
+ghost use Rattle.rules.specs.Refusals.{recordInBounds, stockInBounds, lineInBounds, listInBounds};
+ghost use Rattle.values.specs.Values.{jobOf};
+ghost use Rattle.jobfile.specs.Ready.{storeOnly};
+
+// A number from a to b.
+pub fn is_within(a: usize, b: usize, n: usize) -> bool
+    ensures { λ r. ⌜ r ≡ within a b n ⌝ }
+{
+    (a <= n) & (n <= b)
+}
+
+// The numbers of the layout.
+pub fn layout_in_bounds(z: Layout) -> bool
+    ensures { λ r. ⌜ r ≡ layoutInBounds z ⌝ }
+{
+    is_within(1, 16, z.aisles)
+        & is_within(1, 24, z.cells)
+        & is_within(1, 60, z.front)
+        & is_within(1, 30, z.pitch)
+        & is_within(1, 60, z.back)
+        & is_within(1, 400, z.width)
+        & is_within(1, z.aisles, z.depot)
+}
+
+// The fields of a stock record in a store.
+pub fn record_in_bounds(z: Layout, row: StockRecord) -> bool
+    ensures { λ r. ⌜ r ≡ recordInBounds (storeOnly z) row ⌝ }
+{
+    is_within(1, z.aisles, row.aisle)
+        & is_within(1, z.cells, row.cell)
+        & is_within(1, 65535, row.article)
+        & is_within(1, 255, row.quantity)
+}
+
+// The number and the fields of the stock records.
+pub fn stock_in_bounds(job: JobValue) -> bool
+    ensures { λ r. ⌜ r ≡ leb (job .records) 384 && stockInBounds (jobOf job) ⌝ }
+{
+    let records = job.records;
+    if 384 < records {
+        return false;
+    }
+    let z = job.layout;
+    let mut i = 0;
+    while i < records {
+        let row = job.stock[i];
+        if !record_in_bounds(z, row) {
+            return false;
+        }
+        i += 1;
+    }
+    true
+}
+
+// The fields of an order line.
+pub fn line_in_bounds(line: OrderLine) -> bool
+    ensures { λ r. ⌜ r ≡ lineInBounds line ⌝ }
+{
+    is_within(1, 65535, line.article) & is_within(1, 255, line.quantity)
+}
+
+// The number and the fields of the order lines.
+pub fn list_in_bounds(job: JobValue) -> bool
+    ensures { λ r. ⌜ r ≡ leb (job .orders) 8 && listInBounds (jobOf job) ⌝ }
+{
+    let count = job.orders;
+    if 8 < count {
+        return false;
+    }
+    if count < 1 {
+        return false;
+    }
+    let mut i = 0;
+    while i < count {
+        let line = job.lines[i];
+        if !line_in_bounds(line) {
+            return false;
+        }
+        i += 1;
+    }
+    true
+}

@@ -1,0 +1,71 @@
+// Reading a job: job bytes to the job by value, or to the first refusal that applies.
+mod amounts;
+mod bounds;
+mod cursor;
+mod lines;
+mod raw;
+mod sections;
+mod twice;
+
+use rules::Refusal;
+use values::JobValue;
+ghost use mathlib.Core.Path.{_≡_};
+ghost use Rattle.rules.specs.Refusals.{checkBytes};
+ghost use Rattle.values.specs.Values.{Sound};
+ghost use Rattle.jobfile.specs.Answer.{Decides, checkedOf};
+
+// What becomes of a job: no refusal applies to it, or the first that does.
+pub enum Verdict {
+    Admitted,
+    Refused(Refusal),
+}
+
+// The answer to job bytes. If the job is admitted, it is that of the bytes; if it is refused, nothing is said of `job`.
+pub struct ReadJob {
+    pub verdict: Verdict,
+    pub job: JobValue,
+}
+
+// The first refusal that applies to a job, in the order of the table.
+fn verdict_on(job: JobValue) -> Verdict
+    ensures { λ r. ⌜ Decides job r ⌝ }
+{
+    let z = job.layout;
+    if !bounds::layout_in_bounds(z) {
+        return Verdict::Refused(Refusal::LayoutBounds);
+    }
+    if !bounds::stock_in_bounds(job) {
+        return Verdict::Refused(Refusal::StockBounds);
+    }
+    if twice::cell_twice(job) {
+        return Verdict::Refused(Refusal::CellTwice);
+    }
+    if !bounds::list_in_bounds(job) {
+        return Verdict::Refused(Refusal::ListBounds);
+    }
+    if twice::article_twice(job) {
+        return Verdict::Refused(Refusal::ArticleTwice);
+    }
+    if amounts::too_heavy(job) {
+        return Verdict::Refused(Refusal::TooHeavy);
+    }
+    if amounts::short_of_stock(job) {
+        return Verdict::Refused(Refusal::ShortOfStock);
+    }
+    Verdict::Admitted
+}
+
+// The bytes of a job file: the job by value if no refusal applies to it, or else the first refusal of 1 to 8.
+pub fn read_job(bytes: &[u8]) -> ReadJob
+    ensures { λ r. ⌜ checkedOf r ≡ checkBytes (now (bytes .entry)) ⌝ }
+    ensures { λ r. ⌜ (r .verdict ≡ Verdict.Admitted → Sound (r .job)) ⌝ }
+{
+    let raw = raw::read_raw(bytes);
+    let job = raw.job;
+    if !raw.ok {
+        let verdict = Verdict::Refused(Refusal::NotAJobFile);
+        return ReadJob { verdict, job };
+    }
+    let verdict = verdict_on(job);
+    ReadJob { verdict, job }
+}

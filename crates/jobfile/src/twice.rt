@@ -1,0 +1,67 @@
+// A cell in two stock records and an article on two lines: the refusals 4 and 6.
+use rules::OrderLine;
+use values::JobValue;
+ghost use mathlib.Core.Path.{_≡_};
+ghost use Prim.Native.Nat.{_-_, _≤_};
+ghost use lib.ListN.{take, drop};
+ghost use Rattle.rules.specs.Lists.{anyOf, anyTwo};
+ghost use Rattle.rules.specs.Refusals.{sameCell, sameArticle};
+ghost use Rattle.values.specs.Values.{jobOf};
+ghost use Rattle.jobfile.specs.Ready.{StockReady, ListReady};
+
+// Whether a cell stands in two records: each aisle's cells are bits of a u32, tested and set as the records are read.
+pub fn cell_twice(job: JobValue) -> bool
+    requires { ⌜ StockReady job ⌝ }
+    ensures { λ r. ⌜ r ≡ anyTwo sameCell (jobOf job .stock) ⌝ }
+{
+    let records = job.records;
+    let mut seen = [0u32; 16];
+    let mut i = 0;
+    while i < records {
+        let row = job.stock[i];
+        let aisle = row.aisle - 1;
+        let cell = row.cell - 1;
+        let cells = seen[aisle];
+        if (cells >> cell) & 1 == 1 {
+            return true;
+        }
+        seen[aisle] = cells | (1 << cell);
+        i += 1;
+    }
+    false
+}
+
+// Whether the article of a line stands on one of the lines from a place on, of the first count.
+fn article_from(lines: [OrderLine; 8], count: usize, from: usize, line: OrderLine) -> bool
+    requires { ⌜ count ≤ 8 ⌝ }
+    ensures { λ r. ⌜ r ≡ anyOf (sameArticle line) (take (count - from) (drop from lines)) ⌝ }
+{
+    let article = line.article;
+    let mut i = from;
+    while i < count {
+        let other = lines[i];
+        if article == other.article {
+            return true;
+        }
+        i += 1;
+    }
+    false
+}
+
+// Whether an article stands on two lines.
+pub fn article_twice(job: JobValue) -> bool
+    requires { ⌜ ListReady job ⌝ }
+    ensures { λ r. ⌜ r ≡ anyTwo sameArticle (jobOf job .lines) ⌝ }
+{
+    let count = job.orders;
+    let lines = job.lines;
+    let mut i = 0;
+    while i < count {
+        let line = lines[i];
+        if article_from(lines, count, i + 1, line) {
+            return true;
+        }
+        i += 1;
+    }
+    false
+}
