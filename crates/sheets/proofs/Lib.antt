@@ -1,0 +1,2 @@
+-- Laws of the sheet and its writers.
+pub mod Writing

@@ -1,0 +1,95 @@
+-- Writers one behind the other: what each hands to the next, and what they have written together.
+use Prim.Native.Nat.{ℕ, zero, suc, _+_, _-_, _≤_, _<_}
+use native.Mathlib.Omega.{arith}
+use native.Mathlib.Numerals.{add-one}
+use mathlib.Core.Path.{_≡_, refl, sym, ap, _∙_}
+use mathlib.Core.List.{List, [], _∷_, _++_, append-assoc, append-nil}
+use lib.ListN.{length, take, drop, getD, set, length-append, length-drop, drop-of-length-le, take-append-drop}
+use lib.Seq.{take-all, take-suc, drop-cons, drop-drop, append-snoc, take-append-seam, drop-append-seam, set-append-seam}
+use borrow.Rule.Slice.PartMut.{putMid, midOf}
+use Rattle.rules.specs.Lists.{concatOf}
+use Rattle.sheets.specs.Written.{Written}
+
+-- what is lent on behind a text
+mid-append : (t d : List ℕ) → midOf (length t) (length (t ++ d) - length t) (t ++ d) ≡ d
+mid-append t d = rw (drop-append-seam t d) (take-all (length (t ++ d) - length t) d (rw length-append (omega arith)))
+
+-- the whole when that comes back
+put-append : (t d l : List ℕ) → putMid (length t) (length (t ++ d) - length t) (t ++ d) l ≡ t ++ l
+put-append t d l =
+    rw (drop-append-seam t d, take-append-seam t d, drop-of-length-le d {i = length (t ++ d) - length t} (rw length-append (omega arith))) (ap (λ (k : List ℕ). t ++ k) (append-nil l))
+
+-- there is room for a text where there is room for more
+pub first-room : (t u : List ℕ) {n : ℕ} → length (t ++ u) ≤ n → length t ≤ n
+first-room t u h = omega (arith, length-append t u)
+
+-- nothing is written yet
+pub nothing-written : (b : List ℕ) → Written [] b b 0
+nothing-written b = record { count = refl; bytes = refl }
+
+module _ {t b m : List ℕ} {r : ℕ} (w : Written t b m r) where
+  -- the space keeps its length
+  pub written-length : length t ≤ length b → length m ≡ length b
+  written-length h = rw (w .bytes, length-append, length-drop) (omega arith)
+
+  -- the text ends within the space
+  pub written-within : length t ≤ length b → r ≤ length m
+  written-within h = rw (written-length h, w .count) h
+
+  -- the rest of the space
+  pub rest-of : length t ≤ length b → midOf r (length m - r) m ≡ drop (length t) b
+  rest-of h = rw (w .count, w .bytes) (mid-append t (drop (length t) b))
+
+  -- there is room for another text in the rest of the space
+  pub rest-room : (u : List ℕ) → length (t ++ u) ≤ length b → length u ≤ length (midOf r (length m - r) m)
+  rest-room u h =
+      let k : length t + length u ≤ length b = rw length-append at h in
+      rw (rest-of (omega arith), length-drop) (omega arith)
+
+  -- another text, written into the rest of the space
+  pub written-rest : (u : List ℕ) {l : List ℕ} {s : ℕ} → length (t ++ u) ≤ length b → Written u (midOf r (length m - r) m) l s → Written (t ++ u) b (putMid r (length m - r) m l) (r + s)
+  written-rest u {l} {s} h v =
+      let k : length t + length u ≤ length b = rw length-append at h in
+      let e : l ≡ u ++ drop (length t + length u) b = v .bytes ∙ rw (rest-of (omega arith), drop-drop) in
+      record {
+        count = rw (length-append, w .count, v .count);
+        bytes = rw (w .count, w .bytes, put-append t (drop (length t) b) l, e, length-append, append-assoc);
+      }
+
+  -- there is room for another byte
+  pub byte-room : length t < length b → r < length m
+  byte-room h = rw (written-length (omega arith), w .count) h
+
+  -- another byte behind the text
+  pub written-byte : (e : ℕ) → length t < length b → Written (t ++ (e ∷ [])) b (set m r e) (r + 1)
+  written-byte e h =
+      record {
+        count = rw (length-append, w .count);
+        bytes = rw (w .count, w .bytes, drop-cons b (length t) 0 h, set-append-seam, length-append, add-one, append-assoc);
+      }
+
+-- texts of a list's elements, one behind the other: what a loop over the list has written
+module _ {A : Type 0} (f : A → List ℕ) (xs : List A) where
+  concat-append : (ys zs : List A) → concatOf f (ys ++ zs) ≡ concatOf f ys ++ concatOf f zs
+  concat-append [] zs = refl
+  concat-append (y ∷ ys) zs = rw (concat-append ys zs, append-assoc)
+
+  -- the texts of the first i, and of the others
+  pub texts-split : (h : List ℕ) (i : ℕ) → h ++ concatOf f xs ≡ (h ++ concatOf f (take i xs)) ++ concatOf f (drop i xs)
+  texts-split h i = ap (λ (l : List A). h ++ concatOf f l) (sym (take-append-drop i xs)) ∙ rw (concat-append, append-assoc)
+
+  -- one text more
+  pub texts-more : (h : List ℕ) (i : ℕ) (d : A) → i < length xs → h ++ concatOf f (take (suc i) xs) ≡ (h ++ concatOf f (take i xs)) ++ f (getD xs i d)
+  texts-more h i d l = rw (take-suc xs i d l, concat-append, append-nil, append-assoc)
+
+  -- the first i texts are no longer than all of them
+  pub texts-below : (h : List ℕ) (i : ℕ) → length (h ++ concatOf f (take i xs)) ≤ length (h ++ concatOf f xs)
+  texts-below h i = omega (arith, ap length (texts-split h i), length-append (h ++ concatOf f (take i xs)) (concatOf f (drop i xs)))
+
+  -- and so with the next one
+  pub texts-next : (h : List ℕ) (i : ℕ) (d : A) → i < length xs → length ((h ++ concatOf f (take i xs)) ++ f (getD xs i d)) ≤ length (h ++ concatOf f xs)
+  texts-next h i d l = rw (← texts-more h i d l) (texts-below h (suc i))
+
+  -- all texts
+  pub texts-all : (h : List ℕ) (i : ℕ) → length xs ≤ i → h ++ concatOf f (take i xs) ≡ h ++ concatOf f xs
+  texts-all h i l = rw (take-all i xs l)

@@ -1,0 +1,2 @@
+-- What the contracts of the sheet's writers are stated with.
+pub mod Written

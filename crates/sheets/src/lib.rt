@@ -1,0 +1,2 @@
+// The sheet: what is picked, and the text of a plan, written into lent space section by section.
+pub mod text;
