@@ -1,2 +1,4 @@
 -- Laws of the sheet and its writers.
+pub mod LineTexts
+pub mod Sizes
 pub mod Writing

@@ -2,7 +2,7 @@
 use Prim.Native.Nat.{ℕ, zero, suc, _+_, _-_, _≤_, _<_}
 use native.Mathlib.Omega.{arith}
 use native.Mathlib.Numerals.{add-one}
-use mathlib.Core.Path.{_≡_, refl, sym, ap, _∙_}
+use mathlib.Core.Path.{_≡_, refl, sym, ap, subst, _∙_}
 use mathlib.Core.List.{List, [], _∷_, _++_, append-assoc, append-nil}
 use lib.ListN.{length, take, drop, getD, set, length-append, length-drop, drop-of-length-le, take-append-drop}
 use lib.Seq.{take-all, take-suc, drop-cons, drop-drop, append-snoc, take-append-seam, drop-append-seam, set-append-seam}
@@ -22,6 +22,10 @@ put-append t d l =
 -- there is room for a text where there is room for more
 pub first-room : (t u : List ℕ) {n : ℕ} → length (t ++ u) ≤ n → length t ≤ n
 first-room t u h = omega (arith, length-append t u)
+
+-- the same text
+pub written-as : {t u b m : List ℕ} {r : ℕ} → t ≡ u → Written t b m r → Written u b m r
+written-as {b = b} {m = m} {r = r} e w = subst (λ (l : List ℕ). Written l b m r) e w
 
 -- nothing is written yet
 pub nothing-written : (b : List ℕ) → Written [] b b 0

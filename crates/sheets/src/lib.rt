@@ -1,2 +1,3 @@
 // The sheet: what is picked, and the text of a plan, written into lent space section by section.
+pub mod lines;
 pub mod text;

@@ -4,7 +4,7 @@ ghost use Prim.Native.Nat.{_≤_};
 ghost use mathlib.Core.List.{_++_};
 ghost use lib.ListN.{length};
 ghost use Rattle.rules.specs.JobFile.{numeral};
-ghost use Rattle.sheets.specs.Written.{Written, numbersText, lineText};
+ghost use Rattle.sheets.specs.Written.{Written, Sized, numbersText, lineText};
 
 // Writes the decimal digits of a number.
 pub fn write_number(sheet: &mut [u8], n: usize) -> usize
@@ -18,6 +18,19 @@ pub fn write_number(sheet: &mut [u8], n: usize) -> usize
     let at = write_number(sheet, n / 10);
     sheet[at] = 48 + (n % 10) as u8;
     at + 1
+}
+
+// How many digits a number has.
+pub fn number_size(n: usize) -> usize
+    ensures { λ r. ⌜ Sized (numeral n) 20 r ⌝ }
+{
+    let mut size = 1;
+    let mut rest = n;
+    while rest >= 10 {
+        rest = rest / 10;
+        size += 1;
+    }
+    size
 }
 
 // Writes a word byte for byte.
