@@ -1,11 +1,12 @@
 -- Writers one behind the other: what each hands to the next, and what they have written together.
 use Prim.Native.Nat.{ℕ, zero, suc, _+_, _-_, _≤_, _<_}
 use native.Mathlib.Omega.{arith}
+use native.Mathlib.Nat.{le-trans}
 use native.Mathlib.Numerals.{add-one}
 use mathlib.Core.Path.{_≡_, refl, sym, ap, subst, _∙_}
 use mathlib.Core.List.{List, [], _∷_, _++_, append-assoc, append-nil}
 use lib.ListN.{length, take, drop, getD, set, length-append, length-drop, drop-of-length-le, take-append-drop}
-use lib.Seq.{take-all, take-suc, drop-cons, drop-drop, append-snoc, take-append-seam, drop-append-seam, set-append-seam}
+use lib.Seq.{take-all, take-take, take-suc, drop-cons, drop-drop, append-snoc, take-append-seam, drop-append-seam, set-append-seam}
 use borrow.Rule.Slice.PartMut.{putMid, midOf}
 use Rattle.rules.specs.Lists.{concatOf}
 use Rattle.sheets.specs.Written.{Written}
@@ -60,6 +61,22 @@ module _ {t b m : List ℕ} {r : ℕ} (w : Written t b m r) where
         bytes = rw (w .count, w .bytes, put-append t (drop (length t) b) l, e, length-append, append-assoc);
       }
 
+  -- the space behind the text
+  drop-written : drop (length t) m ≡ drop (length t) b
+  drop-written = rw (w .bytes, drop-append-seam)
+
+  -- what has been written may count as the space at the start
+  pub written-settled : Written t m m r
+  written-settled = record { count = w .count; bytes = rw drop-written (w .bytes) }
+
+  -- more text, written over what has been written
+  pub written-on : (u : List ℕ) {l : List ℕ} {s : ℕ} → Written (t ++ u) m l s → Written (t ++ u) b l s
+  written-on u {l} {s} v =
+      record {
+        count = v .count;
+        bytes = v .bytes ∙ rw (length-append, ← drop-drop (length u) (length t) m, drop-written, drop-drop);
+      }
+
   -- there is room for another byte
   pub byte-room : length t < length b → r < length m
   byte-room h = rw (written-length (omega arith), w .count) h
@@ -97,3 +114,59 @@ module _ {A : Type 0} (f : A → List ℕ) (xs : List A) where
   -- all texts
   pub texts-all : (h : List ℕ) (i : ℕ) → length xs ≤ i → h ++ concatOf f (take i xs) ≡ h ++ concatOf f xs
   texts-all h i l = rw (take-all i xs l)
+
+-- a loop over the first n elements of a list, whose texts go behind the text h: the first i are written
+pub record SoFar {A : Type 0} (f : A → List ℕ) (xs : List A) (h : List ℕ) (n : ℕ) (b m : List ℕ) (at i : ℕ) : Type 0 where
+  pub upto : i ≤ n
+  pub enough : n ≤ length xs
+  pub room : length (h ++ concatOf f (take n xs)) ≤ length b
+  pub written : Written (h ++ concatOf f (take i xs)) b m at
+
+-- before the first turn only h is written
+pub none-so-far : {A : Type 0} (f : A → List ℕ) (xs : List A) (n : ℕ) {h b m : List ℕ} {r : ℕ} → n ≤ length xs → length (h ++ concatOf f (take n xs)) ≤ length b → Written h b m r → SoFar f xs h n m m r 0
+none-so-far f xs n {h} {b} {m} {r} l room w =
+    record {
+      upto = omega arith;
+      enough = l;
+      room = rw (written-length w (first-room h (concatOf f (take n xs)) room)) room;
+      written = rw append-nil (written-settled w);
+    }
+
+-- after the last turn all is written
+pub all-so-far : {A : Type 0} {f : A → List ℕ} {xs : List A} {h b m l : List ℕ} {n r at i : ℕ} → Written h b m r → SoFar f xs h n m l at i → n ≤ i → Written (h ++ concatOf f (take n xs)) b l at
+all-so-far {f = f} {xs = xs} {h = h} {m = m} {l = l} {n = n} {at = at} {i = i} w s e =
+    let same : i ≡ n = omega (arith, s .upto) in
+    written-on w (concatOf f (take n xs)) (subst (λ (k : ℕ). Written (h ++ concatOf f (take k xs)) m l at) same (s .written))
+
+module _ {A : Type 0} {f : A → List ℕ} {xs : List A} {h : List ℕ} {n : ℕ} {b m : List ℕ} {at i : ℕ} (s : SoFar f xs h n b m at i) where
+  texts-room : (k : ℕ) → k ≤ n → length (h ++ concatOf f (take k xs)) ≤ length b
+  texts-room k l = le-trans (rw (take-take k n xs l) at (texts-below f (take n xs) h k)) (s .room)
+
+  -- what is written ends within the space
+  pub so-far-within : at ≤ length m
+  so-far-within = written-within (s .written) (texts-room i (s .upto))
+
+  -- the space keeps its length
+  pub so-far-length : length m ≡ length b
+  so-far-length = written-length (s .written) (texts-room i (s .upto))
+
+  next-room : (d : A) → i < n → length ((h ++ concatOf f (take i xs)) ++ f (getD xs i d)) ≤ length b
+  next-room d l = rw (← texts-more f xs h i d (omega (arith, s .enough))) (texts-room (suc i) l)
+
+  -- the next text has room
+  pub turn-room : (d : A) → i < n → length (f (getD xs i d)) ≤ length (midOf at (length m - at) m)
+  turn-room d l = rest-room (s .written) (f (getD xs i d)) (next-room d l)
+
+  -- the next text ends within the space
+  pub turn-within : (d : A) → i < n → {k : List ℕ} {r : ℕ} → Written (f (getD xs i d)) (midOf at (length m - at) m) k r → at + r ≤ length b
+  turn-within d l v = rw (written-rest (s .written) (f (getD xs i d)) (next-room d l) v .count) (next-room d l)
+
+  -- and then one more is written
+  pub turn-written : (d : A) → i < n → {k : List ℕ} {r : ℕ} → Written (f (getD xs i d)) (midOf at (length m - at) m) k r → SoFar f xs h n b (putMid at (length m - at) m k) (at + r) (i + 1)
+  turn-written d l v =
+      record {
+        upto = omega arith;
+        enough = s .enough;
+        room = s .room;
+        written = rw (add-one i, texts-more f xs h i d (omega (arith, s .enough))) (written-rest (s .written) (f (getD xs i d)) (next-room d l) v);
+      }

@@ -1,3 +1,4 @@
 // The sheet: what is picked, and the text of a plan, written into lent space section by section.
 pub mod lines;
+pub mod sections;
 pub mod text;
