@@ -1,4 +1,5 @@
 -- Laws of the sheet and its writers.
 pub mod LineTexts
+pub mod SectionTexts
 pub mod Sizes
 pub mod Writing

@@ -1,17 +1,16 @@
 -- `sheets::sections::write_picks` meets its contract. The loop's invariant: the first `i` picks are written behind the section's first line.
 use Prim.Native.Nat.{_-_, _≤_}
 use native.Mathlib.Omega.{arith}
-use mathlib.Core.Path.{_≡_, _∙_}
+use mathlib.Core.Path.{_∙_}
 use mathlib.Core.List.{_++_}
 use lib.ListN.{length, take, length-map}
-use lib.Seq.{length-take-le}
 use denote.Ref.{now}
 use borrow.Author.Needs.{needs}
 use Rattle.rules.specs.Lists.{concatOf}
-use Rattle.rules.specs.JobFile.{header, sectionText}
+use Rattle.rules.specs.JobFile.{header}
 use Rattle.rules.specs.Sheet.{letterP, pickText}
-use Rattle.values.specs.Values.{picksOfValue}
 use Rattle.sheets.proofs.Writing.{first-room, SoFar, none-so-far, all-so-far, so-far-within, so-far-length, turn-room, turn-within, turn-written}
+use Rattle.sheets.proofs.SectionTexts.{picks-text}
 use Rattle.sheets.proofs.sections.write_picks.Statement.{statement}
 use Rattle.sheets.proofs.sections.write_picks.Tie as tie
 
@@ -25,13 +24,9 @@ abbrev μ-loop : tie.MeasureT-loop
 enough : (c : tie.Start Inv-loop μ-loop) → c .args .list .count ≤ length (c .args .list .picks)
 enough c = omega (arith, c .pre .0, simp length-map at (c .good .1 .0 .1 .1 .1 .0 .1 .0 .1))
 
--- the section's text
-text : (c : tie.Start Inv-loop μ-loop) → sectionText letterP pickText (picksOfValue (c .args .list)) ≡ header letterP (c .args .list .count) ++ concatOf pickText (take (c .args .list .count) (c .args .list .picks))
-unfolding sectionText picksOfValue
-text c = rw (length-take-le (c .args .list .count) (c .args .list .picks) (enough c))
-
+-- the section has room
 room : (c : tie.Start Inv-loop μ-loop) → length (header letterP (c .args .list .count) ++ concatOf pickText (take (c .args .list .count) (c .args .list .picks))) ≤ length (now (c .args .sheet))
-room c = rw (text c) at (c .pre .1)
+room c = rw (picks-text (c .args .list) (enough c)) at (c .pre .1)
 
 write-header-requires : tie.Need-write-header-requires Inv-loop μ-loop
 write-header-requires c κs =
@@ -71,14 +66,15 @@ loop-less : tie.Need-loop-less Inv-loop μ-loop
 loop-less c = omega arith
 
 loop-again : tie.Need-loop-again Inv-loop μ-loop
-loop-again c =
-    turn-written (c .before .before .before .before .before .before .loop .inv) _ (c .before .before .before .before .before .loop-test .taken) (c .before .before .write-pick .ensures)
+loop-again c = turn-written (c .before .before .before .before .before .before .loop .inv) _ (c .before .before .before .before .before .loop-test .taken) (c .before .before .write-pick .ensures)
 
 same-length : tie.Need-same-length Inv-loop μ-loop
 same-length c = so-far-length (c .before .loop .inv) ∙ c .before .before .before .before .write-header .kept .0
 
 returns : tie.Need-returns Inv-loop μ-loop
-returns c = rw (text (c .before .before .before .before .before .before .before .before)) (all-so-far (c .before .before .before .before .write-header .ensures) (c .before .loop .inv) (c .loop-test .left))
+returns c =
+    let c₀ = c .before .before .before .before .before .before .before .before in
+    rw (picks-text (c₀ .args .list) (enough c₀)) (all-so-far (c .before .before .before .before .write-header .ensures) (c .before .loop .inv) (c .loop-test .left))
 
 pub write-picks-spec : {M : Type 1} → statement M
 write-picks-spec =
