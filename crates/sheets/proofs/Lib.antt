@@ -1,5 +1,6 @@
 -- Laws of the sheet and its writers.
 pub mod LineTexts
 pub mod SectionTexts
+pub mod SheetLaws
 pub mod Sizes
 pub mod Writing

@@ -1,2 +1,3 @@
 -- What the contracts of the sheet's writers are stated with.
+pub mod Parts
 pub mod Written

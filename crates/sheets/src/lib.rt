@@ -1,4 +1,5 @@
 // The sheet: what is picked, and the text of a plan, written into lent space section by section.
 pub mod lines;
 pub mod sections;
+pub mod sheet;
 pub mod text;
