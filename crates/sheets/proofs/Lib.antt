@@ -1,5 +1,7 @@
 -- Laws of the sheet and its writers.
+pub mod Concats
 pub mod LineTexts
+pub mod PassedPlaces
 pub mod SectionTexts
 pub mod SheetLaws
 pub mod Sizes

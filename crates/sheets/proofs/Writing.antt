@@ -10,6 +10,7 @@ use lib.Seq.{take-all, take-take, take-suc, drop-cons, drop-drop, append-snoc, t
 use borrow.Rule.Slice.PartMut.{putMid, midOf}
 use Rattle.rules.specs.Lists.{concatOf}
 use Rattle.sheets.specs.Written.{Written}
+use Rattle.sheets.proofs.Concats.{concat-append}
 
 -- what is lent on behind a text
 mid-append : (t d : List ℕ) → midOf (length t) (length (t ++ d) - length t) (t ++ d) ≡ d
@@ -91,17 +92,13 @@ module _ {t b m : List ℕ} {r : ℕ} (w : Written t b m r) where
 
 -- texts of a list's elements, one behind the other: what a loop over the list has written
 module _ {A : Type 0} (f : A → List ℕ) (xs : List A) where
-  concat-append : (ys zs : List A) → concatOf f (ys ++ zs) ≡ concatOf f ys ++ concatOf f zs
-  concat-append [] zs = refl
-  concat-append (y ∷ ys) zs = rw (concat-append ys zs, append-assoc)
-
   -- the texts of the first i, and of the others
   pub texts-split : (h : List ℕ) (i : ℕ) → h ++ concatOf f xs ≡ (h ++ concatOf f (take i xs)) ++ concatOf f (drop i xs)
-  texts-split h i = ap (λ (l : List A). h ++ concatOf f l) (sym (take-append-drop i xs)) ∙ rw (concat-append, append-assoc)
+  texts-split h i = ap (λ (l : List A). h ++ concatOf f l) (sym (take-append-drop i xs)) ∙ rw (concat-append f, append-assoc)
 
   -- one text more
   pub texts-more : (h : List ℕ) (i : ℕ) (d : A) → i < length xs → h ++ concatOf f (take (suc i) xs) ≡ (h ++ concatOf f (take i xs)) ++ f (getD xs i d)
-  texts-more h i d l = rw (take-suc xs i d l, concat-append, append-nil, append-assoc)
+  texts-more h i d l = rw (take-suc xs i d l, concat-append f, append-nil, append-assoc)
 
   -- the first i texts are no longer than all of them
   pub texts-below : (h : List ℕ) (i : ℕ) → length (h ++ concatOf f (take i xs)) ≤ length (h ++ concatOf f xs)
