@@ -2,6 +2,8 @@
 pub mod Concats
 pub mod LineTexts
 pub mod PassedPlaces
+pub mod PickSteps
+pub mod PickTurns
 pub mod SectionTexts
 pub mod SheetLaws
 pub mod Sizes

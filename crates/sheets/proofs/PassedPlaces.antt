@@ -7,7 +7,8 @@ use mathlib.Core.List.{List, [], _∷_, _++_, map, List·Memᴰ, List·Memᴰ·h
 use mathlib.Core.Bool.{Bool, true, false, cond, _&&_}
 use mathlib.Core.Option.{Option, none, some}
 use lib.Dec.{eqb}
-use lib.ListN.{length, getD, drop}
+use lib.ListN.{length, getD, take, drop, length-take}
+use lib.Seq.{getD-take}
 use borrow.Author.Tests.{eqb-true, eqb-false, eq-eqb, ne-eqb}
 use Rattle.rules.specs.declared.StockRecord.{StockRecord}
 use Rattle.rules.specs.declared.Layout.{Layout}
@@ -16,9 +17,10 @@ use Rattle.rules.specs.Store.{Point}
 use Rattle.rules.specs.Jobs.{Job}
 use Rattle.rules.specs.Plans.{Plan, planPasses}
 use Rattle.rules.specs.Picks.{cellsOf, recordAt, found, passedRecords}
+use Rattle.rules.proofs.Lists.{member-from}
 use Rattle.rules.proofs.Admission.{LayoutWithin, RecordWithin, StockWithin}
 use Rattle.sheets.proofs.Concats.{concat-append, concat-none, concat-agree, concat-map, concat-concat, from-append, concat-shift, concat-wider}
-use Rattle.sheets.specs.Picking.{placeOf, passedBy, numberFrom, numbered, passedFrom}
+use Rattle.sheets.specs.Picking.{placeOf, passedBy, numberFrom, NumbersFrom}
 
 -- a record that is there is found at its place, and nowhere else
 same-place : (r : StockRecord) (i : ℕ) → 1 ≤ r .aisle → 1 ≤ r .cell → r .cell ≤ 24 → (eqb (r .aisle) (i / 24 + 1) && eqb (r .cell) (i % 24 + 1)) ≡ eqb (placeOf r) i
@@ -46,7 +48,25 @@ drop-starts (a ∷ zs) (suc k) d x ys e = drop-starts zs k d x ys e
 abbrev noRecord : StockRecord
 noRecord = record { aisle = 0; cell = 0; article = 0; quantity = 0 }
 
+-- the record with a number counted from 1, as a list; none for 0
+abbrev pub numbered : List StockRecord → ℕ → List StockRecord
+numbered stock zero = []
+numbered stock (suc k) = getD stock k noRecord ∷ []
+
+-- the records by the numbers of their places, from place i on
+unfoldable pub placedFrom : List StockRecord → List ℕ → ℕ → List StockRecord
+placedFrom stock numbers i = concatOf (λ j. numbered stock (getD numbers j 0)) (from i (384 - i))
+
 module _ (passed : StockRecord → Bool) (i : ℕ) where
+  -- a number is that of a record
+  pub number-bound : (k : ℕ) (rs : List StockRecord) → numberFrom passed k rs i ≤ k + length rs
+  number-bound k [] = omega arith
+  number-bound k (r ∷ rs) = go (eqb (placeOf r) i && passed r) (number-bound (suc k) rs)
+    where
+      go : (b : Bool) → numberFrom passed (suc k) rs i ≤ suc k + length rs → cond b (suc k) (numberFrom passed (suc k) rs i) ≤ k + suc (length rs)
+      go true h = omega arith
+      go false h = omega arith
+
   -- no number where the place is not passed
   no-number : (k : ℕ) (rs : List StockRecord) → ((r : StockRecord) → List·Memᴰ r rs → placeOf r ≡ i → passed r ≡ false) → numberFrom passed k rs i ≡ 0
   no-number k [] h = refl
@@ -185,19 +205,35 @@ by-place job plan n k f g z s =
     ∙ ap (λ t. concatOf (λ i. F (cellAt i)) (from 0 t)) g
     ∙ concat-agree (λ i. F (cellAt i)) (λ i. numbered stock (numberFrom (passedBy plan) 0 stock i)) (from 0 k) (λ i _. found-at plan stock (placed job z s) i)
 
+-- the first n records of an array have the same numbers
+numbered-take : (stock : List StockRecord) (n m : ℕ) → m ≤ n → numbered stock m ≡ numbered (take n stock) m
+numbered-take stock n zero l = refl
+numbered-take stock n (suc k) l = rw (getD-take n stock k noRecord l)
+
 -- from the first place on, all passed records
-pub passed-from-start : (job : Job) (plan : Plan) → LayoutWithin (job .layout) → StockWithin job → passedFrom plan (job .stock) 0 ≡ passedRecords job plan
-unfolding passedFrom
-passed-from-start job plan z s = sym (by-place job plan 16 384 refl refl z s)
+pub placed-all : (job : Job) (plan : Plan) (stock : List StockRecord) (n : ℕ) (numbers : List ℕ) → LayoutWithin (job .layout) → StockWithin job → job .stock ≡ take n stock → NumbersFrom (passedBy plan) (job .stock) 0 numbers → placedFrom stock numbers 0 ≡ passedRecords job plan
+unfolding placedFrom
+placed-all job plan stock n numbers z s e h = go 384 refl
+  where
+    at : (j : ℕ) → j < 384 → numbered stock (getD numbers j 0) ≡ numbered (job .stock) (numberFrom (passedBy plan) 0 (job .stock) j)
+    at j l =
+        let m = numberFrom (passedBy plan) 0 (job .stock) j in
+        let b : m ≤ n = omega (arith, number-bound (passedBy plan) j 0 (job .stock), ap length e, length-take n stock) in
+        ap (numbered stock) (h j l) ∙ numbered-take stock n m b ∙ ap (λ (t : List StockRecord). numbered t m) (sym e)
+
+    go : (k : ℕ) → k ≡ 384 → concatOf (λ j. numbered stock (getD numbers j 0)) (from 0 k) ≡ passedRecords job plan
+    go k q =
+        concat-agree (λ j. numbered stock (getD numbers j 0)) (λ j. numbered (job .stock) (numberFrom (passedBy plan) 0 (job .stock) j)) (from 0 k) (λ j m. at j (omega (arith, member-from 0 k m)))
+        ∙ sym (by-place job plan 16 k refl (sym q) z s)
 
 -- from a place on: the record of the place, and those behind it
-pub passed-from-next : (plan : Plan) (stock : List StockRecord) (i : ℕ) → i < 384 → passedFrom plan stock i ≡ numbered stock (numberFrom (passedBy plan) 0 stock i) ++ passedFrom plan stock (i + 1)
-unfolding passedFrom
-passed-from-next plan stock i l =
+pub placed-next : (stock : List StockRecord) (numbers : List ℕ) (i : ℕ) → i < 384 → placedFrom stock numbers i ≡ numbered stock (getD numbers i 0) ++ placedFrom stock numbers (i + 1)
+unfolding placedFrom
+placed-next stock numbers i l =
     let e : 384 - i ≡ suc (384 - (i + 1)) = omega arith in
     rw (e, add-one i)
 
 -- behind the last place, none
-pub passed-from-end : (plan : Plan) (stock : List StockRecord) → passedFrom plan stock 384 ≡ []
-unfolding passedFrom
-passed-from-end plan stock = refl
+pub placed-end : (stock : List StockRecord) (numbers : List ℕ) → placedFrom stock numbers 384 ≡ []
+unfolding placedFrom
+placed-end stock numbers = refl

@@ -1,12 +1,13 @@
 -- What the picks ask of a job and a plan, and the passed records by their cells.
-use Prim.Native.Nat.{ℕ, zero, suc, _+_, _*_, _-_, _≤_}
+use Prim.Native.Nat.{ℕ, zero, suc, _+_, _*_, _-_, _≤_, _<_}
 use mathlib.Core.Path.{_≡_}
 use mathlib.Core.List.{List, [], _∷_}
 use mathlib.Core.Bool.{Bool, cond, _&&_}
 use lib.Dec.{eqb}
-use lib.ListN.{getD}
+use lib.ListN.{getD, drop}
 use Rattle.rules.specs.declared.StockRecord.{StockRecord}
-use Rattle.rules.specs.Lists.{from, concatOf}
+use Rattle.rules.specs.declared.OrderLine.{OrderLine}
+use Rattle.rules.specs.Lists.{sumOf}
 use Rattle.rules.specs.Plans.{Plan, planPasses}
 use Rattle.rules.specs.Refusals.{Admitted}
 use Rattle.values.specs.declared.JobValue.{JobValue}
@@ -36,11 +37,10 @@ abbrev pub numberFrom : (StockRecord → Bool) → ℕ → List StockRecord → 
 numberFrom passed k [] i = 0
 numberFrom passed k (r ∷ rs) i = cond (eqb (placeOf r) i && passed r) (suc k) (numberFrom passed (suc k) rs i)
 
--- the record with a number counted from 1, as a list; none for 0
-abbrev pub numbered : List StockRecord → ℕ → List StockRecord
-numbered stock zero = []
-numbered stock (suc k) = getD stock k (record { aisle = 0; cell = 0; article = 0; quantity = 0 }) ∷ []
+-- an array of such numbers for the records from number k + 1 on, place by place
+abbrev pub NumbersFrom : (StockRecord → Bool) → List StockRecord → ℕ → List ℕ → Type 0
+NumbersFrom passed stock k numbers = (i : ℕ) → i < 384 → getD numbers i 0 ≡ numberFrom passed k (drop k stock) i
 
--- the passed records from a place on, in the order of the places
-unfoldable pub passedFrom : Plan → List StockRecord → ℕ → List StockRecord
-passedFrom plan stock i = concatOf (λ j. numbered stock (numberFrom (passedBy plan) 0 stock j)) (from i (384 - i))
+-- all that lines still lack
+unfoldable pub lackingOf : List OrderLine → ℕ
+lackingOf lacking = sumOf (λ (l : OrderLine). l .quantity) lacking
