@@ -2,6 +2,7 @@
 pub mod Concats
 pub mod LineTexts
 pub mod PassedPlaces
+pub mod PickLaws
 pub mod PickSteps
 pub mod PickTurns
 pub mod SectionTexts

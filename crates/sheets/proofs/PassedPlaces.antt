@@ -38,7 +38,7 @@ same-place r i a c d = go (eqb (placeOf r) i) refl
     go false e = other (eqb (r .aisle) (i / 24 + 1)) refl (eqb-false (placeOf r) i e)
 
 -- what a list starts with behind its first k elements
-drop-starts : {A : Type 0} (xs : List A) (k : ℕ) (d x : A) (ys : List A) → drop k xs ≡ x ∷ ys → (getD xs k d ≡ x) × (drop (suc k) xs ≡ ys)
+pub drop-starts : {A : Type 0} (xs : List A) (k : ℕ) (d x : A) (ys : List A) → drop k xs ≡ x ∷ ys → (getD xs k d ≡ x) × (drop (suc k) xs ≡ ys)
 drop-starts [] zero d x ys e = (cc, cc)
 drop-starts [] (suc k) d x ys e = (cc, cc)
 drop-starts (a ∷ zs) zero d x ys e = (cc, cc)
@@ -68,7 +68,7 @@ module _ (passed : StockRecord → Bool) (i : ℕ) where
       go false h = omega arith
 
   -- no number where the place is not passed
-  no-number : (k : ℕ) (rs : List StockRecord) → ((r : StockRecord) → List·Memᴰ r rs → placeOf r ≡ i → passed r ≡ false) → numberFrom passed k rs i ≡ 0
+  pub no-number : (k : ℕ) (rs : List StockRecord) → ((r : StockRecord) → List·Memᴰ r rs → placeOf r ≡ i → passed r ≡ false) → numberFrom passed k rs i ≡ 0
   no-number k [] h = refl
   no-number k (r ∷ rs) h = go (eqb (placeOf r) i) refl (no-number (suc k) rs (λ s m. h s (List·Memᴰ·tail m)))
     where
@@ -190,7 +190,7 @@ module _ (plan : Plan) (stock : List StockRecord) where
       ∙ ap (concatOf G) (sym (from-append 0 (n * 24) (n * 24) 24 (suc n * 24) (omega arith) (omega arith)))
 
 -- the passed records of a job are found place by place
-by-place : (job : Job) (plan : Plan) (n k : ℕ) → n ≡ 16 → n * 24 ≡ k → LayoutWithin (job .layout) → StockWithin job → passedRecords job plan ≡ concatOf (λ i. numbered (job .stock) (numberFrom (passedBy plan) 0 (job .stock) i)) (from 0 k)
+pub by-place : (job : Job) (plan : Plan) (n k : ℕ) → n ≡ 16 → n * 24 ≡ k → LayoutWithin (job .layout) → StockWithin job → passedRecords job plan ≡ concatOf (λ i. numbered (job .stock) (numberFrom (passedBy plan) 0 (job .stock) i)) (from 0 k)
 unfolding passedRecords cellsOf
 by-place job plan n k f g z s =
     let stock = job .stock in

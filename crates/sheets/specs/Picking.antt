@@ -7,6 +7,7 @@ use lib.Dec.{eqb}
 use lib.ListN.{getD, drop}
 use Rattle.rules.specs.declared.StockRecord.{StockRecord}
 use Rattle.rules.specs.declared.OrderLine.{OrderLine}
+use Rattle.rules.specs.declared.Pick.{Pick}
 use Rattle.rules.specs.Lists.{sumOf}
 use Rattle.rules.specs.Plans.{Plan, planPasses}
 use Rattle.rules.specs.Refusals.{Admitted}
@@ -44,3 +45,15 @@ NumbersFrom passed stock k numbers = (i : ℕ) → i < 384 → getD numbers i 0 
 -- all that lines still lack
 unfoldable pub lackingOf : List OrderLine → ℕ
 lackingOf lacking = sumOf (λ (l : OrderLine). l .quantity) lacking
+
+-- what the picks take of an article
+unfoldable pub pickedOf : List Pick → ℕ → ℕ
+pickedOf picks a = sumOf (λ (p : Pick). cond (eqb (p .article) a) (p .quantity) 0) picks
+
+-- what the picks take from a cell
+unfoldable pub takenAt : List Pick → ℕ → ℕ → ℕ
+takenAt picks j c = sumOf (λ (p : Pick). cond (eqb (p .aisle) j && eqb (p .cell) c) (p .quantity) 0) picks
+
+-- the stock of a cell
+unfoldable pub stockAt : List StockRecord → ℕ → ℕ → ℕ
+stockAt stock j c = sumOf (λ (r : StockRecord). cond (eqb (r .aisle) j && eqb (r .cell) c) (r .quantity) 0) stock
