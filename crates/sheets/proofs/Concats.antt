@@ -1,7 +1,7 @@
 -- Laws of lists put one behind the other, and of numbers counted upwards.
 use Prim.Native.Nat.{ℕ, zero, suc, _+_, _-_, _≤_, _<_}
 use native.Mathlib.Omega.{arith}
-use mathlib.Core.Path.{_≡_, refl, sym, ap, ap₂, subst, _∙_}
+use mathlib.Core.Path.{_≡_, refl, ap, ap₂, _∙_}
 use mathlib.Core.List.{List, [], _∷_, _++_, map, List·Memᴰ, List·Memᴰ·head, List·Memᴰ·tail, append-assoc, append-nil}
 use Rattle.rules.specs.Lists.{from, concatOf}
 use Rattle.rules.proofs.Lists.{member-from}

@@ -7,5 +7,6 @@ pub mod PickSteps
 pub mod PickTurns
 pub mod SectionTexts
 pub mod SheetLaws
+pub mod SheetFits
 pub mod Sizes
 pub mod Writing

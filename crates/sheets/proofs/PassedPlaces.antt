@@ -2,8 +2,8 @@
 use Prim.Native.Nat.{ℕ, zero, suc, _+_, _*_, _-_, _/_, _%_, _≤_, _<_}
 use native.Mathlib.Omega.{arith}
 use native.Mathlib.Numerals.{add-one}
-use mathlib.Core.Path.{_≡_, refl, sym, ap, ap₂, subst, _∙_}
-use mathlib.Core.List.{List, [], _∷_, _++_, map, List·Memᴰ, List·Memᴰ·head, List·Memᴰ·tail, append-assoc, append-nil}
+use mathlib.Core.Path.{_≡_, refl, sym, ap, ap₂, _∙_}
+use mathlib.Core.List.{List, [], _∷_, _++_, map, List·Memᴰ, List·Memᴰ·head, List·Memᴰ·tail, append-nil}
 use mathlib.Core.Bool.{Bool, true, false, cond, _&&_}
 use mathlib.Core.Option.{Option, none, some}
 use lib.Dec.{eqb}
@@ -11,14 +11,13 @@ use lib.ListN.{length, getD, take, drop, length-take}
 use lib.Seq.{getD-take}
 use borrow.Author.Tests.{eqb-true, eqb-false, eq-eqb, ne-eqb}
 use Rattle.rules.specs.declared.StockRecord.{StockRecord}
-use Rattle.rules.specs.declared.Layout.{Layout}
 use Rattle.rules.specs.Lists.{from, concatOf, firstOf}
 use Rattle.rules.specs.Store.{Point}
 use Rattle.rules.specs.Jobs.{Job}
 use Rattle.rules.specs.Plans.{Plan, planPasses}
 use Rattle.rules.specs.Picks.{cellsOf, recordAt, found, passedRecords}
 use Rattle.rules.proofs.Lists.{member-from}
-use Rattle.rules.proofs.Admission.{LayoutWithin, RecordWithin, StockWithin}
+use Rattle.rules.proofs.Admission.{LayoutWithin, StockWithin}
 use Rattle.sheets.proofs.Concats.{concat-append, concat-none, concat-agree, concat-map, concat-concat, from-append, concat-shift, concat-wider}
 use Rattle.sheets.specs.Picking.{placeOf, passedBy, numberFrom, NumbersFrom}
 

@@ -1,25 +1,25 @@
 -- Laws of the picks: they meet the lines exactly when the plan serves the list, and no cell gives more than its stock.
-use Prim.Native.Nat.{ℕ, zero, suc, _+_, _*_, _-_, _≤_, _<_, min}
+use Prim.Native.Nat.{ℕ, zero, suc, _+_, _-_, _≤_, _<_, min}
 use native.Mathlib.Omega.{arith}
 use native.Mathlib.Nat.{le-trans}
-use mathlib.Core.Path.{_≡_, refl, sym, ap, ap₂, subst, _∙_}
+use mathlib.Core.Path.{_≡_, refl, sym, ap, ap₂, _∙_}
 use mathlib.Core.Logic.{_↔_, _⊎_, inl, inr}
-use mathlib.Core.List.{List, [], _∷_, _++_, List·Memᴰ, List·Memᴰ·head, List·Memᴰ·tail, List·Memᴰ·cases-cons, List·Memᴰ·not-nil}
+use mathlib.Core.List.{List, [], _∷_, List·Memᴰ, List·Memᴰ·head, List·Memᴰ·tail, List·Memᴰ·cases-cons, List·Memᴰ·not-nil}
 use mathlib.Core.Bool.{Bool, true, false, cond, _&&_}
-use lib.Dec.{eqb, ltb}
-use lib.ListN.{length, getD, drop}
+use lib.Dec.{eqb}
+use lib.ListN.{getD, drop}
 use borrow.Author.Tests.{eqb-true, eqb-false, eq-eqb, ne-eqb, lt-ltb}
 use Rattle.rules.specs.declared.Layout.{Layout}
 use Rattle.rules.specs.declared.StockRecord.{StockRecord}
 use Rattle.rules.specs.declared.OrderLine.{OrderLine}
 use Rattle.rules.specs.declared.Pick.{Pick}
-use Rattle.rules.specs.Lists.{from, concatOf, sumOf}
+use Rattle.rules.specs.Lists.{from, sumOf}
 use Rattle.rules.specs.Jobs.{Job}
 use Rattle.rules.specs.Plans.{Plan, planPasses}
 use Rattle.rules.specs.Serving.{supply, Serves, PlanServes}
 use Rattle.rules.specs.Picks.{lackOf, lessOf, taken, addPick, picksFrom, passedRecords, picksOf}
 use Rattle.rules.specs.Refusals.{Admitted}
-use Rattle.rules.proofs.Lists.{sum-append, sum-agree, sum-concat, member-from, Sorted, sorted-map}
+use Rattle.rules.proofs.Lists.{sum-agree, sum-concat, member-from, Sorted, sorted-map}
 use Rattle.rules.proofs.Admission.{LayoutWithin, RecordWithin, StockWithin, layout-within, stock-within, cells-once, articles-once}
 use Rattle.sheets.specs.Picking.{placeOf, passedBy, numberFrom, pickedOf, takenAt, stockAt}
 use Rattle.sheets.proofs.PassedPlaces.{numbered, by-place, drop-starts, no-number}
@@ -93,7 +93,7 @@ apart n e z w (r ∷ rs) h o =
     )
 
 -- each passed record of an admitted job counts once
-sum-passed : (job : Job) (plan : Plan) → Admitted job → (f : StockRecord → ℕ) → sumOf f (passedRecords job plan) ≡ sumOf (λ r. cond (passedBy plan r) (f r) 0) (job .stock)
+pub sum-passed : (job : Job) (plan : Plan) → Admitted job → (f : StockRecord → ℕ) → sumOf f (passedRecords job plan) ≡ sumOf (λ r. cond (passedBy plan r) (f r) 0) (job .stock)
 sum-passed job plan ok f = go 384 refl
   where
     z : LayoutWithin (job .layout)

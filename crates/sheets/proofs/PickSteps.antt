@@ -1,23 +1,21 @@
 -- The steps of the loops over records, lines and places.
-use Prim.Native.Nat.{ℕ, zero, suc, _+_, _*_, _-_, _≤_, _<_, min}
+use Prim.Native.Nat.{ℕ, zero, suc, _+_, _-_, _≤_, _<_}
 use native.Mathlib.Omega.{arith}
-use native.Mathlib.Nat.{sub-zero}
 use native.Mathlib.Numerals.{add-one}
-use mathlib.Core.Path.{_≡_, refl, sym, ap, ap₂, subst, _∙_}
-use mathlib.Core.List.{List, [], _∷_, _++_, map, map-append, List·Memᴰ, List·Memᴰ·head, List·Memᴰ·tail, append-assoc, append-nil}
+use mathlib.Core.Path.{_≡_, refl, sym, ap, subst, _∙_}
+use mathlib.Core.List.{List, [], _∷_, _++_, map, map-append, List·Memᴰ, List·Memᴰ·head, List·Memᴰ·tail, append-assoc}
 use mathlib.Core.Bool.{Bool, true, false, cond, _&&_}
-use lib.Dec.{eqb, ltb}
-use lib.ListN.{length, getD, take, drop, set, replicate, length-append, length-take, length-map, getD-replicate, drop-of-length-le, take-append-drop}
-use lib.Seq.{length-take-le, getD-take, getD-at, take-at, take-take, set-getD, take-suc, drop-cons, getD-set-same, getD-set-other, set-at, take-suc-set}
-use borrow.Author.Tests.{eqb-true, eqb-false, eq-eqb, ne-eqb, lt-ltb, le-ltb}
+use lib.Dec.{eqb}
+use lib.ListN.{length, getD, take, drop, set, replicate, length-map, getD-replicate, drop-of-length-le, take-append-drop}
+use lib.Seq.{length-take-le, getD-take, getD-at, take-at, take-take, set-getD, take-suc, drop-cons, getD-set-same, getD-set-other, set-at}
+use borrow.Author.Tests.{eqb-true, eqb-false, eq-eqb, ne-eqb}
 use Rattle.rules.specs.declared.StockRecord.{StockRecord}
 use Rattle.rules.specs.declared.OrderLine.{OrderLine}
-use Rattle.rules.specs.declared.Pick.{Pick}
 use Rattle.rules.specs.declared.Action.{Action}
 use Rattle.rules.specs.declared.Action.the-variants.{Void}
-use Rattle.rules.specs.Lists.{sumOf, nth}
-use Rattle.rules.specs.Plans.{Plan, planPasses, passesCell, actionAt}
-use Rattle.rules.specs.Picks.{lackOf, lessOf, taken, picksFrom}
+use Rattle.rules.specs.Lists.{nth}
+use Rattle.rules.specs.Plans.{planPasses, passesCell, actionAt}
+use Rattle.rules.specs.Picks.{lackOf, lessOf}
 use Rattle.rules.proofs.Lists.{sum-append}
 use Rattle.rules.proofs.Admission.{LayoutWithin, RecordWithin, StockWithin, ListWithin, layout-within, stock-within, list-within}
 use Rattle.values.specs.declared.JobValue.{JobValue}
@@ -25,7 +23,6 @@ use Rattle.values.specs.declared.Stage.{Stage}
 use Rattle.values.specs.declared.PlanValue.{PlanValue}
 use Rattle.values.specs.Values.{jobOf, planOf}
 use Rattle.sheets.specs.Picking.{Sound, placeOf, passedBy, numberFrom, NumbersFrom, lackingOf}
-use Rattle.sheets.proofs.PassedPlaces.{numbered, placedFrom, placed-next}
 
 -- a part of the first n elements, by number
 nth-map : {A B : Type 0} (f : A → B) (xs : List A) (n j : ℕ) (d : A) (e : B) → j < n → j < length xs → nth (map f (take n xs)) (suc j) e ≡ f (getD xs j d)

@@ -1,16 +1,15 @@
 -- The byte counts of the sheet's texts.
-use Prim.Native.Nat.{ℕ, zero, suc, _+_, _*_, _^_, _/_, _≤_, _<_}
+use Prim.Native.Nat.{ℕ, zero, suc, _+_, _^_, _/_, _≤_, _<_}
 use native.Mathlib.Omega.{arith}
 use native.Mathlib.Nat.{pow-suc}
 use native.Mathlib.Decide.{decLt}
-use mathlib.Core.Path.{_≡_, refl, ap, _∙_}
-use mathlib.Core.List.{List, [], _∷_, _++_}
+use mathlib.Core.Path.{_≡_}
 use lib.ListN.{length, length-append}
 use Rattle.rules.specs.declared.Policy.{Policy}
 use Rattle.rules.specs.declared.Pick.{Pick}
 use Rattle.rules.specs.declared.Run.{Run}
-use Rattle.rules.specs.JobFile.{space, lineFeed, numeral, field, header}
-use Rattle.rules.specs.Sheet.{totalText, pickText, runText, letterOf}
+use Rattle.rules.specs.JobFile.{lineFeed, numeral, field, header}
+use Rattle.rules.specs.Sheet.{totalText, pickText, runText}
 use Rattle.rules.proofs.Numbers.{numeral-small, numeral-large}
 use Rattle.sheets.specs.Written.{policyText}
 use Rattle.sheets.proofs.LineTexts.{total-line}

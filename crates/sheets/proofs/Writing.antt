@@ -1,12 +1,12 @@
 -- Writers one behind the other: what each hands to the next, and what they have written together.
-use Prim.Native.Nat.{ℕ, zero, suc, _+_, _-_, _≤_, _<_}
+use Prim.Native.Nat.{ℕ, suc, _+_, _-_, _≤_, _<_}
 use native.Mathlib.Omega.{arith}
 use native.Mathlib.Nat.{le-trans}
 use native.Mathlib.Numerals.{add-one}
 use mathlib.Core.Path.{_≡_, refl, sym, ap, subst, _∙_}
 use mathlib.Core.List.{List, [], _∷_, _++_, append-assoc, append-nil}
 use lib.ListN.{length, take, drop, getD, set, length-append, length-drop, drop-of-length-le, take-append-drop}
-use lib.Seq.{take-all, take-take, take-suc, drop-cons, drop-drop, append-snoc, take-append-seam, drop-append-seam, set-append-seam}
+use lib.Seq.{take-all, take-take, take-suc, drop-cons, drop-drop, take-append-seam, drop-append-seam, set-append-seam}
 use borrow.Rule.Slice.PartMut.{putMid, midOf}
 use Rattle.rules.specs.Lists.{concatOf}
 use Rattle.sheets.specs.Written.{Written}

@@ -1,7 +1,7 @@
 -- `sheets::lines::write_total_line` meets its contract: the length, and the policy word in the rest of the space.
 use Prim.Native.Nat.{_≤_}
 use native.Mathlib.Omega.{arith}
-use mathlib.Core.List.{[], _∷_, _++_}
+use mathlib.Core.List.{_++_}
 use lib.ListN.{length}
 use denote.Ref.{now}
 use Rattle.rules.specs.JobFile.{numeral}

@@ -6,7 +6,7 @@ use mathlib.Core.Bool.{cond}
 use lib.Dec.{eqb}
 use Rattle.rules.specs.declared.OrderLine.{OrderLine}
 use mathlib.Core.Logic.{⊎-elim}
-use lib.ListN.{length, take, getD, length-map}
+use lib.ListN.{length, take, getD}
 use borrow.Author.Tests.{eq-eqb, ne-eqb}
 use Rattle.rules.specs.Picks.{lackOf}
 use Rattle.sheets.proofs.PickSteps.{lack-more, lack-within}

@@ -1,12 +1,9 @@
 -- `sheets::picks::less_of` meets its contract. The loop's invariant: the first `i` lines have so many fewer lacking.
-use Prim.Native.Nat.{ℕ, _+_, _-_, _≤_, _<_}
+use Prim.Native.Nat.{_-_, _≤_, _<_}
 use native.Mathlib.Omega.{arith}
-use mathlib.Core.Path.{_≡_, refl, sym, ap, _∙_}
+use mathlib.Core.Path.{_≡_, refl}
 use mathlib.Core.Logic.{⊎-elim}
-use mathlib.Core.List.{List, _++_}
-use lib.ListN.{length, take, drop, getD, set}
-use lib.Seq.{take-at}
-use borrow.Author.Tests.{eq-eqb, ne-eqb}
+use lib.ListN.{length, getD}
 use Rattle.rules.specs.declared.OrderLine.{OrderLine}
 use Rattle.rules.specs.Picks.{lessOf}
 use Rattle.sheets.proofs.PickSteps.{LessUpTo, less-skip, less-set, less-done}

@@ -1,12 +1,8 @@
 -- `sheets::picks::passed_numbers` meets its contract. The loop's invariant: the places have the numbers of the records from `k` on.
-use Prim.Native.Nat.{ℕ, suc, _+_, _*_, _-_, _≤_, _<_}
+use Prim.Native.Nat.{ℕ, _+_, _*_, _-_, _≤_, _<_}
 use native.Mathlib.Omega.{arith}
 use mathlib.Core.Path.{_≡_, refl, sym, ap, _∙_}
-use mathlib.Core.Bool.{Bool}
 use lib.ListN.{length, getD, length-map, length-set, length-take}
-use borrow.Author.Needs.{needs}
-use Rattle.rules.specs.declared.Action.the-variants.{Void}
-use Rattle.rules.specs.declared.Passage.the-variants.{P00}
 use Rattle.rules.specs.declared.StockRecord.{StockRecord}
 use Rattle.rules.specs.Plans.{passesCell}
 use Rattle.rules.proofs.Admission.{LayoutWithin, RecordWithin}

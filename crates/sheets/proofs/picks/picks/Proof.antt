@@ -1,10 +1,10 @@
 -- `sheets::picks::picks` meets its contract. The loop's invariant: the picks listed, with those of the places from `i` on, are all.
-use Prim.Native.Nat.{ℕ, suc, _+_, _-_, _≤_, _<_}
+use Prim.Native.Nat.{ℕ, _-_, _≤_}
 use native.Mathlib.Omega.{arith}
-use mathlib.Core.Path.{_≡_, refl, sym, ap, ap₂, _∙_}
+use mathlib.Core.Path.{_≡_, refl, sym, ap, _∙_}
 use mathlib.Core.Logic.{⊎-elim}
-use mathlib.Core.List.{List, [], _∷_, _++_, append-nil}
-use lib.ListN.{length, take, getD, length-map, length-take}
+use mathlib.Core.List.{List, [], _++_, append-nil}
+use lib.ListN.{take, getD, length-take}
 use Rattle.rules.specs.declared.OrderLine.{OrderLine}
 use Rattle.rules.specs.declared.StockRecord.{StockRecord}
 use Rattle.rules.specs.Picks.{taken, picksFrom, picksOf}

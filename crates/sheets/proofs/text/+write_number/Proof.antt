@@ -2,16 +2,15 @@
 -- tenth and behind them the last digit.
 use Prim.Native.Nat.{ℕ, _+_, _/_, _%_, _≤_, _<_}
 use native.Mathlib.Omega.{arith}
-use mathlib.Core.Path.{_≡_, sym, ap, _∙_}
-use mathlib.Core.List.{List, [], _∷_, _++_}
+use mathlib.Core.Path.{_≡_, ap, _∙_}
+use mathlib.Core.List.{[], _∷_}
 use lib.ListN.{length, length-append, length-set}
 use denote.Ref.{now}
 use borrow.Fn.Kinds.{In}
 use borrow.Fn.PlainCycle.{Measures, is, falls, and}
 use Rattle.rules.specs.JobFile.{numeral}
 use Rattle.rules.proofs.Numbers.{numeral-small, numeral-large}
-use Rattle.sheets.specs.Written.{Written}
-use Rattle.sheets.proofs.Writing.{nothing-written, written-length, written-byte, byte-room}
+use Rattle.sheets.proofs.Writing.{nothing-written, written-byte, byte-room}
 use Rattle.sheets.proofs.text.write_number.Reads as write-number
 use Rattle.sheets.proofs.text.write_number.Kinds as write-number-kinds
 use Rattle.sheets.proofs.text.+write_number.Lts-write_number as write-number-lts

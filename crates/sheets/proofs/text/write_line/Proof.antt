@@ -1,6 +1,5 @@
 -- `sheets::text::write_line` meets its contract: a word, and the numbers in the rest of the space.
 use native.Mathlib.Omega.{arith}
-use lib.ListN.{length}
 use denote.Ref.{now}
 use borrow.Author.Needs.{needs}
 use Rattle.sheets.specs.Written.{numbersText, lineText}

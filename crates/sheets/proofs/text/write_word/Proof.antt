@@ -2,11 +2,9 @@
 use Prim.Native.Nat.{_-_, _≤_, _<_}
 use native.Mathlib.Omega.{arith}
 use native.Mathlib.Numerals.{add-one}
-use mathlib.Core.Path.{_≡_, sym, ap, _∙_}
 use lib.ListN.{length, take, getD, length-take}
 use lib.Seq.{take-suc, take-all}
 use denote.Ref.{now}
-use borrow.Author.Needs.{needs}
 use Rattle.sheets.specs.Written.{Written}
 use Rattle.sheets.proofs.Writing.{nothing-written, written-length, written-byte, byte-room}
 use Rattle.sheets.proofs.text.write_word.Statement.{statement}
