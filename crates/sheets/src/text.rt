@@ -38,12 +38,12 @@ pub fn write_word(sheet: &mut [u8], word: &[u8]) -> usize
     requires { ⌜ length (now word) ≤ length (now sheet) ⌝ }
     ensures { λ r. ⌜ Written (now (word .entry)) (now (sheet .entry)) (now (sheet .exit)) r ⌝ }
 {
-    let mut at = 0;
-    while at < word.len() {
-        sheet[at] = word[at];
-        at += 1;
+    let mut i = 0;
+    while i < word.len() {
+        sheet[i] = word[i];
+        i += 1;
     }
-    at
+    i
 }
 
 // Writes the numbers that end a line, each behind a space, and the line feed.
