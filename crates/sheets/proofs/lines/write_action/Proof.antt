@@ -1,5 +1,5 @@
-use mathlib.Core.List.{[], _∷_}
 -- `sheets::lines::write_action` meets its contract: each action has its word, and its cells behind it.
+use mathlib.Core.List.{[], _∷_}
 use Rattle.sheets.proofs.Writing.{written-as}
 use Rattle.sheets.proofs.LineTexts.{line-one, line-two}
 use borrow.Author.Needs.{needs}
