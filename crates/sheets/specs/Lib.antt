@@ -1,0 +1,4 @@
+-- What the contracts of the sheet's writers are stated with.
+pub mod Parts
+pub mod Picking
+pub mod Written
