@@ -14,7 +14,7 @@ use values::RunList;
 use values::Stage;
 ghost use mathlib.Core.Path.{_≡_};
 ghost use Prim.Native.Nat.{_≤_};
-ghost use Rattle.sheets.specs.Picking.{Sound};
+ghost use Rattle.values.specs.Values.{Sound};
 
 // The job: five records and three lines, in a store of three aisles with two cells.
 fn job() -> JobValue

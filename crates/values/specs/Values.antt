@@ -1,5 +1,6 @@
 -- What the values stand for.
 use Prim.Native.Nat.{ℕ, _-_, _≤_}
+use mathlib.Core.Path.{_≡_}
 use mathlib.Core.List.{List, map}
 use lib.ListN.{take}
 use Rattle.rules.specs.declared.Action.{Action}
@@ -7,13 +8,15 @@ use Rattle.rules.specs.declared.Passage.{Passage}
 use Rattle.rules.specs.declared.Pick.{Pick}
 use Rattle.rules.specs.declared.Run.{Run}
 use Rattle.rules.specs.Jobs.{Job}
-use Rattle.rules.specs.Plans.{Plan}
+use Rattle.rules.specs.Plans.{Plan, planLength}
+use Rattle.rules.specs.BestPlan.{bestPlan}
 use Rattle.rules.specs.Refusals.{Admitted}
 use Rattle.values.specs.declared.JobValue.{JobValue}
 use Rattle.values.specs.declared.Stage.{Stage}
 use Rattle.values.specs.declared.PlanValue.{PlanValue}
 use Rattle.values.specs.declared.PickList.{PickList}
 use Rattle.values.specs.declared.RunList.{RunList}
+use Rattle.values.specs.declared.Routed.{Routed}
 
 -- the job of a value
 unfoldable pub jobOf : JobValue → Job
@@ -46,3 +49,9 @@ pub record Sound (v : JobValue) : Type 0 where
   pub record-count : v .records ≤ 384
   pub order-count : v .orders ≤ 8
   pub admitted : Admitted (jobOf v)
+
+-- the routed plan of a job: the best plan, and its length
+pub record RoutedOf (job : Job) (r : Routed) : Type 0 where
+  pub aisles : r .plan .aisles ≡ job .layout .aisles
+  pub plan : planOf (r .plan) ≡ bestPlan job
+  pub length : r .length ≡ planLength (job .layout) (bestPlan job)

@@ -41,3 +41,9 @@ pub struct RunList {
     pub count: usize,
     pub runs: [Run; 860],
 }
+
+// The plan of a job and its length.
+pub struct Routed {
+    pub length: usize,
+    pub plan: PlanValue,
+}
