@@ -1,0 +1,3 @@
+pub mod Treads
+pub mod Flood
+pub mod Letters
