@@ -24,7 +24,7 @@ unseen-length (zero ∷ seen) = omega (arith, unseen-length seen)
 unseen-length (suc n ∷ seen) = omega (arith, unseen-length seen)
 
 -- two numbers are equal, or not
-same-or-not : (a b : ℕ) → (a ≡ b) ⊎ (a ≡ b → ⊥)
+pub same-or-not : (a b : ℕ) → (a ≡ b) ⊎ (a ≡ b → ⊥)
 same-or-not a b = elim (below-or-from a b) [ inl l ↦ inr (λ e. omega arith) | inr l ↦ elim (equal-or-below b a l) [ inl e ↦ inl (sym e) | inr g ↦ inr (λ e. omega arith) ] ]
 
 -- what is seen lies in the list

@@ -1,3 +1,6 @@
 pub mod Flooding
 pub mod Places
 pub mod Reaching
+pub mod Choice
+pub mod Stepping
+pub mod Spelling

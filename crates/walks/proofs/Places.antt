@@ -143,6 +143,7 @@ module _ (z : Layout) (wide : z .aisles ≤ 16) (deep : z .cells ≤ 24) where
       ups p (along j k) h e low = (omega arith, omega arith)
       ups p (front j) h e low = absurd (omega arith)
       ups p (back j) h e low = absurd (omega arith)
+
       rights : (p : ℕ) (e : Edge) → InStore z e → slotOf z e ≡ 442 + p → (26 ≤ p) × (p + 26 < 26 * (z .aisles + 1))
       rights p (along j k) h e = absurd (omega arith)
       rights p (front j) h e = (omega arith, omega arith)

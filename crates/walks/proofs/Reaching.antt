@@ -106,13 +106,16 @@ module _ (z : Layout) (wide : z .aisles ≤ 16) (deep : z .cells ≤ 24) (left :
         starts e t =
             let h = trodden-out z left e t .1 in
             elim (edge-kind z e) [ inl k ↦ inl (subst (λ (n : ℕ). 0 < getD left n 0) (k .0) h) | inr k ↦ inr (subst (λ (n : ℕ). 0 < getD left n 0) (k .0) h) ]
+
         forwards : ((p : ℕ) → p < 442 → Starts left p → Reach left (spot x) p) → (e : Edge) → Trodden z (leftOf z left) e → Linked z (leftOf z left) (startOf z e) x
         forwards all e t =
             let p = start-point z wide deep e (trodden-out z left e t .0) in
             let f = reach-linked i (spot (startOf z e)) (all (spot (startOf z e)) (spot-range z wide deep (startOf z e) p .2) (starts e t)) in
             link-turn z (leftOf z left) (startOf z e) x (subst (λ (y : Point). Linked z (leftOf z left) x y) (spot-same z wide deep (f .point) (startOf z e) (f .inside) p (f .number)) (f .chain))
+
         from : (p q : ℕ) → ((e : Edge) → Trodden z (leftOf z left) e → Linked z (leftOf z left) (startOf z e) x) → Between p q → Reach left (spot x) p
         from p q j b = subst (Reach left (spot x)) (b .begins) (linked-reach (startOf z (b .edge)) (link-turn z (leftOf z left) x (startOf z (b .edge)) (j (b .edge) (b .trodden))))
+
         backwards : ((e : Edge) → Trodden z (leftOf z left) e → Linked z (leftOf z left) (startOf z e) x) → (p : ℕ) → p < 442 → Starts left p → Reach left (spot x) p
         backwards j p low (inl h) = from p (p + 1) j (along-between p low h)
         backwards j p low (inr h) = from p (p + 26) j (across-between p h)

@@ -1,17 +1,18 @@
 -- The letters by the numbers of points, and the test of a letter.
 use Prim.Native.Nat.{ℕ, _+_, _-_, _≤_, _<_}
 use mathlib.Core.Path.{_≡_}
-use mathlib.Core.List.{List}
+use mathlib.Core.List.{List, _++_, map}
 use mathlib.Core.Bool.{Bool, true, false}
 use mathlib.Core.Option.{Option, none, some}
-use lib.ListN.{getD}
+use lib.ListN.{length, drop, getD}
 use Rattle.rules.specs.declared.Layout.{Layout}
 use Rattle.rules.specs.declared.Direction.{Direction}
 use Rattle.rules.specs.declared.Direction.the-variants.{Back, Front, Left, Right}
 use Rattle.rules.specs.Store.{layoutInBounds}
 use Rattle.rules.specs.Walks.{Walk, stepTo, stepEdge}
+use Rattle.rules.specs.Sheet.{letterOf}
 use Rattle.rules.specs.FirstWalk.{without, firstFrom, stepsOf}
-use Rattle.closedwalks.specs.Greedy.{LetterTest, firstLetter, admits, Ready}
+use Rattle.closedwalks.specs.Greedy.{LetterTest, firstLetter, admits, greedy, Ready}
 use Rattle.walks.specs.Treads.{pointAt, leftOf, Charted}
 
 -- the place of the treads that way
@@ -53,3 +54,12 @@ canBe z left at = admits z (finds z) (leftOf z left) (pointAt at)
 -- the next letter, where there is one
 unfoldable pub nextLetter : Layout → List ℕ → ℕ → Option Direction
 nextLetter z left at = firstLetter (canBe z left at Back) (canBe z left at Front) (canBe z left at Left) (canBe z left at Right)
+
+-- the letters that are still to come
+unfoldable pub lettersLeft : Layout → List ℕ → ℕ → Walk
+lettersLeft z left at = greedy z (finds z) (stepsOf z (leftOf z left)) (leftOf z left) (pointAt at)
+
+-- the letters of a walk stand at the front of a lent space, the rest of which is as it was
+pub record Spelt (walk : Walk) (before after : List ℕ) (count : ℕ) : Type 0 where
+  pub text : after ≡ map letterOf walk ++ drop count before
+  pub number : count ≡ length walk
