@@ -4,3 +4,4 @@ pub mod Reaching
 pub mod Choice
 pub mod Stepping
 pub mod Spelling
+pub mod Filled
