@@ -5,3 +5,4 @@ pub mod Choice
 pub mod Stepping
 pub mod Spelling
 pub mod Filled
+pub mod Start

@@ -118,6 +118,12 @@ module _ (z : Layout) (wide : z .aisles ≤ 16) (deep : z .cells ≤ 24) where
   slot-same (back i) (front j) p q e = absurd (omega arith)
   slot-same (back i) (back j) p q e = let a : i ≡ j = omega arith in ap back a
 
+  pub slot-range : (e : Edge) → InStore z e → slotOf z e < 884
+  unfolding InStore
+  slot-range (along j k) h = omega arith
+  slot-range (front j) h = omega arith
+  slot-range (back j) h = omega arith
+
   -- one tread less of an edge
   pub left-without : (left : List ℕ) (e : Edge) (v : ℕ) → InStore z e → slotOf z e < length left → v + 1 ≡ getD left (slotOf z e) 0
       → leftOf z (set left (slotOf z e) v) ≡ without (leftOf z left) e
