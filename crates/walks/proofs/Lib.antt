@@ -6,3 +6,4 @@ pub mod Stepping
 pub mod Spelling
 pub mod Filled
 pub mod Start
+pub mod Running

@@ -3,7 +3,7 @@ use Prim.Native.Nat.{ℕ, zero, suc, _+_, _-_, _≤_, _<_}
 use native.Mathlib.Omega.{arith}
 use native.Mathlib.Numerals.{add-one}
 use mathlib.Core.Path.{_≡_, refl, sym, ap, _∙_, subst}
-use mathlib.Core.List.{List, [], _∷_, _++_, map, append-assoc}
+use mathlib.Core.List.{List, [], _∷_, _++_, map, append-assoc, append-nil, map-append}
 use mathlib.Core.Option.{some}
 use lib.ListN.{length, getD, set, drop, length-append, length-drop, length-map}
 use lib.Seq.{drop-cons, set-at}
@@ -16,14 +16,6 @@ use Rattle.walks.specs.Treads.{leftOf}
 use Rattle.walks.specs.Letters.{slotBy, nextBy, treadsAt, Walkable, nextLetter, lettersLeft, Spelt}
 use Rattle.walks.proofs.Stepping.{letter-left, letter-steps, letter-taken, no-letter}
 
-append-none : (walk : Walk) → walk ++ [] ≡ walk
-append-none [] = refl
-append-none (d ∷ walk) = ap (λ (w : Walk). d ∷ w) (append-none walk)
-
-map-append : (v w : Walk) → map letterOf (v ++ w) ≡ map letterOf v ++ map letterOf w
-map-append [] w = refl
-map-append (d ∷ v) w = ap (λ (l : List ℕ). letterOf d ∷ l) (map-append v w)
-
 -- one letter more
 spelt-more : (walk : Walk) (before after : List ℕ) (n : ℕ) (d : Direction) → Spelt walk before after n → n < length before → Spelt (walk ++ (d ∷ [])) before (set after n (letterOf d)) (n + 1)
 spelt-more walk before after n d s h =
@@ -31,7 +23,7 @@ spelt-more walk before after n d s h =
     let text : after ≡ old ++ getD before n 0 ∷ drop (suc n) before = s .text ∙ ap (λ (l : List ℕ). old ++ l) (drop-cons before n 0 h) in
     let stored : set after n (letterOf d) ≡ old ++ letterOf d ∷ drop (suc n) before = ap (λ (l : List ℕ). set l n (letterOf d)) text ∙ set-at old (getD before n 0) (drop (suc n) before) (letterOf d) n (length-map walk letterOf ∙ sym (s .number)) in
     record {
-      text = stored ∙ rw (map-append walk (d ∷ []), append-assoc, add-one n);
+      text = stored ∙ rw (map-append letterOf walk (d ∷ []), append-assoc, add-one n);
       number = omega (arith, s .number, length-append walk (d ∷ []));
     }
 
@@ -90,4 +82,4 @@ module _ (z : Layout) (left : List ℕ) (at : ℕ) where
     -- until no tread is left at the point
     pub going-over : treadsAt left at ≡ 0 → Spelt all before after n
     going-over e =
-        subst (λ (w : Walk). Spelt w before after n) (sym (append-none (g .done)) ∙ ap (λ (w : Walk). g .done ++ w) (sym (no-letter z left at (g .walkable) e)) ∙ g .whole) (g .spelt)
+        subst (λ (w : Walk). Spelt w before after n) (sym (append-nil (g .done)) ∙ ap (λ (w : Walk). g .done ++ w) (sym (no-letter z left at (g .walkable) e)) ∙ g .whole) (g .spelt)

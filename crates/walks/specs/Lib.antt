@@ -3,3 +3,4 @@ pub mod Flood
 pub mod Letters
 pub mod Filling
 pub mod Lawfully
+pub mod Runs

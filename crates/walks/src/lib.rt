@@ -2,3 +2,4 @@
 mod flood;
 mod letters;
 mod treads;
+mod runs;
