@@ -102,6 +102,7 @@ module _ (z : Layout) (wide : z .aisles ≤ 16) (deep : z .cells ≤ 24) (treads
     where
       low : slotOf z e < length left
       low = omega (arith, f .charted .size, slot-range z wide deep e i)
+
       written : (g : Edge) → InStore z g → turn g < suc (turn e) → getD (set left (slotOf z e) v) (slotOf z g) 0 ≡ treads g
       written g j t =
           elim (equal-or-below (turn g) (turn e) (omega arith)) [

@@ -5,8 +5,8 @@ use native.Mathlib.Numerals.{add-one}
 use mathlib.Core.Path.{_≡_, refl, sym, ap, _∙_, subst}
 use mathlib.Core.List.{List, [], _∷_, _++_, map, append-assoc, append-nil, map-append}
 use mathlib.Core.Option.{some}
-use lib.ListN.{length, getD, set, drop, length-append, length-drop, length-map}
-use lib.Seq.{drop-cons, set-at}
+use lib.ListN.{length, getD, set, take, drop, length-append, length-drop, length-map}
+use lib.Seq.{drop-cons, set-at, take-at}
 use Rattle.rules.specs.declared.Layout.{Layout}
 use Rattle.rules.specs.declared.Direction.{Direction}
 use Rattle.rules.specs.Sheet.{letterOf}
@@ -29,6 +29,10 @@ spelt-more walk before after n d s h =
 
 pub spelt-length : {walk : Walk} {before after : List ℕ} {n : ℕ} → Spelt walk before after n → n ≤ length before → length after ≡ length before
 spelt-length {walk} {before} {after} {n} s h = omega (arith, ap length (s .text), length-append (map letterOf walk) (drop n before), length-map walk letterOf, s .number, length-drop n before)
+
+-- the letters read back
+pub spelt-take : {walk : Walk} {before after : List ℕ} {n : ℕ} → Spelt walk before after n → take n after ≡ map letterOf walk
+spelt-take {walk} {before} {after} {n} s = ap (take n) (s .text) ∙ take-at (map letterOf walk) (drop n before) n (length-map walk letterOf ∙ sym (s .number))
 
 -- some letters are written, and what is still to come makes up the whole walk with them
 pub record Going (z : Layout) (all : Walk) (left : List ℕ) (at : ℕ) (before after : List ℕ) (n : ℕ) : Type 0 where

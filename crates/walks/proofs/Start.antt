@@ -7,6 +7,7 @@ use mathlib.Core.List.{List, []}
 use mathlib.Core.Bool.{Bool, true, false, _&&_}
 use mathlib.Core.Option.{Option, some, Option·getD}
 use lib.Dec.{ltb}
+use lib.ListN.{length}
 use borrow.Author.Tests.{le-ltb}
 use Rattle.rules.specs.declared.Layout.{Layout}
 use Rattle.rules.specs.declared.Direction.{Direction}
@@ -24,6 +25,7 @@ use Rattle.closedwalks.proofs.Links.{joined-same}
 use Rattle.closedwalks.proofs.Counts.{layout-bounds, same-steps, few-treads}
 use Rattle.closedwalks.proofs.First.{tried, tried-free, tried-shut}
 use Rattle.closedwalks.proofs.Greedily.{greedy-found, lawful-ready}
+use Rattle.closedwalks.proofs.Statements.{first-walk, few-steps}
 use Rattle.values.specs.declared.PlanValue.{PlanValue}
 use Rattle.values.specs.Values.{planOf}
 use Rattle.walks.specs.Treads.{spot, pointAt, leftOf}
@@ -51,6 +53,7 @@ module _ (z : Layout) where
       shut : (b : Bool) → canStep z x d ≡ b → (b && ltb 0 (f (stepEdge x d))) ≡ false → (b && ltb 0 (g (stepEdge x d))) ≡ false → tried z n f x d ≡ tried z n g x d
       shut b c s t =
           tried-shut z n f x d (ap (λ (u : Bool). u && ltb 0 (f (stepEdge x d))) c ∙ s) ∙ sym (tried-shut z n g x d (ap (λ (u : Bool). u && ltb 0 (g (stepEdge x d))) c ∙ t))
+
       go : (b : Bool) → canStep z x d ≡ b → ((f (stepEdge x d) ≡ 0) ⊎ (0 < f (stepEdge x d))) → tried z n f x d ≡ tried z n g x d
       go false c s = shut false c refl refl
       go true c (inl s) =
@@ -114,3 +117,7 @@ module _ (z : Layout) (plan : PlanValue) (w : LawfulPlan z plan) where
       let found = greedy-found z (finds z) (finds-tells z) (stepsOf z g) g (depotPoint z) (ready-same z f g (depotPoint z) agrees planned) refl in
       let first = ap (λ (n : ℕ). firstFrom z n f (depotPoint z)) steps ∙ first-same z (stepsOf z g) f g (depotPoint z) (planned .point) agrees ∙ found in
       ap (λ (x : Point). greedy z (finds z) (stepsOf z g) g x) depot-at ∙ sym (ap (λ (o : Option Walk). Option·getD o []) first)
+
+  -- which are at most 860
+  pub walk-short : length (firstWalk z (planOf plan)) ≤ 860
+  walk-short = few-steps z low high (planOf plan) (firstWalk z (planOf plan)) (first-walk z low high (planOf plan) (w .well-formed) (w .lawful) .0) (w .bounds)

@@ -15,29 +15,13 @@ pub fn aisle_treads(action: Action, k: usize) -> u8
 {
     match action {
         Action::Void => 0,
-        Action::Bottom(i) => {
-            if k < i {
-                2
-            } else {
-                0
-            }
-        }
-        Action::Top(i) => {
-            if i <= k {
-                2
-            } else {
-                0
-            }
-        }
+        Action::Bottom(i) => { if k < i { 2 } else { 0 } }
+        Action::Top(i) => { if i <= k { 2 } else { 0 } }
         Action::Gap(h, i) => {
             if k < h {
                 return 2;
             }
-            if i <= k {
-                2
-            } else {
-                0
-            }
+            if i <= k { 2 } else { 0 }
         }
         Action::Once => 1,
         Action::Twice => 2,

@@ -47,9 +47,11 @@ fill-passage-requires c κs =
     let f = c .before .before .before .before in
     let a = f .before .before .before .before in
     let p = a .before .before .before .pre in
-    let x = a .before .before .before .args in
-    (p .0, omega (arith, p .1, f .before .before .before .loop-test .taken),
-    ap length (f .fill-aisle .ensures) ∙ aisle-length (stageAt (x .plan .stages) (a .loop .j) .action) (a .loop .j + 1) (suc (x .layout .cells)) (a .loop .left) ∙ loop-length a ∙ p .2)
+    let x = a .before .before .before .args in (
+      p .0,
+      omega (arith, p .1, f .before .before .before .loop-test .taken),
+      ap length (f .fill-aisle .ensures) ∙ aisle-length (stageAt (x .plan .stages) (a .loop .j) .action) (a .loop .j + 1) (suc (x .layout .cells)) (a .loop .left) ∙ loop-length a ∙ p .2,
+    )
 
 loop-less : tie.Need-loop-less Inv-loop μ-loop
 loop-less c = omega (arith, c .before .before .before .before .before .before .before .before .before .before .loop-test .taken)
@@ -60,10 +62,11 @@ loop-again c =
     let t = q .before .before in
     let f = t .before .before .before in
     let a = f .before .before .before .before in
-    let x = a .before .before .before .args in
-    (omega (arith, t .if1 .taken),
-    aisles-more (x .layout .aisles) (x .layout .cells) (x .plan .stages) (a .loop .j) (now (x .left)) (a .loop .left) (f .fill-aisle .last .1 .1 .1 .0) (q .fill-passage .last .1 .1 .1 .0) true (a .loop .inv .1) (f .fill-aisle .ensures) (q .fill-passage .ensures)
-    (lt-ltb (a .loop .j + 1) (x .layout .aisles) (t .if1 .taken)))
+    let x = a .before .before .before .args in (
+      omega (arith, t .if1 .taken),
+      aisles-more (x .layout .aisles) (x .layout .cells) (x .plan .stages) (a .loop .j) (now (x .left)) (a .loop .left) (f .fill-aisle .last .1 .1 .1 .0) (q .fill-passage .last .1 .1 .1 .0) true (a .loop .inv .1) (f .fill-aisle .ensures) (q .fill-passage .ensures)
+          (lt-ltb (a .loop .j + 1) (x .layout .aisles) (t .if1 .taken)),
+    )
 
 loop-less-2 : tie.Need-loop-less-2 Inv-loop μ-loop
 loop-less-2 c = omega (arith, c .before .before .before .before .before .before .loop-test .taken)
@@ -73,9 +76,10 @@ loop-again-2 c =
     let f = c .before .before .before in
     let a = f .before .before .before .before in
     let x = a .before .before .before .args in
-    let last = f .fill-aisle .last .1 .1 .1 .0 in
-    (omega (arith, f .before .before .before .loop-test .taken),
-    aisles-more (x .layout .aisles) (x .layout .cells) (x .plan .stages) (a .loop .j) (now (x .left)) (a .loop .left) last last false (a .loop .inv .1) (f .fill-aisle .ensures) refl (le-ltb (a .loop .j + 1) (x .layout .aisles) (c .if1 .left)))
+    let last = f .fill-aisle .last .1 .1 .1 .0 in (
+      omega (arith, f .before .before .before .loop-test .taken),
+      aisles-more (x .layout .aisles) (x .layout .cells) (x .plan .stages) (a .loop .j) (now (x .left)) (a .loop .left) last last false (a .loop .inv .1) (f .fill-aisle .ensures) refl (le-ltb (a .loop .j + 1) (x .layout .aisles) (c .if1 .left)),
+    )
 
 returns : tie.Need-returns Inv-loop μ-loop
 returns c =
