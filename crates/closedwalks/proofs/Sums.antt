@@ -67,7 +67,7 @@ sum-from-past : (f : ℕ → ℕ) (x a n : ℕ) → x < a → ((k : ℕ) → (k 
 sum-from-past f x a zero h g = refl
 sum-from-past f x a (suc n) h g = omega (arith, g a (λ e. omega arith), sum-from-past f x (suc a) n (omega arith) g)
 
-sum-from : (f : ℕ → ℕ) (x a n : ℕ) → a ≤ x → x < a + n → ((k : ℕ) → (k ≡ x → ⊥) → f k ≡ 0) → sumOf f (from a n) ≡ f x
+pub sum-from : (f : ℕ → ℕ) (x a n : ℕ) → a ≤ x → x < a + n → ((k : ℕ) → (k ≡ x → ⊥) → f k ≡ 0) → sumOf f (from a n) ≡ f x
 sum-from f x a zero p q g = absurd (omega arith)
 sum-from f x a (suc n) p q g =
     elim (equal-or-below a x p) [

@@ -7,7 +7,10 @@ use mathlib.Core.Logic.{_⊎_, inl, inr}
 use mathlib.Core.List.{List, [], _∷_, _++_, map, List·Memᴰ, List·Memᴰ·head, List·Memᴰ·tail}
 use mathlib.Core.Bool.{Bool, true, false, cond}
 use mathlib.Core.Option.{Option, none, some}
+use native.Mathlib.Numerals.{add-one}
 use lib.Dec.{eqb}
+use lib.ListN.{length, getD, take}
+use lib.Seq.{take-suc}
 use borrow.Author.Tests.{eqb-true, eqb-false, eq-eqb, ne-eqb}
 use Rattle.rules.specs.Lists.{firstOf, concatOf}
 use Rattle.optimum.specs.Least.{noTour, sat, leastOf, firstAt}
@@ -18,9 +21,14 @@ module _ {A : Type 0} where
   least-bound f [] = omega arith
   least-bound f (x ∷ xs) = omega (arith, least-bound f xs)
 
-  least-append : (f : A → ℕ) (xs ys : List A) → leastOf f (xs ++ ys) ≡ min (leastOf f xs) (leastOf f ys)
+  pub least-append : (f : A → ℕ) (xs ys : List A) → leastOf f (xs ++ ys) ≡ min (leastOf f xs) (leastOf f ys)
   least-append f [] ys = omega (arith, least-bound f ys)
   least-append f (x ∷ xs) ys = omega (arith, least-append f xs ys)
+
+  -- one more element is looked at
+  pub least-take : (f : A → ℕ) (xs : List A) (k : ℕ) (d : A) → k < length xs → leastOf f (take (k + 1) xs) ≡ min (leastOf f (take k xs)) (min (f (getD xs k d)) noTour)
+  least-take f xs k d h =
+      ap (λ n. leastOf f (take n xs)) (add-one k) ∙ ap (leastOf f) (take-suc xs k d h) ∙ least-append f (take k xs) (getD xs k d ∷ [])
 
   least-sat : (c : ℕ) (f : A → ℕ) (xs : List A) → leastOf (λ x. sat c (f x)) xs ≡ sat c (leastOf f xs)
   unfolding sat

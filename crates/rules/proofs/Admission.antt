@@ -127,7 +127,7 @@ line-out-of-stock job =
       λ p. some-line .1 (p .0, p .1, lt-ltb (allStock job (p .0 .article)) (p .0 .quantity) p.2),
     )
 
-same-cell : (r s : StockRecord) → (sameCell r s ≡ true) ↔ ((r .aisle ≡ s .aisle) × (r .cell ≡ s .cell))
+pub same-cell : (r s : StockRecord) → (sameCell r s ≡ true) ↔ ((r .aisle ≡ s .aisle) × (r .cell ≡ s .cell))
 unfolding sameCell
 same-cell r s = simp (and-eq-true-iff, eqb-equal) Iff·rfl
 
@@ -140,7 +140,7 @@ pub one-record-per-cell : (job : Job) → anyTwo sameCell (job .stock) ≡ false
 one-record-per-cell job h r s l m a c =
     alike-members sameCell (job .stock) h r s l m (same-cell r s .1 (a, c)) (same-cell s r .1 (sym a, sym c))
 
-same-article : (k l : OrderLine) → (sameArticle k l ≡ true) ↔ (k .article ≡ l .article)
+pub same-article : (k l : OrderLine) → (sameArticle k l ≡ true) ↔ (k .article ≡ l .article)
 unfolding sameArticle
 same-article k l = eqb-equal (k .article) (l .article)
 

@@ -1,5 +1,5 @@
 -- What the values stand for.
-use Prim.Native.Nat.{ℕ, _-_}
+use Prim.Native.Nat.{ℕ, _-_, _≤_}
 use mathlib.Core.List.{List, map}
 use lib.ListN.{take}
 use Rattle.rules.specs.declared.Action.{Action}
@@ -8,6 +8,7 @@ use Rattle.rules.specs.declared.Pick.{Pick}
 use Rattle.rules.specs.declared.Run.{Run}
 use Rattle.rules.specs.Jobs.{Job}
 use Rattle.rules.specs.Plans.{Plan}
+use Rattle.rules.specs.Refusals.{Admitted}
 use Rattle.values.specs.declared.JobValue.{JobValue}
 use Rattle.values.specs.declared.Stage.{Stage}
 use Rattle.values.specs.declared.PlanValue.{PlanValue}
@@ -39,3 +40,9 @@ picksOfValue v = take (v .count) (v .picks)
 -- the runs of a value
 unfoldable pub runsOfValue : RunList → List Run
 runsOfValue v = take (v .count) (v .runs)
+
+-- a job whose counts are within its arrays, and to which no refusal applies
+pub record Sound (v : JobValue) : Type 0 where
+  pub record-count : v .records ≤ 384
+  pub order-count : v .orders ≤ 8
+  pub admitted : Admitted (jobOf v)

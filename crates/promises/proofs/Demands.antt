@@ -1,0 +1,117 @@
+-- What is promised of every call. A reader starts here: the three demands as theorems, each under the user's own sentence.
+-- `answer bytes sheet work` (rules/specs/Answers) is what the library call gives on the bytes of a job file, a lent sheet and a
+-- lent work area: the reply, and what sheet and work area hold after it. The public contracts are equations with it.
+-- The words of the statements are in specs/: the causes of the table (Causes), what a sheet says (Contents), what calls give (Calls).
+use Prim.Native.Nat.{ℕ, _≤_, _<_}
+use native.Mathlib.Omega.{arith}
+use mathlib.Core.Path.{_≡_, refl, sym, _∙_, ap, subst}
+use mathlib.Core.Logic.{_↔_}
+use mathlib.Core.List.{List, []}
+use lib.ListN.{replicate, length-replicate}
+use Rattle.rules.specs.declared.Layout.{Layout}
+use Rattle.rules.specs.declared.Refusal.{Refusal}
+use Rattle.rules.specs.declared.Refusal.the-variants.{WorkArea, ShortOfStock}
+use Rattle.rules.specs.declared.Reply.the-variants.{Served, Refused}
+use Rattle.rules.specs.Store.{Edge, InStore}
+use Rattle.rules.specs.Jobs.{Job}
+use Rattle.rules.specs.Plans.{Plan}
+use Rattle.rules.specs.Lawful.{Lawful}
+use Rattle.rules.specs.Walks.{Walk, ClosedWalk, walkTreads}
+use Rattle.rules.specs.Answers.{workLimit, answer, hostAnswer}
+use Rattle.rules.specs.Examples.{AllHold, cases}
+use Rattle.rules.proofs.Cases as Cases
+use Rattle.closedwalks.proofs.Statements.{walk-reads, plan-determined}
+use Rattle.promises.specs.Causes.{LineOutOfStock, OfJob, Cause, tableRow, FirstCause}
+use Rattle.promises.specs.Contents.{Content}
+use Rattle.promises.specs.Calls.{RefusedCall, ServedCall, Shows, Obeys, Shortest, TreadsAs}
+use Rattle.promises.proofs.Table.{job-file-read, refused-for, refused-by, served-for, served-by}
+use Rattle.promises.proofs.Shown.{refused-call, served-call, best, best-obeys, best-shortest, shown, shown-best}
+
+pub record Demand1 (bytes sheet work : List ℕ) : Type 0 where
+  -- a call is refused with a refusal exactly if that is the first of the table that applies
+  pub refusal : (r : Refusal) → (answer bytes sheet work .reply ≡ Refused r) ↔ FirstCause r bytes sheet work
+  pub refused : (r : Refusal) → answer bytes sheet work .reply ≡ Refused r → RefusedCall r sheet work (answer bytes sheet work)
+  -- a call is served exactly if none of the table applies
+  pub serving : ((n : ℕ) × (answer bytes sheet work .reply ≡ Served n)) ↔ ((r : Refusal) → Cause r bytes sheet work → ⊥)
+  pub served : (n : ℕ) → answer bytes sheet work .reply ≡ Served n → OfJob bytes (λ job. ServedCall job sheet work (answer bytes sheet work))
+
+-- "If a job is malformed, out of range, too heavy or short of stock, or lent space is too small, the call ends with the refusal
+-- of the table, the first that applies, and the sheet space is untouched. Every other job gets a sheet, and every call ends."
+pub demand-1 : (bytes sheet work : List ℕ) → Demand1 bytes sheet work
+demand-1 bytes sheet work =
+    record {
+      refusal = λ r. (refused-by bytes sheet work r, λ f. ap (λ a. a .reply) (refused-for bytes sheet work r f));
+      refused = refused-call bytes sheet work;
+      serving = (λ s. served-by bytes sheet work (s .0) (s .1), λ n. (_, ap (λ a. a .reply) (served-for bytes sheet work n .2)));
+      served = served-call bytes sheet work;
+    }
+
+pub record Demand2 (bytes sheet work : List ℕ) : Type 0 where
+  -- the sheet of a served call says something of the job, and only one thing
+  pub shows : (n : ℕ) → answer bytes sheet work .reply ≡ Served n → (job : Job) × (c : Content) × Shows bytes sheet work job c
+  pub shows-one : (job other : Job) (c d : Content) → Shows bytes sheet work job c → Shows bytes sheet work other d → (job ≡ other) × (c ≡ d)
+  -- what it says obeys the policy, and length, picks and walk are the plan's
+  pub obeys : (job : Job) (c : Content) → Shows bytes sheet work job c → Obeys job c
+
+-- "The plan obeys the named policy as published for one-block stores, the length is the sum of its stretches, the picks meet each
+-- line exactly, and the printed walk starts and ends at the depot and treads each stretch as often as the plan says."
+pub demand-2 : (bytes sheet work : List ℕ) → Demand2 bytes sheet work
+demand-2 bytes sheet work =
+    record {
+      shows = λ n e. (let t = shown bytes sheet work n e in (t .0, best (t .0), t .1));
+      shows-one = λ job other c d s t. (
+          let e = job-file-read bytes job .1 (s .file) in
+          let f = job-file-read bytes other .1 (t .file) in
+          let same : job ≡ other = cc in
+          (same, sym (shown-best bytes sheet work job c s .1) ∙ ap best same ∙ shown-best bytes sheet work other d t .1)
+          );
+      obeys = λ job c s. (let t = shown-best bytes sheet work job c s in subst (Obeys job) (t .1) (best-obeys job (t .0)));
+    }
+
+-- "Conversely, every non-empty closed walk from the depot that treads no stretch more than twice reads as one plan, and a lawful one."
+pub demand-2-conversely : (z : Layout) → 1 ≤ z .depot → z .depot ≤ z .aisles
+    → (walk : Walk) → (walk ≡ [] → ⊥) → ClosedWalk z walk → ((e : Edge) → InStore z e → walkTreads z walk e ≤ 2)
+    → (plan : Plan) × TreadsAs z walk plan × Lawful z plan × ((other : Plan) → TreadsAs z walk other → other ≡ plan)
+demand-2-conversely z low high walk some-step closed twice =
+    let t = walk-reads z low high walk some-step closed twice in (
+      t .0,
+      record { well-formed = t .1; treads = t .2 },
+      t .3,
+      λ other o. plan-determined z other (t .0) (o .well-formed) (t .1) (λ e i. o .treads e i ∙ sym (t .2 e i)),
+    )
+
+pub record Demand3 (bytes sheet work : List ℕ) : Type 0 where
+  pub shortest : (job : Job) (c : Content) → Shows bytes sheet work job c → Shortest job c
+  -- refused for stock: no row above applies, and some line exceeds all the stock of its article
+  pub stock : (answer bytes sheet work .reply ≡ Refused ShortOfStock)
+      ↔ (((q : Refusal) → tableRow q < tableRow ShortOfStock → Cause q bytes sheet work → ⊥) × OfJob bytes LineOutOfStock)
+
+-- "For every job served, the plan on our sheet is one that the job's policy allows, passes enough stock for every line and has by 01
+-- the length printed there, and every plan that the policy allows and that passes enough stock too has at least that length. Under
+-- EXACT, so has every closed walk from the depot that passes enough stock for every line, whatever steps it takes and however often
+-- it treads a stretch. And a job is refused for stock exactly when it passes every test before that one and some line exceeds all
+-- the stock of its article."
+pub demand-3 : (bytes sheet work : List ℕ) → Demand3 bytes sheet work
+demand-3 bytes sheet work =
+    record {
+      shortest = λ job c s. (let t = shown-best bytes sheet work job c s in subst (Shortest job) (t .1) (best-shortest job (t .0)));
+      stock = (
+        λ e. (let f = refused-by bytes sheet work ShortOfStock e in (f .none-above, f .applies)),
+        λ h. demand-1 bytes sheet work .refusal ShortOfStock .1 (record { applies = h .1; none-above = h .0 }),
+      );
+    }
+
+-- "A planning host in C calls an entry that takes only byte buffers and numbers and brings its own work area."
+-- Its call is the library's, so the demands hold of it, and refusal 10 does not occur
+pub host-call : (bytes sheet : List ℕ) → hostAnswer bytes sheet ≡ answer bytes sheet (replicate workLimit 0)
+unfolding hostAnswer
+host-call bytes sheet = refl
+
+pub host-has-space : (bytes sheet : List ℕ) → hostAnswer bytes sheet .reply ≡ Refused WorkArea → ⊥
+unfolding hostAnswer
+host-has-space bytes sheet e =
+    omega (arith, refused-by bytes sheet (replicate workLimit 0) WorkArea e .applies, length-replicate {A = ℕ} workLimit 0)
+
+-- "Cases 1 to 14 are established as facts about the definitions, gathered into a table that one theorem covers."
+pub cases-hold : AllHold cases
+cases-hold = Cases.cases-hold

@@ -1,0 +1,9 @@
+pub mod Tables
+pub mod Geometry
+pub mod Ranks
+pub mod Relaxing
+pub mod Passages
+pub mod ActionRows
+pub mod StepLaws
+pub mod Composition
+pub mod TableValues

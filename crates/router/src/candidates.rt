@@ -1,0 +1,202 @@
+// The actions of an aisle by rank, as numbers, and what they cost.
+use rules::Layout;
+ghost use mathlib.Core.Path.{_≡_};
+ghost use mathlib.Core.Bool.{true};
+ghost use Prim.Native.Nat.{_+_, _*_, _≤_, _<_};
+ghost use lib.ListN.{length, getD};
+ghost use Rattle.rules.specs.declared.Action.the-variants.{Void};
+ghost use Rattle.rules.specs.Store.{position, aisleLength, layoutInBounds};
+ghost use Rattle.rules.specs.Policies.{inFrontHalf, inBackHalf};
+ghost use Rattle.rules.specs.BestPlan.{actionsOf};
+ghost use Rattle.router.specs.Steps.{bit};
+ghost use Rattle.router.specs.Candidates.{candidateOf, candidateLength, candidateHalves, gapsFrom};
+
+// An action as numbers: its kind, and the cells that its front and its back part reach.
+pub struct Candidate {
+    pub kind: usize,
+    pub front: usize,
+    pub back: usize,
+}
+
+// How many actions an aisle with that many cells has.
+const COUNTS: [usize; 25] = [
+    3,
+    5,
+    8,
+    12,
+    17,
+    23,
+    30,
+    38,
+    47,
+    57,
+    68,
+    80,
+    93,
+    107,
+    122,
+    138,
+    155,
+    173,
+    192,
+    212,
+    233,
+    255,
+    278,
+    302,
+    327,
+];
+
+// The number of actions of an aisle.
+pub fn action_count(cells: usize) -> usize
+    requires { ⌜ cells ≤ 24 ⌝ }
+    ensures { λ r. ⌜ r ≡ length (actionsOf cells) ⌝ }
+{
+    COUNTS[cells]
+}
+
+// The GAP with the number g among those of an aisle, or ONCE and TWICE behind them.
+fn gap(cells: usize, g: usize) -> Candidate
+    requires { ⌜ (cells ≤ 24) × (g < length (gapsFrom cells 1 cells)) ⌝ }
+    ensures { λ r. ⌜ r ≡ candidateOf cells (getD (gapsFrom cells 1 cells) g Void) ⌝ }
+{
+    let mut h = 1;
+    let mut rest = g;
+    while h <= cells {
+        if rest < cells - h {
+            return Candidate {
+                kind: 3,
+                front: h,
+                back: h + 1 + rest,
+            };
+        }
+        rest -= cells - h;
+        h += 1;
+    }
+    if rest == 0 {
+        Candidate {
+            kind: 4,
+            front: cells,
+            back: cells + 1,
+        }
+    } else {
+        Candidate {
+            kind: 5,
+            front: cells,
+            back: cells + 1,
+        }
+    }
+}
+
+// The action of a rank.
+pub fn action_at(cells: usize, rank: usize) -> Candidate
+    requires { ⌜ (cells ≤ 24) × (rank < length (actionsOf cells)) ⌝ }
+    ensures { λ r. ⌜ r ≡ candidateOf cells (getD (actionsOf cells) rank Void) ⌝ }
+{
+    if rank == 0 {
+        return Candidate {
+            kind: 0,
+            front: 0,
+            back: cells + 1,
+        };
+    }
+    if rank <= cells {
+        return Candidate {
+            kind: 1,
+            front: rank,
+            back: cells + 1,
+        };
+    }
+    if rank <= 2 * cells {
+        return Candidate {
+            kind: 2,
+            front: 0,
+            back: 2 * cells + 1 - rank,
+        };
+    }
+    gap(cells, rank - (2 * cells + 1))
+}
+
+// The length of an aisle.
+pub fn aisle_length(z: Layout) -> usize
+    requires { ⌜ layoutInBounds z ≡ true ⌝ }
+    ensures { λ r. ⌜ (r ≡ aisleLength z) × (r ≤ 810) ⌝ }
+{
+    z.front + (z.cells - 1) * z.pitch + z.back
+}
+
+// The distance of a height from the front.
+pub fn position_of(z: Layout, k: usize) -> usize
+    requires { ⌜ layoutInBounds z ≡ true ⌝ }
+    ensures { λ r. ⌜ (r ≡ position z k) × (r ≤ 810) ⌝ }
+{
+    if k == 0 {
+        return 0;
+    }
+    if k <= z.cells {
+        return z.front + (k - 1) * z.pitch;
+    }
+    aisle_length(z)
+}
+
+// What a candidate adds to the length of a plan.
+pub fn action_length(z: Layout, c: Candidate) -> usize
+    requires { ⌜ (layoutInBounds z ≡ true) × (c .kind < 6) ⌝ }
+    ensures { λ r. ⌜ (r ≡ candidateLength z c) × (r ≤ 3240) ⌝ }
+{
+    let whole = aisle_length(z);
+    let kind = c.kind;
+    if kind == 4 {
+        return whole;
+    }
+    if kind == 5 {
+        return 2 * whole;
+    }
+    2 * position_of(z, c.front) + 2 * (whole - position_of(z, c.back))
+}
+
+// Whether a front part keeps to the front half.
+fn front_half(z: Layout, k: usize) -> bool
+    requires { ⌜ layoutInBounds z ≡ true ⌝ }
+    ensures { λ r. ⌜ r ≡ inFrontHalf z k ⌝ }
+{
+    2 * position_of(z, k) <= aisle_length(z)
+}
+
+// Whether a back part keeps to the back half.
+fn back_half(z: Layout, k: usize) -> bool
+    requires { ⌜ layoutInBounds z ≡ true ⌝ }
+    ensures { λ r. ⌜ r ≡ inBackHalf z k ⌝ }
+{
+    aisle_length(z) <= 2 * position_of(z, k)
+}
+
+// A test as 0 or 1.
+fn flag(b: bool) -> usize
+    ensures { λ r. ⌜ (bit r ≡ b) × (r < 2) ⌝ }
+{
+    if b { 1 } else { 0 }
+}
+
+// Whether a candidate keeps to the halves, as 0 or 1.
+pub fn keeps_halves(z: Layout, c: Candidate) -> usize
+    requires { ⌜ (layoutInBounds z ≡ true) × (c .kind < 6) ⌝ }
+    ensures { λ r. ⌜ (bit r ≡ candidateHalves z c) × (r < 2) ⌝ }
+{
+    let kind = c.kind;
+    let front = c.front;
+    let back = c.back;
+    if kind == 0 {
+        return 1;
+    }
+    if kind == 1 {
+        return flag(front_half(z, front));
+    }
+    if kind == 2 {
+        return flag(back_half(z, back));
+    }
+    if kind == 3 {
+        return flag(front_half(z, front) & back_half(z, back));
+    }
+    0
+}

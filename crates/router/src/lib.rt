@@ -1,0 +1,5 @@
+// The router: for an admitted job, the first of the shortest allowed plans that serve its list.
+mod candidates;
+mod layers;
+mod rows;
+mod steps;

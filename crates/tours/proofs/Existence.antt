@@ -1,0 +1,359 @@
+-- A serving plan exists: where no line exceeds all the stock of its article, some plan that the policy allows serves the list.
+-- It enters every aisle that holds a listed article and passes all its cells. From aisle to aisle it goes on at the front, or at
+-- both ends while a round is open, and is closed off behind the last aisle.
+use Prim.Native.Nat.{ℕ, zero, suc, _+_, _*_, _≤_, _<_}
+use native.Mathlib.Omega.{arith}
+use mathlib.Core.Path.{_≡_, refl, sym, _∙_, ap, subst}
+use mathlib.Core.Logic.{_⊎_, inl, inr}
+use mathlib.Core.List.{List, [], _∷_, List·Memᴰ, List·Memᴰ·head, List·Memᴰ·tail}
+use mathlib.Core.Bool.{Bool, true, false, cond, _&&_, _||_}
+use borrow.Author.Tests.{le-leb, leb-false, eqb-true, eq-eqb}
+use lib.Dec.{leb, eqb}
+use lib.ListN.{length}
+use Rattle.rules.specs.declared.Layout.{Layout}
+use Rattle.rules.specs.declared.Policy.{Policy}
+use Rattle.rules.specs.declared.Policy.the-variants.{Exact, Return, Traversal, Midpoint, Composite}
+use Rattle.rules.specs.declared.Action.{Action}
+use Rattle.rules.specs.declared.Action.the-variants.{Void, Bottom, Top, Gap, Once}
+use Rattle.rules.specs.declared.Passage.{Passage}
+use Rattle.rules.specs.declared.Passage.the-variants.{P00, P02, P11}
+use Rattle.rules.specs.declared.StockRecord.{StockRecord}
+use Rattle.rules.specs.declared.OrderLine.{OrderLine}
+use Rattle.rules.specs.Store.{position, aisleLength}
+use Rattle.rules.specs.Lists.{from, nth, sumOf, anyOf}
+use Rattle.rules.specs.Jobs.{Job, listed, holdsListed}
+use Rattle.rules.specs.Plans.{Plan, WellFormed, Fits, actionAt, passesCell, planPasses}
+use Rattle.rules.specs.Policies.{Allowed, actionNamed, passageNamed, inFrontHalf, inBackHalf}
+use Rattle.rules.specs.Serving.{supply, Serves, PlanServes}
+use Rattle.rules.specs.Refusals.{Admitted, allStock}
+use Rattle.rules.specs.Machine.{State, nothing, closed, atFront, odd, joined, ending, dead, lawfulStep, midpointStep, policyStep, crossStep, isVoid, mayEnter, actionPossible, actionStep, passageStep, runFrom, isClosed, accepts}
+use Rattle.rules.proofs.Lists.{any-true, from-member, sum-agree}
+use Rattle.rules.proofs.Admission.{LayoutWithin, RecordWithin, layout-within, stock-within, list-within, lines-in-stock}
+use Rattle.tours.proofs.Basics.{split-at, true-not-false, or-true}
+use Rattle.tours.proofs.Machine.{accepts-allowed}
+
+-- an action that passes all cells of its aisle
+record Whole (cells : ℕ) (a : Action) : Type 0 where
+  fits : Fits cells a
+  passes : (c : ℕ) → 1 ≤ c → c ≤ cells → passesCell a c ≡ true
+
+bottom-whole : (cells : ℕ) → 1 ≤ cells → Whole cells (Bottom cells)
+bottom-whole cells some = record { fits = omega arith; passes = λ c low high. le-leb c cells high }
+
+once-whole : (cells : ℕ) → Whole cells Once
+once-whole cells = record { fits = tt; passes = λ c low high. refl }
+
+-- a cell up to which an aisle is walked from the front, and behind which it is walked from the back
+record Half (z : Layout) (n h : ℕ) : Type 0 where
+  within : h ≤ n
+  front : 0 < h → inFrontHalf z h ≡ true
+  back : h < n → inBackHalf z (suc h) ≡ true
+
+-- every cell is in one of the halves
+in-back-half : (z : Layout) (c : ℕ) → inFrontHalf z c ≡ false → inBackHalf z c ≡ true
+unfolding inFrontHalf inBackHalf
+in-back-half z c f =
+    let p = 2 * position z c in
+    let l = leb-false p (aisleLength z) f in
+    le-leb (aisleLength z) p (omega arith)
+
+half-of : (z : Layout) (n : ℕ) → (h : ℕ) × Half z n h
+half-of z zero = (0, record { within = omega arith; front = λ l. absurd (omega arith); back = λ l. absurd (omega arith) })
+half-of z (suc n) = let t = half-of z n in go (t .0) (t .1) (split-at (t .0) n) (inFrontHalf z (suc n)) refl
+  where
+    go : (h : ℕ) → Half z n h → (h < n) ⊎ (n ≤ h) → (b : Bool) → inFrontHalf z (suc n) ≡ b → (k : ℕ) × Half z (suc n) k
+    go h t (inl l) b f = (h, record { within = omega arith; front = t .front; back = λ k. t .back l })
+    go h t (inr l) true f = (suc n, record { within = omega arith; front = λ k. f; back = λ k. absurd (omega arith) })
+    go h t (inr l) false f =
+        let w = t .within in
+        let e : h ≡ n = omega arith in
+        (h, record { within = omega arith; front = t .front; back = λ k. rw e (in-back-half z (suc n) f) })
+
+-- an action between the first and the last entered aisle of MIDPOINT that passes all cells
+record Between (z : Layout) (a : Action) : Type 0 where
+  whole : Whole (z .cells) a
+  named : actionNamed Midpoint a ≡ true
+  step : midpointStep z a odd ≡ odd
+
+between : (z : Layout) → 1 ≤ z .cells → (a : Action) × Between z a
+between z some = let t = half-of z (z .cells) in go (t .0) (t .1) (split-at (t .0) (z .cells))
+  where
+    gap : (h c : ℕ) (b : Bool) → leb c h ≡ b → b || leb (suc h) c ≡ true
+    gap h c true e = refl
+    gap h c false e = le-leb (suc h) c (leb-false c h e)
+
+    go : (h : ℕ) → Half z (z .cells) h → (h < z .cells) ⊎ (z .cells ≤ h) → (a : Action) × Between z a
+    go zero t l =
+        let b = t .back some in
+        (Top 1, record { whole = record { fits = omega arith; passes = λ c low high. le-leb 1 c low }; named = refl; step = rw b })
+    go (suc h) t (inl l) =
+        let f = t .front (omega arith) in
+        let b = t .back l in
+        (Gap (suc h) (suc (suc h)), record { whole = record { fits = omega arith; passes = λ c low high. gap (suc h) c (leb c (suc h)) refl }; named = refl; step = rw (f, b) })
+    go (suc h) t (inr l) =
+        let w = t .within in
+        let e : suc h ≡ z .cells = omega arith in
+        let f : inFrontHalf z (z .cells) ≡ true = rw e at (t .front (omega arith)) in
+        (Bottom (z .cells), record { whole = bottom-whole (z .cells) some; named = refl; step = rw f })
+
+-- the policies under which an aisle is walked through and another one later closes the round
+abbrev Pairs : Policy → Type 0
+Pairs Exact = ⊥
+Pairs Return = ⊥
+Pairs Traversal = Unit {0}
+Pairs Midpoint = Unit {0}
+Pairs Composite = ⊥
+
+-- the states before an aisle from which the plan can go on; `more`: the aisle or one behind it is entered
+data Ready (policy : Policy) (more : Bool) : State → Type 0 where
+  none-yet : more ≡ true → Ready policy more nothing
+  on-front : Ready policy more atFront
+  on-both : Pairs policy → more ≡ true → Ready policy more odd
+  none-left : more ≡ false → Ready policy more ending
+
+-- the states behind an aisle; `more`: an aisle behind it is entered
+data Behind (policy : Policy) (more : Bool) : State → Type 0 where
+  as-before : {s : State} → Ready policy more s → Behind policy more s
+  met-again : Behind policy more joined
+
+-- the state behind an aisle that may be entered
+abbrev enterStep : Policy → Layout → Action → State → State
+enterStep policy z a s = cond (actionNamed policy a && (isVoid a || mayEnter policy true)) (policyStep policy z a s) dead
+
+module _ (z : Layout) (some : 1 ≤ z .cells) where
+  -- an aisle is entered so that all its cells are passed
+  abbrev Entering : Policy → Bool → State → Type 0
+  Entering policy more s = (a : Action) × Whole (z .cells) a × Behind policy more (enterStep policy z a s)
+
+  by-bottom : (policy : Policy) (more : Bool) {s : State} → (Pairs policy → ⊥) → ((r : State) → enterStep policy z (Bottom (z .cells)) r ≡ lawfulStep (Bottom (z .cells)) r) → Ready policy true s → Entering policy more s
+  by-bottom policy more alone e (none-yet l) = (Bottom (z .cells), bottom-whole (z .cells) some, rw (e nothing) (as-before on-front))
+  by-bottom policy more alone e on-front = (Bottom (z .cells), bottom-whole (z .cells) some, rw (e atFront) (as-before on-front))
+  by-bottom policy more alone e (on-both p l) = absurd (alone p)
+  by-bottom policy more alone e (none-left l) = absurd (true-not-false l)
+
+  enter : (policy : Policy) (more : Bool) {s : State} → Ready policy true s → Entering policy more s
+  enter Exact more r = by-bottom Exact more (λ p. p) (λ s. refl) r
+  enter Return more r = by-bottom Return more (λ p. p) (λ s. refl) r
+  enter Composite more r = by-bottom Composite more (λ p. p) (λ s. refl) r
+  enter Traversal true (none-yet l) = (Once, once-whole (z .cells), as-before (on-both tt refl))
+  enter Traversal false (none-yet l) = (Bottom (z .cells), bottom-whole (z .cells) some, as-before (none-left refl))
+  enter Traversal true on-front = (Once, once-whole (z .cells), as-before (on-both tt refl))
+  enter Traversal false on-front = (Bottom (z .cells), bottom-whole (z .cells) some, as-before (none-left refl))
+  enter Traversal true (on-both p l) = (Once, once-whole (z .cells), met-again)
+  enter Traversal false (on-both p l) = (Once, once-whole (z .cells), met-again)
+  enter Traversal true (none-left l) = absurd (true-not-false l)
+  enter Traversal false (none-left l) = absurd (true-not-false l)
+  enter Midpoint true (none-yet l) = (Once, once-whole (z .cells), as-before (on-both tt refl))
+  enter Midpoint false (none-yet l) = (Bottom (z .cells), bottom-whole (z .cells) some, as-before (none-left refl))
+  enter Midpoint true on-front = (Once, once-whole (z .cells), as-before (on-both tt refl))
+  enter Midpoint false on-front = (Bottom (z .cells), bottom-whole (z .cells) some, as-before (none-left refl))
+  enter Midpoint true (on-both p l) =
+      let t = between z some in
+      (t .0, t .1 .whole, rw (t .1 .named, or-true (isVoid (t .0)), t .1 .step) (as-before (on-both tt refl)))
+  enter Midpoint false (on-both p l) = (Once, once-whole (z .cells), as-before (none-left refl))
+  enter Midpoint true (none-left l) = absurd (true-not-false l)
+  enter Midpoint false (none-left l) = absurd (true-not-false l)
+
+-- every policy names 00 and 02, and those of a round that is closed later name 11
+front-named : (policy : Policy) → (passageNamed policy P00 ≡ true) × (passageNamed policy P02 ≡ true)
+front-named Exact = (refl, refl)
+front-named Return = (refl, refl)
+front-named Traversal = (refl, refl)
+front-named Midpoint = (refl, refl)
+front-named Composite = (refl, refl)
+
+both-named : (policy : Policy) → Pairs policy → passageNamed policy P11 ≡ true
+both-named Exact p = absurd p
+both-named Return p = absurd p
+both-named Traversal p = refl
+both-named Midpoint p = refl
+both-named Composite p = absurd p
+
+module _ (policy : Policy) (d j : ℕ) where
+  -- the state behind a passage
+  abbrev crossed : Passage → State → State
+  crossed p s = cond (passageNamed policy p) (crossStep d j p s) dead
+
+  -- the plan goes on to the next aisle
+  cross : (more : Bool) {s : State} → Behind policy more s → (p : Passage) × Ready policy more (crossed p s)
+  cross more (as-before (none-yet l)) = (P02, rw (front-named policy .1) on-front)
+  cross more (as-before on-front) = (P02, rw (front-named policy .1) on-front)
+  cross more (as-before (on-both p l)) = (P11, rw (both-named policy p) (on-both p l))
+  cross more (as-before (none-left l)) = (P02, rw (front-named policy .1) (none-left l))
+  cross more met-again = (P02, rw (front-named policy .1) on-front)
+
+  -- or is closed off behind the last
+  close : {s : State} → d ≤ j → Behind policy false s → crossed P00 s ≡ closed
+  close h (as-before (none-yet l)) = absurd (true-not-false (sym l))
+  close h (as-before on-front) = rw (front-named policy .0, le-leb d j h)
+  close h (as-before (on-both p l)) = absurd (true-not-false (sym l))
+  close h (as-before (none-left l)) = rw (front-named policy .0, le-leb d j h)
+  close h met-again = rw (front-named policy .0, le-leb d j h)
+
+-- all cells of the aisles from j on that hold a listed article are passed
+abbrev PassedFrom : Job → ℕ → List Action → Type 0
+PassedFrom job j actions =
+    (k i : ℕ) → j + k ≡ i → i ≤ job .layout .aisles → holdsListed job i ≡ true → Whole (job .layout .cells) (nth actions (suc k) Void)
+
+-- the rest of a plan from aisle j on, n aisles before the last: what the machine accepts from the state s,
+-- and in which all cells of the aisles that hold a listed article are passed
+record Rest (job : Job) (n j : ℕ) (s : State) : Type 0 where
+  actions : List Action
+  passages : List Passage
+  aisles : length actions ≡ suc n
+  gaps : length passages ≡ n
+  fits : (k : ℕ) → Fits (job .layout .cells) (nth actions k Void)
+  passes : PassedFrom job j actions
+  closes : runFrom job j s actions passages ≡ closed
+
+module _ (job : Job) (within : LayoutWithin (job .layout)) where
+  -- what is done in aisle j
+  record Done (j : ℕ) (more : Bool) (s : State) : Type 0 where
+    action : Action
+    fits : Fits (job .layout .cells) action
+    passes : holdsListed job j ≡ true → Whole (job .layout .cells) action
+    behind : Behind (job .policy) more (actionStep job j action s)
+
+  done : (j : ℕ) (more : Bool) (s : State) → Ready (job .policy) (holdsListed job j || more) s → Done j more s
+  unfolding actionStep actionPossible
+  done j more s r = go (holdsListed job j) refl r
+    where
+      by-void : (policy : Policy) → cond (actionNamed policy Void && true) (policyStep policy (job .layout) Void s) dead ≡ s
+      by-void Exact = refl
+      by-void Return = refl
+      by-void Traversal = refl
+      by-void Midpoint = refl
+      by-void Composite = refl
+
+      go : (b : Bool) → holdsListed job j ≡ b → Ready (job .policy) (b || more) s → Done j more s
+      go true e r =
+          let t = enter (job .layout) (within .cells .0) (job .policy) more r in
+          record { action = t .0; fits = t .1 .fits; passes = λ h. t .1; behind = rw e (t .2) }
+      go false e r =
+          record { action = Void; fits = tt; passes = λ h. absurd (true-not-false (sym h ∙ e)); behind = rw (by-void (job .policy)) (as-before r) }
+
+  fits-first : (a : Action) (actions : List Action) → Fits (job .layout .cells) a → ((k : ℕ) → Fits (job .layout .cells) (nth actions k Void))
+      → (k : ℕ) → Fits (job .layout .cells) (nth (a ∷ actions) k Void)
+  fits-first a actions f g zero = tt
+  fits-first a actions f g (suc zero) = f
+  fits-first a actions f g (suc (suc k)) = g (suc k)
+
+  passes-first : (j : ℕ) (a : Action) (actions : List Action) → (holdsListed job j ≡ true → Whole (job .layout .cells) a) → PassedFrom job (suc j) actions → PassedFrom job j (a ∷ actions)
+  passes-first j a actions f g zero i e l h = let same : i ≡ j = omega arith in f (rw same at h)
+  passes-first j a actions f g (suc k) i e l h = g k i (omega arith) l h
+
+  void-fits : (k : ℕ) → Fits (job .layout .cells) (nth [] k Void)
+  void-fits zero = tt
+  void-fits (suc k) = tt
+
+  rest : (n j : ℕ) (s : State) → j + n ≡ job .layout .aisles → Ready (job .policy) (anyOf (holdsListed job) (from j (suc n))) s → Rest job n j s
+  unfolding passageStep
+  rest zero j s e r =
+      let t = done j false s r in
+      let d = within .depot .1 in
+      record {
+        actions = t .action ∷ [];
+        passages = [];
+        aisles = refl;
+        gaps = refl;
+        fits = fits-first (t .action) [] (t .fits) void-fits;
+        passes = passes-first j (t .action) [] (t .passes) (λ k i p l h. absurd (omega arith));
+        closes = close (job .policy) (job .layout .depot) j (omega arith) (t .behind);
+      }
+  rest (suc n) j s e r =
+      let t = done j (anyOf (holdsListed job) (from (suc j) (suc n))) s r in
+      let c = cross (job .policy) (job .layout .depot) j (anyOf (holdsListed job) (from (suc j) (suc n))) (t .behind) in
+      let u = rest n (suc j) (passageStep job j (c .0) (actionStep job j (t .action) s)) (omega arith) (c .1) in
+      record {
+        actions = t .action ∷ u .actions;
+        passages = c .0 ∷ u .passages;
+        aisles = ap suc (u .aisles);
+        gaps = ap suc (u .gaps);
+        fits = fits-first (t .action) (u .actions) (t .fits) (u .fits);
+        passes = passes-first j (t .action) (u .actions) (t .passes) (u .passes);
+        closes = u .closes;
+      }
+
+-- a sum above zero has a term above zero
+some-term : {A : Type 0} (f : A → ℕ) (xs : List A) → 1 ≤ sumOf f xs → (x : A) × List·Memᴰ x xs × (1 ≤ f x)
+some-term f [] h = absurd (omega arith)
+some-term f (x ∷ xs) h = elim (split-at 0 (f x)) [
+  | inl l ↦ (x, List·Memᴰ·head refl, l)
+  | inr l ↦ let t = some-term f xs (omega arith) in (t .0, List·Memᴰ·tail (t .1), t .2)
+]
+
+both : (a b : Bool) → a ≡ true → b ≡ true → a && b ≡ true
+both a b e f = rw (e, f)
+
+module _ (job : Job) (a : Admitted job) where
+  within : LayoutWithin (job .layout)
+  within = layout-within (job .layout) .0 (a .layout)
+
+  record-in : (r : StockRecord) → List·Memᴰ r (job .stock) → RecordWithin (job .layout) r
+  record-in = stock-within job .0 (a .stock) .records
+
+  -- the aisle of a record of a line's article holds a listed article
+  holds : (l : OrderLine) (r : StockRecord) → List·Memᴰ l (job .lines) → List·Memᴰ r (job .stock) → r .article ≡ l .article → holdsListed job (r .aisle) ≡ true
+  unfolding holdsListed listed
+  holds l r m n e = any-true (λ (s : StockRecord). eqb (s .aisle) (r .aisle) && listed job (s .article)) (job .stock) .1 (
+    r,
+    n,
+    both (eqb (r .aisle) (r .aisle)) (listed job (r .article)) (eq-eqb (r .aisle) (r .aisle) refl)
+        (any-true (λ (k : OrderLine). eqb (k .article) (r .article)) (job .lines) .1 (l, m, eq-eqb (l .article) (r .article) (sym e))),
+  )
+
+  in-stock : (l : OrderLine) → List·Memᴰ l (job .lines) → l .quantity ≤ allStock job (l .article)
+  in-stock = lines-in-stock job .0 (a .in-stock)
+
+  -- some aisle holds a listed article
+  some-aisle : anyOf (holdsListed job) (from 1 (job .layout .aisles)) ≡ true
+  unfolding allStock
+  some-aisle =
+      let list = list-within job .0 (a .list) in
+      let (l, m) = first (job .lines) (list .count .0) in
+      let (r, n, t) = some-term (λ (r : StockRecord). cond (eqb (r .article) (l .article)) (r .quantity) 0) (job .stock) (omega (arith, in-stock l m, list .lines l m .quantity .0)) in
+      let e = eqb-true (r .article) (l .article) (told (eqb (r .article) (l .article)) (r .quantity) t) in
+      let w = record-in r n .aisle in
+      any-true (holdsListed job) (from 1 (job .layout .aisles)) .1 (r .aisle, from-member (r .aisle) 1 (job .layout .aisles) (w .0) (omega arith), holds l r m n e)
+    where
+      first : {A : Type 0} (xs : List A) → 1 ≤ length xs → (x : A) × List·Memᴰ x xs
+      first [] h = absurd (omega arith)
+      first (x ∷ xs) h = (x, List·Memᴰ·head refl)
+
+      told : (b : Bool) (n : ℕ) → 1 ≤ cond b n 0 → b ≡ true
+      told true n h = refl
+      told false n h = absurd (omega arith)
+
+  -- where all cells of the aisles with a listed article are passed, the supply is all the stock
+  whole-stock : (plan : Plan) → ((j : ℕ) → 1 ≤ j → j ≤ job .layout .aisles → holdsListed job j ≡ true → Whole (job .layout .cells) (actionAt plan j)) → PlanServes job plan
+  unfolding PlanServes Serves supply allStock planPasses
+  whole-stock plan h l m = omega (arith, in-stock l m, sum-agree _ _ (job .stock) (λ r n. go r n (eqb (r .article) (l .article)) refl))
+    where
+      go : (r : StockRecord) → List·Memᴰ r (job .stock) → (b : Bool) → eqb (r .article) (l .article) ≡ b
+          → cond (eqb (r .article) (l .article)) (r .quantity) 0 ≡ cond (eqb (r .article) (l .article) && passesCell (actionAt plan (r .aisle)) (r .cell)) (r .quantity) 0
+      go r n true e =
+          let w = record-in r n in
+          rw (e, h (r .aisle) (w .aisle .0) (w .aisle .1) (holds l r m n (eqb-true (r .article) (l .article) e)) .passes (r .cell) (w .cell .0) (w .cell .1))
+      go r n false e = rw e
+
+  -- for each policy some plan that the machine accepts serves the list
+  pub serving-exists : (plan : Plan) × WellFormed (job .layout) plan × (accepts job plan ≡ true) × PlanServes job plan
+  unfolding accepts actionAt
+  serving-exists = go (job .layout .aisles) refl (within .aisles .0)
+    where
+      go : (m : ℕ) → job .layout .aisles ≡ m → 1 ≤ m → (plan : Plan) × WellFormed (job .layout) plan × (accepts job plan ≡ true) × PlanServes job plan
+      go zero e some = absurd (omega arith)
+      go (suc n) e some =
+          let t = rest job within n 1 nothing (omega arith) (none-yet (subst (λ (k : ℕ). anyOf (holdsListed job) (from 1 k) ≡ true) e some-aisle)) in
+          let plan : Plan = record { actions = t .actions; passages = t .passages } in
+          (plan, record { aisles = t .aisles ∙ sym e; passages = ap suc (t .gaps) ∙ sym e; fits = t .fits }, ap isClosed (t .closes), whole-stock plan (at-aisle (t .actions) (t .passes)))
+        where
+          at-aisle : (actions : List Action) → PassedFrom job 1 actions → (j : ℕ) → 1 ≤ j → j ≤ job .layout .aisles → holdsListed job j ≡ true → Whole (job .layout .cells) (nth actions j Void)
+          at-aisle actions p zero low high h = absurd (omega arith)
+          at-aisle actions p (suc k) low high h = p k (suc k) (omega arith) high h
+
+-- for each policy some allowed plan serves the list
+pub allowed-exists : (job : Job) → Admitted job → (plan : Plan) × WellFormed (job .layout) plan × Allowed job plan × PlanServes job plan
+allowed-exists job a =
+    let t = serving-exists job a in
+    (t .0, t .1, accepts-allowed job (t .0) (layout-within (job .layout) .0 (a .layout) .depot .0) (t .1) .0 (t .2), t .3)

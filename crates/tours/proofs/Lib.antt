@@ -1,0 +1,15 @@
+pub mod Basics
+pub mod Links
+pub mod Aisles
+pub mod Forward
+pub mod Parity
+pub mod Backward
+pub mod Exact
+pub mod Runs
+pub mod Counting
+pub mod Simulation
+pub mod Traversal
+pub mod Midpoint
+pub mod Rules
+pub mod Machine
+pub mod Existence

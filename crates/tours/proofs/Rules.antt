@@ -1,0 +1,135 @@
+-- The rules of a policy: its table closes off the plans that keep its own rule, and the machine's tests ask the rest.
+use Prim.Native.Nat.{ℕ, zero, suc, _≤_}
+use mathlib.Core.Path.{_≡_, refl, sym, _∙_}
+use mathlib.Core.Logic.{_↔_}
+use mathlib.Core.Bool.{Bool, true, false, _&&_, _||_}
+use Rattle.rules.specs.declared.Layout.{Layout}
+use Rattle.rules.specs.declared.Policy.{Policy}
+use Rattle.rules.specs.declared.Policy.the-variants.{Exact, Return, Traversal, Midpoint, Composite}
+use Rattle.rules.specs.declared.Action.{Action}
+use Rattle.rules.specs.declared.Action.the-variants.{Void, Bottom, Top, Gap, Once, Twice}
+use Rattle.rules.specs.declared.Passage.{Passage}
+use Rattle.rules.specs.declared.Passage.the-variants.{P00, P02, P11, P20, P22}
+use Rattle.rules.specs.Jobs.{Job, holdsListed}
+use Rattle.rules.specs.Plans.{Plan, WellFormed, actionAt, passageAt}
+use Rattle.rules.specs.Lawful.{Lawful}
+use Rattle.rules.specs.Policies.{actionNamed, passageNamed, OwnRule, PolicyRules, Follows}
+use Rattle.rules.specs.Machine.{State, closed, lawfulStep, policyStep, isVoid, mayEnter, actionPossible}
+use Rattle.tours.specs.Prefixes.{lawfulState, policyState}
+use Rattle.tours.proofs.Basics.{or-true, false-not-true}
+use Rattle.tours.proofs.Exact.{closed-iff-lawful}
+use Rattle.tours.proofs.Runs.{Possible}
+use Rattle.tours.proofs.Traversal.{traversal-table}
+use Rattle.tours.proofs.Midpoint.{midpoint-table}
+
+-- EXACT, RETURN and COMPOSITE share one table
+same-run : (policy : Policy) (z : Layout) (plan : Plan) → ((a : Action) (s : State) → policyStep policy z a s ≡ lawfulStep a s)
+    → (n : ℕ) → policyState policy z plan n ≡ lawfulState (z .depot) plan n
+same-run policy z plan same zero = refl
+same-run policy z plan same (suc i) =
+    rw (same-run policy z plan same i, same (actionAt plan (suc i)) (lawfulState (z .depot) plan i))
+
+module _ {z : Layout} {plan : Plan} (wf : WellFormed z plan) (depot-low : 1 ≤ z .depot) where
+  shared-table : (policy : Policy) → ((a : Action) (s : State) → policyStep policy z a s ≡ lawfulStep a s)
+      → (policyState policy z plan (z .aisles) ≡ closed) ↔ (Lawful z plan × Unit {0})
+  shared-table policy same =
+      let r = same-run policy z plan same (z .aisles) in
+      let e = closed-iff-lawful wf depot-low in
+      ((λ c. (e .0 (sym r ∙ c), tt)), (λ h. r ∙ e .1 (h .0)))
+
+  own-table : (policy : Policy) (Rule : Type 0)
+      → (policyState policy z plan (z .aisles) ≡ closed) ↔ ((lawfulState (z .depot) plan (z .aisles) ≡ closed) × Rule)
+      → (policyState policy z plan (z .aisles) ≡ closed) ↔ (Lawful z plan × Rule)
+  own-table policy Rule t =
+      let e = closed-iff-lawful wf depot-low in
+      ((λ c. let h = t .0 c in (e .0 (h .0), h .1)), (λ h. t .1 (e .1 (h .0), h .1)))
+
+  -- a policy's table closes off just the lawful plans that keep the policy's own rule
+  pub policy-table : (policy : Policy) → ((j : ℕ) → passageNamed policy (passageAt plan j) ≡ true)
+      → (policyState policy z plan (z .aisles) ≡ closed) ↔ (Lawful z plan × OwnRule policy z plan)
+  policy-table Exact named = shared-table Exact (λ a s. refl)
+  policy-table Return named = shared-table Return (λ a s. refl)
+  policy-table Traversal named = own-table Traversal (OwnRule Traversal z plan) (traversal-table wf named)
+  policy-table Midpoint named = own-table Midpoint (OwnRule Midpoint z plan) (midpoint-table wf named)
+  policy-table Composite named = shared-table Composite (λ a s. refl)
+
+both-true : (a b : Bool) → a && b ≡ true → (a ≡ true) × (b ≡ true)
+both-true true b e = (refl, e)
+both-true false b e = absurd (false-not-true e)
+
+void-if : (a : Action) → isVoid a || false ≡ true → a ≡ Void
+void-if Void e = refl
+void-if (Bottom i) e = absurd (false-not-true e)
+void-if (Top i) e = absurd (false-not-true e)
+void-if (Gap h i) e = absurd (false-not-true e)
+void-if Once e = absurd (false-not-true e)
+void-if Twice e = absurd (false-not-true e)
+
+all-actions : (a : Action) → actionNamed Exact a ≡ true
+all-actions Void = refl
+all-actions (Bottom i) = refl
+all-actions (Top i) = refl
+all-actions (Gap h i) = refl
+all-actions Once = refl
+all-actions Twice = refl
+
+all-passages : (p : Passage) → passageNamed Exact p ≡ true
+all-passages P00 = refl
+all-passages P02 = refl
+all-passages P11 = refl
+all-passages P20 = refl
+all-passages P22 = refl
+
+module _ (job : Job) (plan : Plan) where
+  -- a policy that lets only aisles with a listed article be entered
+  module _ (listed-only : (b : Bool) → mayEnter (job .policy) b ≡ b) where
+    listed-rules : ((j : ℕ) → Possible job plan j) × OwnRule (job .policy) (job .layout) plan → PolicyRules job plan
+    unfolding actionPossible
+    listed-rules (possible, own) =
+        record {
+          actions = λ j. parts j .0;
+          passages = λ j. possible j .passage;
+          void = λ j e. void-if (actionAt plan j) (rw (listed-only (holdsListed job j), e) at (parts j .1));
+          own = own;
+        }
+      where
+        parts : (j : ℕ) → (actionNamed (job .policy) (actionAt plan j) ≡ true) × (isVoid (actionAt plan j) || mayEnter (job .policy) (holdsListed job j) ≡ true)
+        parts j =
+            both-true (actionNamed (job .policy) (actionAt plan j)) (isVoid (actionAt plan j) || mayEnter (job .policy) (holdsListed job j))
+            (possible j .action)
+
+    rules-listed : PolicyRules job plan → ((j : ℕ) → Possible job plan j) × OwnRule (job .policy) (job .layout) plan
+    unfolding actionPossible
+    rules-listed rules = (
+      (λ j. record {
+        action = rw (rules .actions j, listed-only (holdsListed job j)) (enter j (holdsListed job j) refl);
+        passage = rules .passages j;
+      }),
+      rules .own,
+    )
+      where
+        enter : (j : ℕ) (b : Bool) → holdsListed job j ≡ b → isVoid (actionAt plan j) || holdsListed job j ≡ true
+        enter j true e = rw e (or-true (isVoid (actionAt plan j)))
+        enter j false e = rw (rules .void j e)
+
+    listed-follows : (((j : ℕ) → Possible job plan j) × OwnRule (job .policy) (job .layout) plan) ↔ PolicyRules job plan
+    listed-follows = (listed-rules, rules-listed)
+
+  -- what the machine's tests ask, with the policy's own rule, is what the policy asks
+  pub follows-rules : (policy : Policy) → job .policy ≡ policy
+      → (((j : ℕ) → Possible job plan j) × OwnRule (job .policy) (job .layout) plan) ↔ Follows policy job plan
+  unfolding actionPossible
+  follows-rules Exact e = (
+    (λ h. tt),
+    (λ h. (
+      (λ j. record {
+        action = rw (e, all-actions (actionAt plan j)) (or-true (isVoid (actionAt plan j)));
+        passage = rw e (all-passages (passageAt plan j));
+      }),
+      rw e tt,
+    )),
+  )
+  follows-rules Return e = listed-follows (λ b. rw e)
+  follows-rules Traversal e = listed-follows (λ b. rw e)
+  follows-rules Midpoint e = listed-follows (λ b. rw e)
+  follows-rules Composite e = listed-follows (λ b. rw e)

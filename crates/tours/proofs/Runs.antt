@@ -1,0 +1,171 @@
+-- The machine's run over the lists of a plan is the run by prefixes; where the policy's actions and passages are kept to,
+-- its tests fall away.
+use Prim.Native.Nat.{ℕ, zero, suc, _+_, _≤_}
+use native.Mathlib.Omega.{arith}
+use mathlib.Core.Path.{_≡_, refl, sym, subst, ap, _∙_}
+use mathlib.Core.Logic.{inl, inr, _↔_}
+use mathlib.Core.List.{List, [], _∷_, tail}
+use mathlib.Core.Bool.{Bool, true, false, cond}
+use lib.ListN.{length}
+use Rattle.rules.specs.declared.Layout.{Layout}
+use Rattle.rules.specs.declared.Policy.{Policy}
+use Rattle.rules.specs.declared.Policy.the-variants.{Exact, Return, Traversal, Midpoint, Composite}
+use Rattle.rules.specs.declared.Action.{Action}
+use Rattle.rules.specs.declared.Action.the-variants.{Void, Bottom, Top, Gap, Once, Twice}
+use Rattle.rules.specs.declared.Passage.{Passage}
+use Rattle.rules.specs.declared.Passage.the-variants.{P00}
+use Rattle.rules.specs.Lists.{nth, headOr}
+use Rattle.rules.specs.Jobs.{Job}
+use Rattle.rules.specs.Plans.{Plan, WellFormed, actionAt, passageAt}
+use Rattle.rules.specs.Policies.{actionNamed, passageNamed}
+use Rattle.rules.specs.Machine.{State, nothing, closed, atFront, atBack, odd, joined, split, ending, dead, policyStep, crossStep, actionPossible, actionStep, passageStep, runFrom, isClosed, accepts}
+use Rattle.tours.specs.Prefixes.{stateAt, policyState}
+use Rattle.tours.proofs.Basics.{below, split-at}
+use Rattle.tours.proofs.Aisles.{action-past, passage-past}
+use Rattle.tours.proofs.Parity.{Live, live-before-action, live-before-passage}
+
+first-of : {A : Type 0} (xs : List A) (d : A) → nth xs 1 d ≡ headOr d xs
+first-of [] d = refl
+first-of (x ∷ xs) d = refl
+
+rest-of : {A : Type 0} (xs : List A) (k : ℕ) (d : A) → nth (tail xs) (suc k) d ≡ nth xs (suc (suc k)) d
+rest-of [] k d = refl
+rest-of (x ∷ xs) k d = refl
+
+-- from aisle j + 1 on the lists are the plan's
+run-from : (job : Job) (plan : Plan) (actions : List Action) (passages : List Passage) (j n : ℕ)
+    → ((k i : ℕ) → j + k ≡ i → actionAt plan (suc i) ≡ nth actions (suc k) Void)
+    → ((k i : ℕ) → j + k ≡ i → passageAt plan (suc i) ≡ nth passages (suc k) P00)
+    → j + length actions ≡ n
+    → runFrom job (suc j) (stateAt job plan j) actions passages ≡ stateAt job plan n
+run-from job plan [] passages j n f g e = let p : j ≡ n = omega arith in rw p
+run-from job plan (a ∷ actions) passages j n f g e =
+    let p = f 0 j (omega arith) in
+    let q = g 0 j (omega arith) ∙ first-of passages P00 in
+    rw (← p, ← q) (
+    run-from job plan actions (tail passages) (suc j) n
+    (λ k i h. f (suc k) i (omega arith))
+    (λ k i h. g (suc k) i (omega arith) ∙ sym (rest-of passages k P00))
+    (omega arith))
+
+is-closed : (s : State) → isClosed s ≡ true → s ≡ closed
+is-closed nothing e = cc
+is-closed closed e = refl
+is-closed atFront e = cc
+is-closed atBack e = cc
+is-closed odd e = cc
+is-closed joined e = cc
+is-closed split e = cc
+is-closed ending e = cc
+is-closed dead e = cc
+
+-- the machine accepts a plan when the state behind its last aisle is `closed`
+accepts-closed : (job : Job) {plan : Plan} → WellFormed (job .layout) plan
+    → (accepts job plan ≡ true) ↔ (stateAt job plan (job .layout .aisles) ≡ closed)
+unfolding accepts actionAt passageAt
+accepts-closed job {plan} wf =
+    let e = wf .aisles in
+    let r = run-from job plan (plan .actions) (plan .passages) 0 (job .layout .aisles)
+    (λ k i p. let q : i ≡ k = omega arith in rw q)
+    (λ k i p. let q : i ≡ k = omega arith in rw q)
+    (omega arith) in
+    ((λ a. sym r ∙ is-closed (runFrom job 1 nothing (plan .actions) (plan .passages)) a), (λ c. ap isClosed (r ∙ c)))
+
+-- the policy's step from `dead` leads to `dead`
+pub live-before-step : (policy : Policy) (z : Layout) (a : Action) (s : State) → Live (policyStep policy z a s) → Live s
+live-before-step policy z a nothing l = tt
+live-before-step policy z a closed l = tt
+live-before-step policy z a atFront l = tt
+live-before-step policy z a atBack l = tt
+live-before-step policy z a odd l = tt
+live-before-step policy z a joined l = tt
+live-before-step policy z a split l = tt
+live-before-step policy z a ending l = tt
+live-before-step Exact z a dead l = live-before-action a dead l
+live-before-step Return z a dead l = live-before-action a dead l
+live-before-step Composite z a dead l = live-before-action a dead l
+live-before-step Traversal z Void dead l = l
+live-before-step Traversal z (Bottom i) dead l = l
+live-before-step Traversal z (Top i) dead l = l
+live-before-step Traversal z (Gap h i) dead l = l
+live-before-step Traversal z Once dead l = l
+live-before-step Traversal z Twice dead l = l
+live-before-step Midpoint z Void dead l = l
+live-before-step Midpoint z (Bottom i) dead l = l
+live-before-step Midpoint z (Top i) dead l = l
+live-before-step Midpoint z (Gap h i) dead l = l
+live-before-step Midpoint z Once dead l = l
+live-before-step Midpoint z Twice dead l = l
+
+-- a test that does not lead to `dead` has passed
+pub live-test : (b : Bool) (s : State) → Live (cond b s dead) → (b ≡ true) × Live s
+live-test true s l = (refl, l)
+live-test false s l = absurd l
+
+-- the action and the passage of aisle j are the policy's
+pub record Possible (job : Job) (plan : Plan) (j : ℕ) : Type 0 where
+  pub action : actionPossible job j (actionAt plan j) ≡ true
+  pub passage : passageNamed (job .policy) (passageAt plan j) ≡ true
+
+module _ (job : Job) (plan : Plan) where
+  -- a step that does not lead to `dead` is the policy's and begins at a live state
+  possible-step : (i : ℕ) → Live (stateAt job plan (suc i)) → Possible job plan (suc i) × Live (stateAt job plan i)
+  unfolding actionStep passageStep
+  possible-step i l =
+      let s = stateAt job plan i in
+      let a = actionAt plan (suc i) in
+      let p = passageAt plan (suc i) in
+      let step = policyStep (job .policy) (job .layout) a s in
+      let behind = cond (actionPossible job (suc i) a) step dead in
+      let u = live-test (passageNamed (job .policy) p) (crossStep (job .layout .depot) (suc i) p behind) l in
+      let v = live-test (actionPossible job (suc i) a) step (live-before-passage (job .layout .depot) (suc i) p behind (u .1)) in
+      (record { action = v .0; passage = u .0 }, live-before-step (job .policy) (job .layout) a s (v .1))
+
+  possible-until : (n j : ℕ) → suc j ≤ n → Live (stateAt job plan n) → Possible job plan (suc j)
+  possible-until zero j l live = absurd (omega arith)
+  possible-until (suc n) j l live =
+      let b = possible-step n live in
+      elim (below (suc j) n l) [
+        | inl h ↦ possible-until n j h (b .1)
+        | inr p ↦ rw p (b .0)
+      ]
+
+  -- where all is the policy's, the tests fall away
+  tests-pass : ((j : ℕ) → Possible job plan j) → (n : ℕ) → stateAt job plan n ≡ policyState (job .policy) (job .layout) plan n
+  unfolding actionStep passageStep
+  tests-pass f zero = refl
+  tests-pass f (suc i) = rw (f (suc i) .action, f (suc i) .passage, tests-pass f i)
+
+named-void : (p : Policy) → (actionNamed p Void ≡ true) × (passageNamed p P00 ≡ true)
+named-void Exact = (refl, refl)
+named-void Return = (refl, refl)
+named-void Traversal = (refl, refl)
+named-void Midpoint = (refl, refl)
+named-void Composite = (refl, refl)
+
+module _ (job : Job) {plan : Plan} (wf : WellFormed (job .layout) plan) where
+  -- outside the store every policy has what the plan holds
+  outside : (j : ℕ) → actionAt plan j ≡ Void → passageAt plan j ≡ P00 → Possible job plan j
+  unfolding actionPossible
+  outside j e f =
+      let v = named-void (job .policy) in
+      record { action = rw (e, v .0); passage = rw f (v .1) }
+
+  all-possible : stateAt job plan (job .layout .aisles) ≡ closed → (j : ℕ) → Possible job plan j
+  unfolding actionAt passageAt
+  all-possible c zero = outside zero refl refl
+  all-possible c (suc j) = elim (split-at j (job .layout .aisles)) [
+    | inl l ↦ possible-until job plan (job .layout .aisles) j l (subst Live (sym c) tt)
+    | inr l ↦ outside (suc j) (action-past wf (suc j) (omega arith)) (passage-past wf (suc j) (omega arith))
+  ]
+
+  -- the machine accepts a plan whose actions and passages are the policy's and which the policy's table closes off
+  pub accepts-by-table : (accepts job plan ≡ true)
+      ↔ (((j : ℕ) → Possible job plan j) × (policyState (job .policy) (job .layout) plan (job .layout .aisles) ≡ closed))
+  accepts-by-table = (
+    (λ h.
+        let c = accepts-closed job wf .0 h in
+        let p = all-possible c in
+        (p, sym (tests-pass job plan p (job .layout .aisles)) ∙ c)),
+    (λ h. accepts-closed job wf .1 (tests-pass job plan (h .0) (job .layout .aisles) ∙ h .1)),
+  )

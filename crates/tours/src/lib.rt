@@ -1,0 +1,1 @@
+// The laws of plans: which plans the machine accepts. No function; definitions in specs/, theorems in proofs/.
