@@ -78,7 +78,7 @@ slice-read-left : tie.Need-slice-read-left Inv-loop μ-loop
 slice-read-left c = slot-in (c .before) .0
 
 sub-left : tie.Need-sub-left Inv-loop μ-loop
-sub-left c = slot-in (c .before) .1
+sub-left c = omega (arith, slot-in (c .before) .1)
 
 slice-write-left : tie.Need-slice-write-left Inv-loop μ-loop
 slice-write-left c = slot-in (c .before) .0
