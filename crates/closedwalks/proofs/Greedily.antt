@@ -29,7 +29,7 @@ use Rattle.closedwalks.proofs.First.{tried, ways, tried-free, tried-shu
 
 module _ (z : Layout) where
   -- what can be walked is found by the search, with as many steps as there are treads
-  ready-found : (left : Edge → ℕ) (x : Point) → Ready z left x → (v : Walk) × (firstFrom z (stepsOf z left) left x ≡ some v)
+  pub ready-found : (left : Edge → ℕ) (x : Point) → Ready z left x → (v : Walk) × (firstFrom z (stepsOf z left) left x ≡ some v)
   ready-found left x r =
       let t = completed z left x (depotPoint z) (r .point) (r .balanced) (r .joined) in
       let n = length-treads z x (t .0) (depotPoint z) (r .point) (t .1) ∙ same-steps z (treadsFrom x (t .0)) left (t .2) in
@@ -37,7 +37,7 @@ module _ (z : Layout) where
       (f .0, f .1)
 
   -- what the search finds shows that all that remains can be reached
-  found-joined : (left : Edge → ℕ) (x : Point) (v : Walk) → PointOf z x → firstFrom z (stepsOf z left) left x ≡ some v → Joined z left x
+  pub found-joined : (left : Edge → ℕ) (x : Point) (v : Walk) → PointOf z x → firstFrom z (stepsOf z left) left x ≡ some v → Joined z left x
   found-joined left x v p h =
       let f = first-fits z (stepsOf z left) left x v p h in
       let same = fits-exactly z (stepsOf z left) left x v p f refl in

@@ -1,0 +1,9 @@
+pub mod Flooding
+pub mod Places
+pub mod Reaching
+pub mod Choice
+pub mod Stepping
+pub mod Spelling
+pub mod Filled
+pub mod Start
+pub mod Running

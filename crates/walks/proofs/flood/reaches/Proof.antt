@@ -1,0 +1,40 @@
+-- `walks::flood::reaches` meets its contract: the flood starts from the one point, and all that is left starts where it came.
+use Prim.Native.Nat.{ℕ}
+use native.Mathlib.Omega.{arith}
+use mathlib.Core.Path.{_≡_, sym, _∙_, subst}
+use lib.ListN.{length}
+use denote.Ref.{now}
+use borrow.Author.Needs.{needs}
+use Rattle.walks.specs.Flood.{Reach, here}
+use Rattle.walks.proofs.Flooding.{one-seen, one-seen-size, only-seen, first-seen, seen-reached}
+use Rattle.walks.proofs.flood.reaches.Statement.{statement}
+use Rattle.walks.proofs.flood.reaches.Tie as tie
+
+array-write-seen : tie.Need-array-write-seen
+array-write-seen c = search needs
+
+slice-aggregate-flood : tie.Need-slice-aggregate-flood
+slice-aggregate-flood c = search needs
+
+flood-requires : tie.Need-flood-requires
+flood-requires c κs = search needs
+
+slice-aggregate-all-seen : tie.Need-slice-aggregate-all-seen
+slice-aggregate-all-seen c = search needs
+
+all-seen-requires : tie.Need-all-seen-requires
+all-seen-requires c κs = search needs
+
+returns : tie.Need-returns
+returns c =
+    let c₀ = c .before .before .before .before .before .before in
+    let left = now (c₀ .args .left) in
+    let at = c₀ .args .at in
+    let f = c .before .before .before .flood in
+    let t = seen-reached left (c₀ .args .end) at (one-seen 442 at) (f .last .1 .1 .0) (c₀ .pre .1) (f .ensures) (omega (arith, f .ensures .size, one-seen-size 442 at))
+    (first-seen 442 at (c₀ .pre .0)) (λ p h. subst (Reach left at) (sym (only-seen 442 at p h)) here) in
+    let r = c .all-seen .ensures in
+    (λ e. t .0 (r .0 e), λ a. r .1 (t .1 a))
+
+pub reaches-spec : {M : Type 1} → statement M
+reaches-spec = tie.close (tie.spec array-write-seen slice-aggregate-flood flood-requires slice-aggregate-all-seen all-seen-requires returns)

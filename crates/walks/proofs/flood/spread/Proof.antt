@@ -1,0 +1,70 @@
+-- `walks::flood::spread` meets its contract: the two edges of the point, one after the other.
+use Prim.Native.Nat.{ℕ, _+_, _≤_, _<_}
+use native.Mathlib.Omega.{arith}
+use mathlib.Core.Path.{_≡_}
+use mathlib.Core.List.{List}
+use lib.ListN.{length, getD}
+use denote.Ref.{now}
+use borrow.Author.Needs.{needs}
+use Rattle.walks.proofs.Flooding.{unseen-length, spread-both}
+use Rattle.walks.proofs.flood.spread.Statement.{statement}
+use Rattle.walks.proofs.flood.spread.Tie as tie
+
+shared-slice-read-spread-edge : tie.Need-shared-slice-read-spread-edge
+shared-slice-read-spread-edge c = omega (arith, c .before .before .before .pre .1 .size)
+
+add-spread-edge : tie.Need-add-spread-edge
+add-spread-edge c = search needs
+
+spread-edge-requires : tie.Need-spread-edge-requires
+spread-edge-requires c κs h =
+    let c₀ = c .before .before .before .before in
+    let t = c₀ .pre .1 .along (c₀ .args .at) (c₀ .pre .0) h in
+    (omega (arith, c₀ .pre .2), omega (arith, c₀ .pre .2))
+
+add-spread-edge-2 : tie.Need-add-spread-edge-2
+add-spread-edge-2 c = search needs
+
+shared-slice-read-spread-edge-2 : tie.Need-shared-slice-read-spread-edge-2
+shared-slice-read-spread-edge-2 c = let c₀ = c .before .before .before .before .before .before .before .before in omega (arith, c₀ .pre .1 .size, c₀ .pre .0)
+
+add-spread-edge-3 : tie.Need-add-spread-edge-3
+add-spread-edge-3 c = search needs
+
+spread-edge-requires-2 : tie.Need-spread-edge-requires-2
+spread-edge-requires-2 c κs h =
+    let c₀ = c .before .before .before .before .before .before .before .before .before in
+    let t = c₀ .pre .1 .across (c₀ .args .at) h in
+    let s = c .before .before .before .before .spread-edge .ensures .size in
+    (omega (arith, c₀ .pre .2), omega (arith, c₀ .pre .2))
+
+returns : tie.Need-returns
+returns c =
+    let c₀ = c .before .before .before .before .before .before .before .before .before .before .before .before in
+    let s = c .before .before .before .before .before .before .before .spread-edge in
+    let t = c .before .before .spread-edge2 in
+    spread-both (now (c₀ .args .left)) (c₀ .args .at) (now (c₀ .args .seen)) (s .last .1 .1 .1 .0) (t .last .1 .1 .1 .0) (s .result) (t .result) (s .ensures) (t .ensures)
+
+add-result : tie.Need-add-result
+add-result c =
+    let c₀ = c .before .before .before .before .before .before .before .before .before .before .before .before in
+    let r = returns c in
+    omega (arith, r .fewer, unseen-length (now (c₀ .args .seen)), c₀ .pre .2)
+
+same-length : tie.Need-same-length
+same-length c = returns c .size
+
+pub spread-spec : {M : Type 1} → statement M
+spread-spec =
+    tie.close
+    (tie.spec
+    shared-slice-read-spread-edge
+    add-spread-edge
+    spread-edge-requires
+    add-spread-edge-2
+    shared-slice-read-spread-edge-2
+    add-spread-edge-3
+    spread-edge-requires-2
+    add-result
+    same-length
+    returns)

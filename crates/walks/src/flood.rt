@@ -1,0 +1,111 @@
+// What can be reached along edges that are left: a flood fill over the points.
+ghost use mathlib.Core.Path.{_≡_};
+ghost use mathlib.Core.Bool.{true};
+ghost use mathlib.Core.Logic.{_↔_};
+ghost use Prim.Native.Nat.{_≤_, _<_, suc};
+ghost use lib.ListN.{length};
+ghost use Rattle.walks.specs.Flood.{AllReached, Ranged, Spread, Swept, Flooded, AllSeen};
+
+// Two points that an edge joins, of which n treads are left: where one is seen, the other is too. The number of points seen newly.
+pub fn spread_edge(n: u8, a: usize, b: usize, seen: &mut [u8]) -> usize
+    requires { ⌜ (0 < n → (a < length (now seen)) × (b < length (now seen))) ⌝ }
+    ensures { λ r. ⌜ Spread n a b (now (seen .entry)) (now (seen .exit)) r ⌝ }
+{
+    if n == 0 {
+        return 0;
+    }
+    if seen[a] == 0 {
+        if seen[b] == 0 {
+            return 0;
+        }
+        seen[a] = 1;
+        return 1;
+    }
+    if seen[b] == 0 {
+        seen[b] = 1;
+        return 1;
+    }
+    0
+}
+
+// The edges towards the back and to the right of one point.
+pub fn spread(left: &[u8], at: usize, seen: &mut [u8]) -> usize
+    requires { ⌜ (at < 442) × Ranged (now left) 442 × (length (now seen) ≡ 442) ⌝ }
+    ensures { λ r. ⌜ Swept (now (left .entry)) at (suc at) (now (seen .entry)) (now (seen .exit)) r ⌝ }
+{
+    let along = spread_edge(left[at], at, at + 1, seen);
+    let across = spread_edge(left[442 + at], at, at + 26, seen);
+    along + across
+}
+
+// Point by point upwards.
+pub fn sweep_up(left: &[u8], end: usize, seen: &mut [u8]) -> usize
+    requires { ⌜ Ranged (now left) end × (length (now seen) ≡ 442) ⌝ }
+    ensures { λ r. ⌜ Swept (now (left .entry)) 26 end (now (seen .entry)) (now (seen .exit)) r ⌝ }
+{
+    let mut news = 0;
+    let mut at = 26;
+    while at < end {
+        news += spread(left, at, seen);
+        at += 1;
+    }
+    news
+}
+
+// Point by point downwards.
+pub fn sweep_down(left: &[u8], end: usize, seen: &mut [u8]) -> usize
+    requires { ⌜ Ranged (now left) end × (length (now seen) ≡ 442) ⌝ }
+    ensures { λ r. ⌜ Swept (now (left .entry)) 26 end (now (seen .entry)) (now (seen .exit)) r ⌝ }
+{
+    let mut news = 0;
+    let mut at = end;
+    while 26 < at {
+        at -= 1;
+        news += spread(left, at, seen);
+    }
+    news
+}
+
+// Sweeps up and down until nothing is new.
+pub fn flood(left: &[u8], end: usize, seen: &mut [u8])
+    requires { ⌜ Ranged (now left) end × (length (now seen) ≡ 442) ⌝ }
+    ensures { λ _. ⌜ Flooded (now (left .entry)) end (now (seen .entry)) (now (seen .exit)) ⌝ }
+{
+    let mut news = 442;
+    while 0 < news {
+        let up = sweep_up(left, end, seen);
+        let down = sweep_down(left, end, seen);
+        news = up + down;
+    }
+}
+
+// Whether all that is left starts at a point that is seen.
+pub fn all_seen(left: &[u8], end: usize, seen: &[u8]) -> bool
+    requires { ⌜ (length (now left) ≡ 884) × (length (now seen) ≡ 442) × (end ≤ 442) ⌝ }
+    ensures { λ r. ⌜ (r ≡ true) ↔ AllSeen (now (left .entry)) (now (seen .entry)) end ⌝ }
+{
+    let mut at = 26;
+    while at < end {
+        if seen[at] == 0 {
+            if 0 < left[at] {
+                return false;
+            }
+            if 0 < left[442 + at] {
+                return false;
+            }
+        }
+        at += 1;
+    }
+    true
+}
+
+// Whether all that is left can be reached from a point.
+pub fn reaches(left: &[u8], at: usize, end: usize) -> bool
+    requires { ⌜ (at < 442) × Ranged (now left) end ⌝ }
+    ensures { λ r. ⌜ (r ≡ true) ↔ AllReached (now (left .entry)) at ⌝ }
+{
+    let mut seen = [0u8; 442];
+    seen[at] = 1;
+    flood(left, end, &mut seen);
+    all_seen(left, end, &seen)
+}

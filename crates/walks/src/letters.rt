@@ -1,0 +1,129 @@
+// The letters of the walk: at each point the first behind which all that is left can still be reached.
+use crate::flood;
+use rules::Direction;
+use rules::Layout;
+ghost use mathlib.Core.Path.{_≡_};
+ghost use mathlib.Core.Bool.{true};
+ghost use mathlib.Core.Logic.{_↔_};
+ghost use mathlib.Core.Option.{some};
+ghost use Prim.Native.Nat.{_*_, _≤_, _<_};
+ghost use lib.ListN.{length, getD, set};
+ghost use Rattle.rules.specs.Sheet.{letterOf};
+ghost use Rattle.rules.specs.FirstWalk.{stepsOf};
+ghost use Rattle.walks.specs.Treads.{leftOf};
+ghost use Rattle.walks.specs.Flood.{AllReached, Ranged};
+ghost use Rattle.walks.specs.Letters.{slotBy, nextBy, treadsAt, Walkable, canBe, nextLetter, lettersLeft, Spelt};
+
+// The letter of a step.
+pub fn letter_of(d: Direction) -> u8
+    ensures { λ r. ⌜ r ≡ letterOf d ⌝ }
+{
+    match d {
+        Direction::Back => 66,
+        Direction::Front => 70,
+        Direction::Left => 76,
+        Direction::Right => 82,
+    }
+}
+
+// The number of the edge that leads from a point that way.
+pub fn slot_of(at: usize, d: Direction) -> usize
+    requires { ⌜ (26 ≤ at) × (at < 442) ⌝ }
+    ensures { λ r. ⌜ r ≡ slotBy d at ⌝ }
+{
+    match d {
+        Direction::Back => at,
+        Direction::Front => at - 1,
+        Direction::Left => at + 416,
+        Direction::Right => at + 442,
+    }
+}
+
+// The point where a step ends.
+pub fn next_of(at: usize, d: Direction) -> usize
+    requires { ⌜ (26 ≤ at) × (at < 442) ⌝ }
+    ensures { λ r. ⌜ r ≡ nextBy d at ⌝ }
+{
+    match d {
+        Direction::Back => at + 1,
+        Direction::Front => at - 1,
+        Direction::Left => at - 26,
+        Direction::Right => at + 26,
+    }
+}
+
+// How many treads are left at a point.
+pub fn treads_at(left: &[u8], at: usize) -> usize
+    requires { ⌜ (26 ≤ at) × (at < 442) × (length (now left) ≡ 884) ⌝ }
+    ensures { λ r. ⌜ r ≡ treadsAt (now (left .entry)) at ⌝ }
+{
+    left[at] as usize + left[at - 1] as usize + left[at + 416] as usize + left[at + 442] as usize
+}
+
+// Whether all that is left can be reached from a step's end after the last tread of its edge.
+pub fn reaches_without(left: &mut [u8], end: usize, slot: usize, next: usize) -> bool
+    requires { ⌜ (getD (now left) slot 0 ≡ 1) × (next < 442) × Ranged (set (now left) slot 0) end ⌝ }
+    ensures { λ r. ⌜ (r ≡ true) ↔ AllReached (set (now (left .entry)) slot 0) next ⌝ }
+    ensures { λ _. ⌜ now (left .exit) ≡ now (left .entry) ⌝ }
+{
+    left[slot] = 0;
+    let answer = flood::reaches(left, next, end);
+    left[slot] = 1;
+    answer
+}
+
+// Whether a letter can be next.
+pub fn admitted(layout: Layout, left: &mut [u8], at: usize, d: Direction) -> bool
+    requires { ⌜ Walkable layout (now left) at ⌝ }
+    ensures { λ r. ⌜ r ≡ canBe layout (now (left .entry)) at d ⌝ }
+    ensures { λ _. ⌜ now (left .exit) ≡ now (left .entry) ⌝ }
+{
+    let slot = slot_of(at, d);
+    let n = left[slot];
+    if n == 0 {
+        return false;
+    }
+    if 1 < n {
+        return true;
+    }
+    if treads_at(left, at) == 1 {
+        return true;
+    }
+    reaches_without(left, 26 * (layout.aisles + 1), slot, next_of(at, d))
+}
+
+// The next letter.
+pub fn next_letter(layout: Layout, left: &mut [u8], at: usize) -> Direction
+    requires { ⌜ Walkable layout (now left) at × (0 < treadsAt (now left) at) ⌝ }
+    ensures { λ r. ⌜ nextLetter layout (now (left .entry)) at ≡ some r ⌝ }
+    ensures { λ _. ⌜ now (left .exit) ≡ now (left .entry) ⌝ }
+{
+    if admitted(layout, left, at, Direction::Back) {
+        return Direction::Back;
+    }
+    if admitted(layout, left, at, Direction::Front) {
+        return Direction::Front;
+    }
+    if admitted(layout, left, at, Direction::Left) {
+        return Direction::Left;
+    }
+    Direction::Right
+}
+
+// The letters from the depot on, and their number.
+pub fn follow(layout: Layout, left: &mut [u8], letters: &mut [u8]) -> usize
+    requires { ⌜ Walkable layout (now left) (26 * layout .depot) × (stepsOf layout (leftOf layout (now left)) ≤ 860) × (860 ≤ length (now letters)) ⌝ }
+    ensures { λ r. ⌜ Spelt (lettersLeft layout (now (left .entry)) (26 * layout .depot)) (now (letters .entry)) (now (letters .exit)) r ⌝ }
+{
+    let mut at = 26 * layout.depot;
+    let mut n = 0;
+    while 0 < treads_at(left, at) {
+        let d = next_letter(layout, left, at);
+        letters[n] = letter_of(d);
+        let slot = slot_of(at, d);
+        left[slot] = left[slot] - 1;
+        at = next_of(at, d);
+        n += 1;
+    }
+    n
+}

@@ -1,0 +1,118 @@
+-- Each plan of the table is lawful: the machine closes it off, which is computed.
+use Prim.Native.Nat.{ℕ, zero, suc, _≤_, _<_}
+use native.Mathlib.Omega.{arith}
+use mathlib.Core.Path.{_≡_, refl, sym, subst}
+use mathlib.Core.Logic.{inl, inr}
+use mathlib.Core.List.{List, [], _∷_}
+use mathlib.Core.Bool.{Bool, true, false, _&&_}
+use lib.Dec.{leb, ltb, eqb}
+use lib.ListN.{length}
+use borrow.Author.Tests.{leb-true, ltb-true, eqb-true}
+use Rattle.closedwalks.proofs.Splits.{equal-or-below}
+use Rattle.rules.specs.declared.Action.{Action}
+use Rattle.rules.specs.declared.Action.the-variants.{Void, Bottom, Top, Gap, Once, Twice}
+use Rattle.rules.specs.Lists.{allOf, nth}
+use Rattle.rules.specs.Store.{within, layoutInBounds}
+use Rattle.rules.specs.Plans.{Fits, WellFormed, actionAt, passageAt}
+use Rattle.rules.specs.Machine.{State, nothing, closed, atFront, atBack, odd, joined, split, ending, dead}
+use Rattle.values.specs.Values.{planOf}
+use Rattle.tours.specs.Prefixes.{lawfulState}
+use Rattle.tours.proofs.Exact.{closed-lawful}
+use Rattle.walks.specs.Lawfully.{LawfulPlan}
+use Rattle.walks_test.specs.Plans.{table, actionBy, passageBy, stageFrom, layoutAt, planAt}
+
+both : (a b : Bool) → (a && b) ≡ true → (a ≡ true) × (b ≡ true)
+both true b h = (refl, h)
+both false b h = (h, absurd (let bad : _≡_ {A = ℕ} 0 1 = cc in omega arith))
+
+abbrev isClosed : State → Bool
+isClosed nothing = false
+isClosed closed = true
+isClosed atFront = false
+isClosed atBack = false
+isClosed odd = false
+isClosed joined = false
+isClosed split = false
+isClosed ending = false
+isClosed dead = false
+
+is-closed : (s : State) → isClosed s ≡ true → s ≡ closed
+is-closed nothing h = cc
+is-closed closed h = refl
+is-closed atFront h = cc
+is-closed atBack h = cc
+is-closed odd h = cc
+is-closed joined h = cc
+is-closed split h = cc
+is-closed ending h = cc
+is-closed dead h = cc
+
+abbrev fitsIn : ℕ → Action → Bool
+fitsIn cells Void = true
+fitsIn cells (Bottom i) = leb 1 i && leb i cells
+fitsIn cells (Top i) = leb 1 i && leb i cells
+fitsIn cells (Gap h i) = leb 1 h && ltb h i && leb i cells
+fitsIn cells Once = true
+fitsIn cells Twice = true
+
+fits-in : (cells : ℕ) (a : Action) → fitsIn cells a ≡ true → Fits cells a
+fits-in cells Void h = tt
+fits-in cells (Bottom i) h = let t = both (leb 1 i) (leb i cells) h in (leb-true 1 i (t .0), leb-true i cells (t .1))
+fits-in cells (Top i) h = let t = both (leb 1 i) (leb i cells) h in (leb-true 1 i (t .0), leb-true i cells (t .1))
+fits-in cells (Gap g i) h =
+    let t = both (leb 1 g && ltb g i) (leb i cells) h in
+    let u = both (leb 1 g) (ltb g i) (t .0) in
+    (leb-true 1 g (u .0), ltb-true g i (u .1), leb-true i cells (t .1))
+fits-in cells Once h = tt
+fits-in cells Twice h = tt
+
+all-fit : (cells : ℕ) (actions : List Action) → allOf (fitsIn cells) actions ≡ true → (j : ℕ) → Fits cells (nth actions j Void)
+all-fit cells actions h zero = tt
+all-fit cells [] h (suc j) = tt
+all-fit cells (a ∷ actions) h (suc zero) = fits-in cells a (both (fitsIn cells a) (allOf (fitsIn cells) actions) h .0)
+all-fit cells (a ∷ actions) h (suc (suc j)) = all-fit cells actions (both (fitsIn cells a) (allOf (fitsIn cells) actions) h .1) (suc j)
+
+-- what is computed of a plan: the bounds and the depot, how many actions and passages it has, that they fit, and the machine's end
+abbrev inside : ℕ → Bool
+inside i = layoutInBounds (layoutAt i) && ltb 0 (layoutAt i .depot)
+
+abbrev counted : ℕ → Bool
+counted i = eqb (length (planOf (planAt i) .actions)) (layoutAt i .aisles) && eqb (suc (length (planOf (planAt i) .passages))) (layoutAt i .aisles)
+
+abbrev fitting : ℕ → Bool
+fitting i = allOf (fitsIn (layoutAt i .cells)) (planOf (planAt i) .actions)
+
+abbrev ends : ℕ → Bool
+ends i = isClosed (lawfulState (layoutAt i .depot) (planOf (planAt i)) (layoutAt i .aisles))
+
+right : ℕ → Bool
+right i = inside i && counted i && fitting i && ends i
+
+allTo : ℕ → Bool
+allTo zero = true
+allTo (suc n) = allTo n && right n
+
+all-right : allTo 36 ≡ true
+unfolding allTo right table actionBy passageBy stageFrom layoutAt planAt planOf layoutInBounds actionAt passageAt within
+all-right = refl
+
+right-at : (n i : ℕ) → allTo n ≡ true → i < n → right i ≡ true
+unfolding allTo
+right-at zero i h l = absurd (omega arith)
+right-at (suc n) i h l =
+    let t = both (allTo n) (right n) h in
+    elim (equal-or-below i n (omega arith)) [ inl e ↦ subst (λ (k : ℕ). right k ≡ true) (sym e) (t .1) | inr g ↦ right-at n i (t .0) g ]
+
+-- the walk of each plan can be asked for
+pub table-lawful : (i : ℕ) → i < 36 → LawfulPlan (layoutAt i) (planAt i)
+unfolding right layoutAt planAt actionAt
+table-lawful i l =
+    let z = layoutAt i in
+    let plan = planOf (planAt i) in
+    let e = both (inside i && counted i && fitting i) (ends i) (right-at 36 i all-right l) in
+    let f = both (inside i && counted i) (fitting i) (e .0) in
+    let s = both (inside i) (counted i) (f .0) in
+    let d = both (layoutInBounds z) (ltb 0 (z .depot)) (s .0) in
+    let n = both (eqb (length (plan .actions)) (z .aisles)) (eqb (suc (length (plan .passages))) (z .aisles)) (s .1) in
+    let formed : WellFormed z plan = record { aisles = eqb-true (length (plan .actions)) (z .aisles) (n .0); passages = eqb-true (suc (length (plan .passages))) (z .aisles) (n .1); fits = all-fit (z .cells) (plan .actions) (f .1) } in
+    record { bounds = d .0; aisles = refl; well-formed = formed; lawful = closed-lawful formed (ltb-true 0 (z .depot) (d .1)) (is-closed (lawfulState (z .depot) plan (z .aisles)) (e .1)) }
