@@ -7,3 +7,4 @@ pub mod ActionRows
 pub mod StepLaws
 pub mod Composition
 pub mod TableValues
+pub mod Digits

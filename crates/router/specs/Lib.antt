@@ -5,3 +5,4 @@ pub mod Rows
 pub mod Maps
 pub mod Layers
 pub mod TableHolds
+pub mod Shelves

@@ -1,5 +1,6 @@
 // The router: for an admitted job, the first of the shortest allowed plans that serve its list.
 mod candidates;
+mod demand;
 mod layers;
 mod rows;
 mod steps;
