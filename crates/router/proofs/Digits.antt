@@ -15,7 +15,7 @@ use Rattle.optimum.proofs.Radix.{count, Positive, no-radix, radix as one-radix,
 use Rattle.values.specs.declared.JobValue.{JobValue}
 use Rattle.values.specs.Values.{jobOf}
 use Rattle.router.specs.declared.demand.Digits.{Digits}
-use Rattle.router.specs.Shelves.{Usable, DigitsOf, lessDigit, lessLine, gainOf}
+use Rattle.router.specs.Shelves.{noLine, Usable, DigitsOf, lessDigit, lessLine, gainOf}
 use Rattle.router.proofs.Relaxing.{filled-one}
 
 -- the product of the first radices: at least 1, at most the product of all
@@ -33,20 +33,18 @@ take-below p zero = count-positive p
 take-below no-radix (suc l) = omega arith
 take-below (one-radix {r = r} h p) (suc l) = mul-le-mul-left r (take-below p l)
 
--- a line that is not there has the radix 1
-abbrev pub noLine : OrderLine
-noLine = record { article = 0; quantity = 0 }
-
+-- the product with one more radix; a line that is not there has the radix 1
 take-radix : (ls : List OrderLine) (l : ℕ) → count (take (suc l) (map (λ (k : OrderLine). k .quantity + 1) ls)) ≡ count (take l (map (λ (k : OrderLine). k .quantity + 1) ls)) * (getD ls l noLine .quantity + 1)
 take-radix [] zero = refl
 take-radix [] (suc l) = refl
 take-radix (k ∷ ls) zero = omega arith
 take-radix (k ∷ ls) (suc l) = let r = k .quantity + 1 in ap (λ n. r * n) (take-radix ls l) ∙ sym (mul-assoc r (count (take l (map (λ (k : OrderLine). k .quantity + 1) ls))) (getD ls l noLine .quantity + 1))
 
-radix-of : (ls : List OrderLine) (l : ℕ) → l < length ls → getD (map (λ (k : OrderLine). k .quantity + 1) ls) l 0 ≡ getD ls l noLine .quantity + 1
-radix-of [] l h = absurd (omega arith)
-radix-of (k ∷ ls) zero h = refl
-radix-of (k ∷ ls) (suc l) h = radix-of ls l (omega arith)
+-- what a function has at the place of a line
+pub mapped-at : (f : OrderLine → ℕ) (ls : List OrderLine) (l : ℕ) → l < length ls → getD (map f ls) l 0 ≡ f (getD ls l noLine)
+mapped-at f [] l h = absurd (omega arith)
+mapped-at f (k ∷ ls) zero h = refl
+mapped-at f (k ∷ ls) (suc l) h = mapped-at f ls l (omega arith)
 
 radices-length : (job : Job) → length (radices job) ≡ length (job .lines)
 unfolding radices
@@ -116,7 +114,7 @@ module _ (job : Job) where
         counted = whole;
         small = (rw (whole, ← count-weight job) (count-positive (radices-positive job)), omega arith);
         usable = t .usable;
-        radix-at = λ k h. t .radix-to k (omega arith) ∙ sym (radix-of (job .lines) k h);
+        radix-at = λ k h. t .radix-to k (omega arith) ∙ sym (mapped-at (λ (k : OrderLine). k .quantity + 1) (job .lines) k h);
         stride-at = λ k h. t .stride-to k (omega arith);
       }
 

@@ -8,3 +8,4 @@ pub mod StepLaws
 pub mod Composition
 pub mod TableValues
 pub mod Digits
+pub mod Shelving

@@ -1,5 +1,5 @@
 -- The order lines as digits of a demand number, and what each cell of the store holds for them.
-use Prim.Native.Nat.{ℕ, zero, suc, _*_, _-_, _/_, _%_, _≤_, _<_, min}
+use Prim.Native.Nat.{ℕ, zero, suc, _+_, _*_, _-_, _/_, _%_, _≤_, _<_, min}
 use mathlib.Core.Path.{_≡_}
 use mathlib.Core.List.{List, map}
 use mathlib.Core.Bool.{cond, _&&_}
@@ -7,11 +7,13 @@ use lib.Dec.{eqb}
 use lib.ListN.{length, getD, take, set, replicate}
 use Rattle.rules.specs.declared.StockRecord.{StockRecord}
 use Rattle.rules.specs.declared.OrderLine.{OrderLine}
-use Rattle.rules.specs.Lists.{sumOf, productOf}
+use Rattle.rules.specs.Lists.{sumOf, productOf, anyOf}
 use Rattle.rules.specs.Jobs.{Job}
 use Rattle.rules.specs.Refusals.{weight}
 use Rattle.optimum.specs.Demand.{radices}
 use Rattle.router.specs.declared.demand.Digits.{Digits}
+use Rattle.router.specs.declared.demand.Shelf.{Shelf}
+use Rattle.router.specs.Steps.{bit}
 
 -- arrays of digits by which a number can be divided
 pub record Usable (d : Digits) : Type 0 where
@@ -49,3 +51,21 @@ cellSupply stock j c a =
 
 unfoldable pub cellGains : Job → ℕ → ℕ → List ℕ
 cellGains job j c = map (λ (l : OrderLine). cellSupply (job .stock) j c (l .article)) (job .lines)
+
+-- a line that is not there
+abbrev pub noLine : OrderLine
+noLine = record { article = 0; quantity = 0 }
+
+-- the number + 1 of the line of an article; 0 if it is on no line
+pub record LineOf (lines : List OrderLine) (a r : ℕ) : Type 0 where
+  pub stands : anyOf (λ (l : OrderLine). eqb (l .article) a) lines ≡ bit r
+  pub found : (l : ℕ) → r ≡ suc l → (l < length lines) × (getD lines l noLine .article ≡ a)
+
+-- where a cell stands on the shelf
+abbrev pub cellNumber : ℕ → ℕ → ℕ
+cellNumber j c = (j - 1) * 24 + (c - 1)
+
+-- the shelf of a job: what each cell supplies to the lines
+pub record ShelfOf (job : Job) (shelf : Shelf) : Type 0 where
+  pub lines-below : (k : ℕ) → getD (shelf .line) k 0 ≤ length (job .lines)
+  pub supplies : (j c : ℕ) → 1 ≤ j → j ≤ 16 → 1 ≤ c → c ≤ 24 → gainOf (length (job .lines)) (getD (shelf .line) (cellNumber j c) 0) (getD (shelf .quantity) (cellNumber j c) 0) ≡ cellGains job j c

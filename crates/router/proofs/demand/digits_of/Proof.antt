@@ -3,7 +3,8 @@ use Prim.Native.Nat.{_+_, _-_, _≤_}
 use mathlib.Core.Path.{ap}
 use lib.ListN.{getD}
 use Rattle.values.specs.Values.{jobOf}
-use Rattle.router.proofs.Digits.{DigitsTo, noLine, digits-none, digits-fit, digits-one, digits-all, line-read, lines-count}
+use Rattle.router.specs.Shelves.{noLine}
+use Rattle.router.proofs.Digits.{DigitsTo, digits-none, digits-fit, digits-one, digits-all, line-read, lines-count}
 use Rattle.router.proofs.demand.digits_of.Statement.{statement}
 use Rattle.router.proofs.demand.digits_of.Tie as tie
 use Rattle.router.proofs.demand.digits_of.Reads as reads
