@@ -12,3 +12,5 @@ pub mod TraceLaws
 pub mod TraceEnds
 pub mod Numbers
 pub mod TableFills
+pub mod Digits
+pub mod Shelving
