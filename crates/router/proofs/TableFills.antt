@@ -84,3 +84,16 @@ pub flag-is : (r : ℕ) (b : Bool) → bit r ≡ b → r < 2 → r ≡ flagOf b
 flag-is zero b e l = ap flagOf e
 flag-is (suc zero) b e l = ap flagOf e
 flag-is (suc (suc r)) b e l = absurd (omega arith)
+
+-- 00 alone is tried behind the last aisle
+pub tried-last : (n : ℕ) → n ≡ 0 → 1 ≡ triedAt n
+tried-last zero e = refl
+tried-last (suc n) e = absurd (omega arith)
+
+pub tried-all : (n : ℕ) → 0 < n → 5 ≡ triedAt n
+tried-all zero h = absurd (omega arith)
+tried-all (suc n) h = refl
+
+pub tried-five : (n : ℕ) → triedAt n ≤ 5
+tried-five zero = omega arith
+tried-five (suc n) = omega arith

@@ -2,6 +2,7 @@
 mod candidates;
 mod choices;
 mod demand;
+mod filling;
 mod layers;
 mod rows;
 mod steps;
