@@ -9,3 +9,4 @@ pub mod Composition
 pub mod TableValues
 pub mod Digits
 pub mod Shelving
+pub mod DemandMaps

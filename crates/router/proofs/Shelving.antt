@@ -29,7 +29,7 @@ or-both : (b c d : Bool) → (b || c) ≡ false → (c ≡ false → d ≡ false
 or-both true c d h f = absurd (true≢false h)
 or-both false c d h f = f h
 
-less-or-more : (i k : ℕ) → (i ≡ k → ⊥) → (i < k) ⊎ (k < i)
+pub less-or-more : (i k : ℕ) → (i ≡ k → ⊥) → (i < k) ⊎ (k < i)
 less-or-more i k ne = go (decLt i k)
   where
     go : Dec (i < k) → (i < k) ⊎ (k < i)
@@ -186,7 +186,7 @@ pub record ShelvedTo (job : Job) (line quantity : List ℕ) (n : ℕ) : Type 0 w
   pub lines-below : (k : ℕ) → getD line k 0 ≤ length (job .lines)
   pub supplies : (j c : ℕ) → 1 ≤ j → j ≤ 16 → 1 ≤ c → c ≤ 24 → gainOf (length (job .lines)) (getD line (cellNumber j c) 0) (getD quantity (cellNumber j c) 0) ≡ map (λ (l : OrderLine). cellSupply (take n (job .stock)) j c (l .article)) (job .lines)
 
-map-zero : (lines : List OrderLine) → replicate {A = ℕ} (length lines) 0 ≡ map (λ (l : OrderLine). 0) lines
+pub map-zero : (lines : List OrderLine) → replicate {A = ℕ} (length lines) 0 ≡ map (λ (l : OrderLine). 0) lines
 map-zero [] = refl
 map-zero (l ∷ ls) = ap (λ xs. 0 ∷ xs) (map-zero ls)
 
