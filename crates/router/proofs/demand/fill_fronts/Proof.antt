@@ -7,10 +7,6 @@ use Rattle.router.specs.Shelves.{FrontsTo}
 use Rattle.router.proofs.DemandMaps.{aisle-small, line-small, front-first, front-next}
 use Rattle.router.proofs.demand.fill_fronts.Statement.{statement}
 use Rattle.router.proofs.demand.fill_fronts.Tie as tie
-use Rattle.router.proofs.demand.fill_fronts.Reads as reads
-use Rattle.router.proofs.demand.fill_fronts.Lts as lts
-use Rattle.router.proofs.demand.map_row.Reads as map-row-reads
-use Rattle.router.proofs.demand.plain_row.Reads as plain-row-reads
 
 abbrev Inv-loop : tie.InvT-loop
 Inv-loop map₀ job d j shelf h₀ map h = (h ≤ job .layout .cells) × ((length map ≡ length map₀) × FrontsTo (jobOf job) j (h + 1) map)
@@ -18,67 +14,51 @@ Inv-loop map₀ job d j shelf h₀ map h = (h ≤ job .layout .cells) × ((lengt
 abbrev μ-loop : tie.MeasureT-loop
 μ-loop map₀ job d j shelf h₀ map h = job .layout .cells - h
 
--- src/demand.rt:169:5
 plain-row-requires : tie.Need-plain-row-requires Inv-loop μ-loop
 plain-row-requires c κs = ((c .before .before) .pre .0, omega arith, (c .before .before) .pre .1 .digits-of .small .1)
 
--- src/demand.rt:171:5
 loop-holds : tie.Need-loop-holds Inv-loop μ-loop
 loop-holds c = (omega arith, (refl, front-first ((c .before .before .before .before .before) .args .job) ((c .before .before .before .before .before) .args .t3) ((c .before .before .before .before .before) .args .d) ((c .before .before .before .before .before) .args .j) ((c .before .before .before .before .before) .pre .1) _ ((c .before .before .plain-row) .last .0) ((c .before .before .plain-row) .ensures)))
 
--- src/demand.rt:172:19
 sub-at : tie.Need-sub-at Inv-loop μ-loop
 sub-at c = omega (arith, aisle-small ((c .before .before .before .before .before .before .before .before) .args .job) ((c .before .before .before .before .before .before .before .before) .args .t3) ((c .before .before .before .before .before .before .before .before) .args .d) ((c .before .before .before .before .before .before .before .before) .args .j) ((c .before .before .before .before .before .before .before .before) .pre .1))
 
--- src/demand.rt:172:18
 mul-at : tie.Need-mul-at Inv-loop μ-loop
 mul-at c = omega (arith, aisle-small ((c .before .before .before .before .before .before .before .before) .args .job) ((c .before .before .before .before .before .before .before .before) .args .t3) ((c .before .before .before .before .before .before .before .before) .args .d) ((c .before .before .before .before .before .before .before .before) .args .j) ((c .before .before .before .before .before .before .before .before) .pre .1))
 
--- src/demand.rt:172:18
 add-at : tie.Need-add-at Inv-loop μ-loop
 add-at c = omega (arith, aisle-small ((c .before .before .before .before .before .before .before .before) .args .job) ((c .before .before .before .before .before .before .before .before) .args .t3) ((c .before .before .before .before .before .before .before .before) .args .d) ((c .before .before .before .before .before .before .before .before) .args .j) ((c .before .before .before .before .before .before .before .before) .pre .1))
 
--- src/demand.rt:173:22
 add-map-row : tie.Need-add-map-row Inv-loop μ-loop
 add-map-row c = omega (arith, aisle-small ((c .before .before .before .before .before .before .before .before .before) .args .job) ((c .before .before .before .before .before .before .before .before .before) .args .t3) ((c .before .before .before .before .before .before .before .before .before) .args .d) ((c .before .before .before .before .before .before .before .before .before) .args .j) ((c .before .before .before .before .before .before .before .before .before) .pre .1))
 
--- src/demand.rt:173:35
 mul-map-row : tie.Need-mul-map-row Inv-loop μ-loop
 mul-map-row c = omega (arith, aisle-small ((c .before .before .before .before .before .before .before .before .before) .args .job) ((c .before .before .before .before .before .before .before .before .before) .args .t3) ((c .before .before .before .before .before .before .before .before .before) .args .d) ((c .before .before .before .before .before .before .before .before .before) .args .j) ((c .before .before .before .before .before .before .before .before .before) .pre .1))
 
--- src/demand.rt:173:35
 element-copy-out-map-row : tie.Need-element-copy-out-map-row Inv-loop μ-loop
 element-copy-out-map-row c = omega (arith, aisle-small ((c .before .before .before .before .before .before .before .before .before) .args .job) ((c .before .before .before .before .before .before .before .before .before) .args .t3) ((c .before .before .before .before .before .before .before .before .before) .args .d) ((c .before .before .before .before .before .before .before .before .before) .args .j) ((c .before .before .before .before .before .before .before .before .before) .pre .1))
 
--- src/demand.rt:173:51
 mul-map-row-2 : tie.Need-mul-map-row-2 Inv-loop μ-loop
 mul-map-row-2 c = omega (arith, aisle-small ((c .before .before .before .before .before .before .before .before .before .before) .args .job) ((c .before .before .before .before .before .before .before .before .before .before) .args .t3) ((c .before .before .before .before .before .before .before .before .before .before) .args .d) ((c .before .before .before .before .before .before .before .before .before .before) .args .j) ((c .before .before .before .before .before .before .before .before .before .before) .pre .1))
 
--- src/demand.rt:173:51
 element-copy-out-map-row-2 : tie.Need-element-copy-out-map-row-2 Inv-loop μ-loop
 element-copy-out-map-row-2 c = omega (arith, aisle-small ((c .before .before .before .before .before .before .before .before .before .before) .args .job) ((c .before .before .before .before .before .before .before .before .before .before) .args .t3) ((c .before .before .before .before .before .before .before .before .before .before) .args .d) ((c .before .before .before .before .before .before .before .before .before .before) .args .j) ((c .before .before .before .before .before .before .before .before .before .before) .pre .1))
 
--- src/demand.rt:173:9
 map-row-requires : tie.Need-map-row-requires Inv-loop μ-loop
 map-row-requires c κs = (omega (arith, (c .before .before .before .before .before .before .before .before .before .before .before) .pre .0, (c .before .before .before .before .before .before .before .before .plain-row) .ensures .kept, (c .before .before .before .before .before .loop) .inv .1 .0), omega (arith, aisle-small ((c .before .before .before .before .before .before .before .before .before .before .before) .args .job) ((c .before .before .before .before .before .before .before .before .before .before .before) .args .t3) ((c .before .before .before .before .before .before .before .before .before .before .before) .args .d) ((c .before .before .before .before .before .before .before .before .before .before .before) .args .j) ((c .before .before .before .before .before .before .before .before .before .before .before) .pre .1)), omega (arith, aisle-small ((c .before .before .before .before .before .before .before .before .before .before .before) .args .job) ((c .before .before .before .before .before .before .before .before .before .before .before) .args .t3) ((c .before .before .before .before .before .before .before .before .before .before .before) .args .d) ((c .before .before .before .before .before .before .before .before .before .before .before) .args .j) ((c .before .before .before .before .before .before .before .before .before .before .before) .pre .1)), (λ e. omega arith), (c .before .before .before .before .before .before .before .before .before .before .before) .pre .1 .digits-of .usable, (c .before .before .before .before .before .before .before .before .before .before .before) .pre .1 .digits-of .small .1, line-small ((c .before .before .before .before .before .before .before .before .before .before .before) .args .job) ((c .before .before .before .before .before .before .before .before .before .before .before) .args .t3) ((c .before .before .before .before .before .before .before .before .before .before .before) .args .d) ((c .before .before .before .before .before .before .before .before .before .before .before) .args .j) ((c .before .before .before .before .before .before .before .before .before .before .before) .pre .1) ((((c .before .before .before .before .before .before .before .before .before .before .before) .args .j) - 1) * 24 + (c .before .before .before .before .before .loop) .h))
 
--- src/demand.rt:174:9
 add-h : tie.Need-add-h Inv-loop μ-loop
 add-h c = omega (arith, aisle-small ((c .before .before .before .before .before .before .before .before .before .before .before .before .before .before) .args .job) ((c .before .before .before .before .before .before .before .before .before .before .before .before .before .before) .args .t3) ((c .before .before .before .before .before .before .before .before .before .before .before .before .before .before) .args .d) ((c .before .before .before .before .before .before .before .before .before .before .before .before .before .before) .args .j) ((c .before .before .before .before .before .before .before .before .before .before .before .before .before .before) .pre .1))
 
--- src/demand.rt:171:5
 loop-less : tie.Need-loop-less Inv-loop μ-loop
 loop-less c = omega arith
 
--- src/demand.rt:171:5
 loop-again : tie.Need-loop-again Inv-loop μ-loop
 loop-again c = (omega arith, ((c .before .before .map-row) .ensures .kept ∙ (c .before .before .before .before .before .before .before .before .loop) .inv .1 .0, front-next ((c .before .before .before .before .before .before .before .before .before .before .before .before .before .before) .args .job) ((c .before .before .before .before .before .before .before .before .before .before .before .before .before .before) .args .t3) ((c .before .before .before .before .before .before .before .before .before .before .before .before .before .before) .args .d) ((c .before .before .before .before .before .before .before .before .before .before .before .before .before .before) .args .j) ((c .before .before .before .before .before .before .before .before .before .before .before .before .before .before) .pre .1) ((c .before .before .before .before .before .before .before .before .loop) .map) ((c .before .before .map-row) .last .0) ((c .before .before .before .before .before .before .before .before .loop) .h) (omega arith) ((c .before .before .before .before .before .before .before .before .loop) .inv .1 .1) ((c .before .before .map-row) .ensures)))
 
--- src/demand.rt:165:1
 same-length : tie.Need-same-length Inv-loop μ-loop
 same-length c = (c .before .before .loop) .inv .1 .0 ∙ (c .before .before .before .before .before .plain-row) .ensures .kept
 
--- src/demand.rt:165:1
 returns : tie.Need-returns Inv-loop μ-loop
 returns c = let e : (c .before .before .loop) .h ≡ ((c .before .before .before .before .before .before .before .before) .args .job) .layout .cells = omega (arith, (c .before .before .loop) .inv .0) in (subst (λ n. FrontsTo (jobOf ((c .before .before .before .before .before .before .before .before) .args .job)) ((c .before .before .before .before .before .before .before .before) .args .j) (n + 1) ((c .before .before .loop) .map)) e ((c .before .before .loop) .inv .1 .1), (c .before .before .loop) .inv .1 .0 ∙ (c .before .before .before .before .before .plain-row) .ensures .kept)
 

@@ -3,28 +3,19 @@ use Rattle.values.specs.Values.{jobOf}
 use Rattle.router.proofs.DemandMaps.{maps-ready}
 use Rattle.router.proofs.demand.fill_maps.Statement.{statement}
 use Rattle.router.proofs.demand.fill_maps.Tie as tie
-use Rattle.router.proofs.demand.fill_maps.Reads as reads
-use Rattle.router.proofs.demand.fill_maps.Lts as lts
-use Rattle.router.proofs.demand.fill_backs.Reads as fill-backs-reads
-use Rattle.router.proofs.demand.fill_fronts.Reads as fill-fronts-reads
 
--- src/demand.rt:205:5
 fill-fronts-requires : tie.Need-fill-fronts-requires
 fill-fronts-requires c κs = search needs
 
--- src/demand.rt:206:5
 fill-backs-requires : tie.Need-fill-backs-requires
 fill-backs-requires c κs = search needs
 
--- src/demand.rt:194:1
 same-length : tie.Need-same-length
 same-length c = search needs
 
--- src/demand.rt:194:1
 same-length-2 : tie.Need-same-length-2
 same-length-2 c = search needs
 
--- src/demand.rt:194:1
 returns : tie.Need-returns
 unfolding jobOf
 returns c = (maps-ready (jobOf ((c .before .before .before .before .before .before .before .before .before .before) .args .job)) ((c .before .before .before .before .before .before .before .before .before .before) .args .j) ((c .before .before .before .before .before .before .fill-fronts) .last .0) ((c .before .before .fill-backs) .last .0) ((c .before .before .before .before .before .before .fill-fronts) .ensures .0) ((c .before .before .fill-backs) .ensures .0), (c .before .before .before .before .before .before .fill-fronts) .ensures .1, (c .before .before .fill-backs) .ensures .1)
