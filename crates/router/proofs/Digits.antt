@@ -46,7 +46,7 @@ mapped-at f [] l h = absurd (omega arith)
 mapped-at f (k ∷ ls) zero h = refl
 mapped-at f (k ∷ ls) (suc l) h = mapped-at f ls l (omega arith)
 
-radices-length : (job : Job) → length (radices job) ≡ length (job .lines)
+pub radices-length : (job : Job) → length (radices job) ≡ length (job .lines)
 unfolding radices
 radices-length job = length-map (job .lines) _
 

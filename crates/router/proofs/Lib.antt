@@ -14,3 +14,4 @@ pub mod Numbers
 pub mod TableFills
 pub mod Digits
 pub mod Shelving
+pub mod DemandMaps

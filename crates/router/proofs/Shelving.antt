@@ -29,7 +29,7 @@ or-both : (b c d : Bool) → (b || c) ≡ false → (c ≡ false → d ≡ false
 or-both true c d h f = absurd (true≢false h)
 or-both false c d h f = f h
 
-less-or-more : (i k : ℕ) → (i ≡ k → ⊥) → (i < k) ⊎ (k < i)
+pub less-or-more : (i k : ℕ) → (i ≡ k → ⊥) → (i < k) ⊎ (k < i)
 less-or-more i k ne = go (decLt i k)
   where
     go : Dec (i < k) → (i < k) ⊎ (k < i)
@@ -45,13 +45,13 @@ eqb-comm m n = go (ℕ-discrete m n)
 
 module _ {A : Type 0} (d : A) where
   -- what stands at a place of the list is a member
-  pub at-member : (xs : List A) (i : ℕ) → i < length xs → List·Memᴰ (getD xs i d) xs
+  at-member : (xs : List A) (i : ℕ) → i < length xs → List·Memᴰ (getD xs i d) xs
   at-member [] i h = absurd (omega arith)
   at-member (x ∷ xs) zero h = List·Memᴰ·head refl
   at-member (x ∷ xs) (suc i) h = List·Memᴰ·tail (at-member xs i (omega arith))
 
   -- a test that holds at a place holds of some element
-  pub any-at : (t : A → Bool) (xs : List A) (i : ℕ) → i < length xs → t (getD xs i d) ≡ true → anyOf t xs ≡ true
+  any-at : (t : A → Bool) (xs : List A) (i : ℕ) → i < length xs → t (getD xs i d) ≡ true → anyOf t xs ≡ true
   any-at t xs i h e = any-true t xs .1 (getD xs i d, at-member xs i h, e)
 
   -- a test that holds of none of the first elements, nor of the next
@@ -64,7 +64,7 @@ module _ {A : Type 0} (d : A) where
       go (y ∷ ys) (suc k) none e = or-both (t y) (anyOf t (take k ys)) (anyOf t (take (suc k) ys)) none (λ p. go ys k p e)
 
   -- two places of a list whose elements stand in a relation, the nearer one in front
-  pub sorted-at : (R : A → A → Type 0) (xs : List A) → Sorted R xs → (i k : ℕ) → i < k → k < length xs → R (getD xs i d) (getD xs k d)
+  sorted-at : (R : A → A → Type 0) (xs : List A) → Sorted R xs → (i k : ℕ) → i < k → k < length xs → R (getD xs i d) (getD xs k d)
   sorted-at R [] s i k l h = absurd (omega arith)
   sorted-at R (x ∷ xs) s i zero l h = absurd (omega arith)
   sorted-at R (x ∷ xs) s zero (suc k) l h = s .0 (getD xs k d) (at-member xs k (omega arith))
@@ -137,7 +137,7 @@ abbrev pub holdsAt : Job → ℕ → StockRecord → Bool
 holdsAt job j r = eqb (r .aisle) j && listed job (r .article)
 
 -- the aisle holds a listed article, as the code looks for it
-pub holds-found : (job : Job) (j n : ℕ) → n < length (job .stock) → holdsAt job j (getD (job .stock) n noRecord) ≡ true → holdsListed job j ≡ true
+holds-found : (job : Job) (j n : ℕ) → n < length (job .stock) → holdsAt job j (getD (job .stock) n noRecord) ≡ true → holdsListed job j ≡ true
 unfolding holdsListed
 holds-found job j n h e = any-at noRecord (holdsAt job j) (job .stock) n h e
 
@@ -186,7 +186,7 @@ pub record ShelvedTo (job : Job) (line quantity : List ℕ) (n : ℕ) : Type 0 w
   pub lines-below : (k : ℕ) → getD line k 0 ≤ length (job .lines)
   pub supplies : (j c : ℕ) → 1 ≤ j → j ≤ 16 → 1 ≤ c → c ≤ 24 → gainOf (length (job .lines)) (getD line (cellNumber j c) 0) (getD quantity (cellNumber j c) 0) ≡ map (λ (l : OrderLine). cellSupply (take n (job .stock)) j c (l .article)) (job .lines)
 
-map-zero : (lines : List OrderLine) → replicate {A = ℕ} (length lines) 0 ≡ map (λ (l : OrderLine). 0) lines
+pub map-zero : (lines : List OrderLine) → replicate {A = ℕ} (length lines) 0 ≡ map (λ (l : OrderLine). 0) lines
 map-zero [] = refl
 map-zero (l ∷ ls) = ap (λ xs. 0 ∷ xs) (map-zero ls)
 
@@ -234,7 +234,7 @@ module _ (job : Job) (ok : Admitted job) (n : ℕ) (h : n < length (job .stock))
 
   module _ (w : RecordWithin (job .layout) here) where
     -- a record's cell has a place on the shelf
-    pub place-below : (here .cell ≤ 24) × (cellNumber (here .aisle) (here .cell) < 384)
+    place-below : (here .cell ≤ 24) × (cellNumber (here .aisle) (here .cell) < 384)
     place-below = let z = layout-within (job .layout) .0 (ok .layout) in (omega arith, omega arith)
 
     module _ (line quantity : List ℕ) (x : ℕ) (f : LineOf (job .lines) (here .article) x) (t : ShelvedTo job line quantity n) where
@@ -258,7 +258,7 @@ module _ (job : Job) (ok : Admitted job) (n : ℕ) (h : n < length (job .stock))
       lines-at k (no ne) = rw (getD-set-other line at k x 0 ne) (t .lines-below k)
 
       -- one more record on the shelf
-      pub shelved-one : ShelvedTo job (set line at x) (set quantity at (here .quantity)) (n + 1)
+      shelved-one : ShelvedTo job (set line at x) (set quantity at (here .quantity)) (n + 1)
       shelved-one =
           record {
             line-length = length-set line at x ∙ t .line-length;

@@ -1,16 +1,20 @@
 -- The order lines as digits of a demand number, and what each cell of the store holds for them.
 use Prim.Native.Nat.{ℕ, zero, suc, _+_, _*_, _-_, _/_, _%_, _≤_, _<_, min}
 use mathlib.Core.Path.{_≡_}
+use mathlib.Core.Logic.{_⊎_}
 use mathlib.Core.List.{List, map}
 use mathlib.Core.Bool.{cond, _&&_}
 use lib.Dec.{eqb}
 use lib.ListN.{length, getD, take, set, replicate}
 use Rattle.rules.specs.declared.StockRecord.{StockRecord}
 use Rattle.rules.specs.declared.OrderLine.{OrderLine}
+use Rattle.rules.specs.declared.Action.the-variants.{Bottom, Top}
 use Rattle.rules.specs.Lists.{sumOf, productOf, anyOf}
 use Rattle.rules.specs.Jobs.{Job}
 use Rattle.rules.specs.Refusals.{weight}
-use Rattle.optimum.specs.Demand.{radices}
+use Rattle.optimum.specs.Demand.{gains, radices, lessCode}
+use Rattle.values.specs.declared.JobValue.{JobValue}
+use Rattle.values.specs.Values.{jobOf, Sound}
 use Rattle.router.specs.declared.demand.Digits.{Digits}
 use Rattle.router.specs.declared.demand.Shelf.{Shelf}
 use Rattle.router.specs.Steps.{bit}
@@ -69,3 +73,25 @@ cellNumber j c = (j - 1) * 24 + (c - 1)
 pub record ShelfOf (job : Job) (shelf : Shelf) : Type 0 where
   pub lines-below : (k : ℕ) → getD (shelf .line) k 0 ≤ length (job .lines)
   pub supplies : (j c : ℕ) → 1 ≤ j → j ≤ 16 → 1 ≤ c → c ≤ 24 → gainOf (length (job .lines)) (getD (shelf .line) (cellNumber j c) 0) (getD (shelf .quantity) (cellNumber j c) 0) ≡ cellGains job j c
+
+-- n numbers of a row of 256 are those of a function; nothing else changes
+pub record RowSet (map map′ : List ℕ) (to n : ℕ) (f : ℕ → ℕ) : Type 0 where
+  pub kept : length map′ ≡ length map
+  pub done : (q : ℕ) → q < n → getD map′ (to * 256 + q) 0 ≡ f q
+  pub rest : (k : ℕ) → (k < to * 256) ⊎ (to * 256 + n ≤ k) → getD map′ k 0 ≡ getD map k 0
+
+-- what the maps of an aisle are made from
+pub record MapsAsked (job : JobValue) (shelf : Shelf) (d : Digits) (j : ℕ) : Type 0 where
+  pub sound : Sound job
+  pub shelf-of : ShelfOf (jobOf job) shelf
+  pub digits-of : DigitsOf (jobOf job) d
+  pub aisle : (1 ≤ j) × (j ≤ job .layout .aisles)
+
+-- the rows of BOTTOM h for h below n, and of TOP i for i above n
+abbrev pub FrontsTo : Job → ℕ → ℕ → List ℕ → Type 0
+FrontsTo job j n fronts =
+    (h q : ℕ) → h < n → q < weight (job .lines) → getD fronts (h * 256 + q) 0 ≡ lessCode (radices job) (gains job j (Bottom h)) q
+
+abbrev pub BacksFrom : Job → ℕ → ℕ → List ℕ → Type 0
+BacksFrom job j n backs =
+    (i q : ℕ) → n < i → i ≤ suc (job .layout .cells) → q < weight (job .lines) → getD backs (i * 256 + q) 0 ≡ lessCode (radices job) (gains job j (Top i)) q

@@ -9,9 +9,6 @@ use Rattle.values.specs.Values.{jobOf}
 use Rattle.router.proofs.Shelving.{holdsAt, record-small, holds-here, holds-next, holds-none, records-count}
 use Rattle.router.proofs.demand.aisle_holds.Statement.{statement}
 use Rattle.router.proofs.demand.aisle_holds.Tie as tie
-use Rattle.router.proofs.demand.aisle_holds.Reads as reads
-use Rattle.router.proofs.demand.aisle_holds.Lts as lts
-use Rattle.router.proofs.demand.wanted.Reads as wanted-reads
 
 abbrev Inv-loop : tie.InvT-loop
 Inv-loop j job n₀ n = (n ≤ job .records) × (anyOf (holdsAt (jobOf job) j) (take n (jobOf job .stock)) ≡ false)
@@ -19,39 +16,30 @@ Inv-loop j job n₀ n = (n ≤ job .records) × (anyOf (holdsAt (jobOf job) j) (
 abbrev μ-loop : tie.MeasureT-loop
 μ-loop j job n₀ n = job .records - n
 
--- src/demand.rt:106:5
 loop-holds : tie.Need-loop-holds Inv-loop μ-loop
 loop-holds c = (omega arith, refl)
 
--- src/demand.rt:107:42
 mul-wanted : tie.Need-mul-wanted Inv-loop μ-loop
 mul-wanted c = omega (arith, (c .before .before .before) .pre .record-count)
 
--- src/demand.rt:107:42
 element-copy-out-wanted : tie.Need-element-copy-out-wanted Inv-loop μ-loop
 element-copy-out-wanted c = omega (arith, (c .before .before .before) .pre .record-count)
 
--- src/demand.rt:107:12
 wanted-requires : tie.Need-wanted-requires Inv-loop μ-loop
 wanted-requires c κs = ((c .before .before .before .before) .pre .order-count, record-small ((c .before .before .before .before) .args .t1) ((c .before .before .before .before) .pre) (simp length-map at ((c .before .before .before .before) .good .0 .1 .1 .1 .1 .1 .0 .1 .0 .1)) ((c .before .before .before .loop) .n) (omega arith) .article)
 
--- src/demand.rt:108:13
 returns : tie.Need-returns Inv-loop μ-loop
 returns c = (sym (holds-here ((c .before .before .before .before .before .before) .args .t1) ((c .before .before .before .before .before .before) .pre) (simp length-map at ((c .before .before .before .before .before .before) .good .0 .1 .1 .1 .1 .1 .0 .1 .0 .1)) ((c .before .before .before .before .before .loop) .n) (omega arith) ((c .before .before .before .before .before .before) .args .j) (sym ((c .before .wanted) .ensures) ∙ (c .if1) .taken)), omega arith)
 
--- src/demand.rt:110:9
 add-n : tie.Need-add-n Inv-loop μ-loop
 add-n c = omega (arith, (c .before .before .before .before .before .before) .pre .record-count)
 
--- src/demand.rt:106:5
 loop-less : tie.Need-loop-less Inv-loop μ-loop
 loop-less c = omega arith
 
--- src/demand.rt:106:5
 loop-again : tie.Need-loop-again Inv-loop μ-loop
 loop-again c = (omega arith, holds-next ((c .before .before .before .before .before .before) .args .t1) ((c .before .before .before .before .before .before) .pre) (simp length-map at ((c .before .before .before .before .before .before) .good .0 .1 .1 .1 .1 .1 .0 .1 .0 .1)) ((c .before .before .before .before .before .loop) .n) (omega arith) ((c .before .before .before .before .before .before) .args .j) (sym ((c .before .wanted) .ensures) ∙ (c .if1) .left) ((c .before .before .before .before .before .loop) .inv .1))
 
--- src/demand.rt:101:1
 returns-2 : tie.Need-returns-2 Inv-loop μ-loop
 returns-2 c = (sym (holds-none (jobOf ((c .before .before) .args .t1)) ((c .before .before) .args .j) ((c .before .loop) .n) (omega (arith, records-count ((c .before .before) .args .t1))) ((c .before .loop) .inv .1)), omega arith)
 

@@ -7,8 +7,6 @@ use Rattle.router.specs.Shelves.{noLine}
 use Rattle.router.proofs.Digits.{DigitsTo, digits-none, digits-fit, digits-one, digits-all, line-read, lines-count}
 use Rattle.router.proofs.demand.digits_of.Statement.{statement}
 use Rattle.router.proofs.demand.digits_of.Tie as tie
-use Rattle.router.proofs.demand.digits_of.Reads as reads
-use Rattle.router.proofs.demand.digits_of.Lts as lts
 
 abbrev Inv-loop : tie.InvT-loop
 Inv-loop job radix₀ stride₀ weight₀ l₀ radix stride weight l = (l ≤ job .orders) × DigitsTo (jobOf job) (record { radix = radix; stride = stride; weight = weight }) l
@@ -16,59 +14,45 @@ Inv-loop job radix₀ stride₀ weight₀ l₀ radix stride weight l = (l ≤ jo
 abbrev μ-loop : tie.MeasureT-loop
 μ-loop job radix₀ stride₀ weight₀ l₀ radix stride weight l = job .orders - l
 
--- src/demand.rt:25:5
 loop-holds : tie.Need-loop-holds Inv-loop μ-loop
 loop-holds c = (omega arith, digits-none (jobOf (c .args .t1)))
 
--- src/demand.rt:26:20
 mul-line : tie.Need-mul-line Inv-loop μ-loop
 mul-line c = omega (arith, (c .before .before) .pre .order-count)
 
--- src/demand.rt:26:20
 element-copy-out-line : tie.Need-element-copy-out-line Inv-loop μ-loop
 element-copy-out-line c = omega (arith, (c .before .before) .pre .order-count)
 
--- src/demand.rt:27:20
 add-radix : tie.Need-add-radix Inv-loop μ-loop
 add-radix c = omega (arith, (c .before .before .before .before) .pre .admitted .light, digits-fit (jobOf ((c .before .before .before .before) .args .t1)) ((c .before .before .before .loop) .radix) ((c .before .before .before .loop) .stride) ((c .before .before .before .loop) .weight) ((getD ((c .before .before .before .before) .args .t1 .lines) ((c .before .before .before .loop) .l) noLine) .quantity + 1) ((c .before .before .before .loop) .l) (omega (arith, (c .before .before .before .before) .pre .order-count)) (ap (λ k. k .quantity + 1) (line-read ((c .before .before .before .before) .args .t1) ((c .before .before .before .loop) .l) (omega arith))) ((c .before .before .before .loop) .inv .1) .0)
 
--- src/demand.rt:27:9
 mul-radix : tie.Need-mul-radix Inv-loop μ-loop
 mul-radix c = omega (arith, (c .before .before .before .before) .pre .order-count)
 
--- src/demand.rt:27:9
 array-write-radix : tie.Need-array-write-radix Inv-loop μ-loop
 array-write-radix c = omega (arith, (c .before .before .before .before) .pre .order-count)
 
--- src/demand.rt:28:9
 mul-stride : tie.Need-mul-stride Inv-loop μ-loop
 mul-stride c = omega (arith, (c .before .before .before .before) .pre .order-count)
 
--- src/demand.rt:28:9
 array-write-stride : tie.Need-array-write-stride Inv-loop μ-loop
 array-write-stride c = omega (arith, (c .before .before .before .before) .pre .order-count)
 
--- src/demand.rt:29:19
 add-weight : tie.Need-add-weight Inv-loop μ-loop
 add-weight c = omega (arith, (c .before .before .before .before .before) .pre .admitted .light, digits-fit (jobOf ((c .before .before .before .before .before) .args .t1)) ((c .before .before .before .before .loop) .radix) ((c .before .before .before .before .loop) .stride) ((c .before .before .before .before .loop) .weight) ((getD ((c .before .before .before .before .before) .args .t1 .lines) ((c .before .before .before .before .loop) .l) noLine) .quantity + 1) ((c .before .before .before .before .loop) .l) (omega (arith, (c .before .before .before .before .before) .pre .order-count)) (ap (λ k. k .quantity + 1) (line-read ((c .before .before .before .before .before) .args .t1) ((c .before .before .before .before .loop) .l) (omega arith))) ((c .before .before .before .before .loop) .inv .1) .0)
 
--- src/demand.rt:29:9
 mul-weight : tie.Need-mul-weight Inv-loop μ-loop
 mul-weight c = omega (arith, (c .before .before .before .before .before) .pre .admitted .light, digits-fit (jobOf ((c .before .before .before .before .before) .args .t1)) ((c .before .before .before .before .loop) .radix) ((c .before .before .before .before .loop) .stride) ((c .before .before .before .before .loop) .weight) ((getD ((c .before .before .before .before .before) .args .t1 .lines) ((c .before .before .before .before .loop) .l) noLine) .quantity + 1) ((c .before .before .before .before .loop) .l) (omega (arith, (c .before .before .before .before .before) .pre .order-count)) (ap (λ k. k .quantity + 1) (line-read ((c .before .before .before .before .before) .args .t1) ((c .before .before .before .before .loop) .l) (omega arith))) ((c .before .before .before .before .loop) .inv .1) .1)
 
--- src/demand.rt:30:9
 add-l : tie.Need-add-l Inv-loop μ-loop
 add-l c = omega (arith, (c .before .before .before .before .before) .pre .order-count)
 
--- src/demand.rt:25:5
 loop-less : tie.Need-loop-less Inv-loop μ-loop
 loop-less c = omega arith
 
--- src/demand.rt:25:5
 loop-again : tie.Need-loop-again Inv-loop μ-loop
 loop-again c = (omega arith, digits-one (jobOf ((c .before .before .before .before .before) .args .t1)) ((c .before .before .before .before .loop) .radix) ((c .before .before .before .before .loop) .stride) ((c .before .before .before .before .loop) .weight) ((getD ((c .before .before .before .before .before) .args .t1 .lines) ((c .before .before .before .before .loop) .l) noLine) .quantity + 1) ((c .before .before .before .before .loop) .l) (omega (arith, (c .before .before .before .before .before) .pre .order-count)) (ap (λ k. k .quantity + 1) (line-read ((c .before .before .before .before .before) .args .t1) ((c .before .before .before .before .loop) .l) (omega arith))) ((c .before .before .before .before .loop) .inv .1))
 
--- src/demand.rt:17:1
 returns : tie.Need-returns Inv-loop μ-loop
 returns c = digits-all (jobOf ((c .before .before) .args .t1)) (record { radix = (c .before .loop) .radix; stride = (c .before .loop) .stride; weight = (c .before .loop) .weight }) ((c .before .loop) .l) ((c .before .before) .pre .admitted .light) (omega (arith, lines-count ((c .before .before) .args .t1))) ((c .before .loop) .inv .1)
 

@@ -12,8 +12,6 @@ use Rattle.router.specs.Shelves.{noLine}
 use Rattle.router.proofs.Shelving.{none-more, line-found, line-none}
 use Rattle.router.proofs.demand.line_of.Statement.{statement}
 use Rattle.router.proofs.demand.line_of.Tie as tie
-use Rattle.router.proofs.demand.line_of.Reads as reads
-use Rattle.router.proofs.demand.line_of.Lts as lts
 
 abbrev Inv-loop : tie.InvT-loop
 Inv-loop orders article lines l₀ l = (l ≤ orders) × (anyOf (λ (k : OrderLine). eqb (k .article) article) (take l (take orders lines)) ≡ false)
@@ -21,39 +19,30 @@ Inv-loop orders article lines l₀ l = (l ≤ orders) × (anyOf (λ (k : OrderLi
 abbrev μ-loop : tie.MeasureT-loop
 μ-loop orders article lines l₀ l = orders - l
 
--- src/demand.rt:78:5
 loop-holds : tie.Need-loop-holds Inv-loop μ-loop
 loop-holds c = (omega arith, refl)
 
--- src/demand.rt:79:20
 mul-line : tie.Need-mul-line Inv-loop μ-loop
 mul-line c = omega arith
 
--- src/demand.rt:79:20
 array-copy-out-line : tie.Need-array-copy-out-line Inv-loop μ-loop
 array-copy-out-line c = omega arith
 
--- src/demand.rt:81:20
 add-result : tie.Need-add-result Inv-loop μ-loop
 add-result c = omega arith
 
--- src/demand.rt:81:13
 returns : tie.Need-returns Inv-loop μ-loop
 returns c = line-found (take ((c .before .before .before .before .before) .args .orders) ((c .before .before .before .before .before) .args .t1)) ((c .before .before .before .before .before) .args .article) ((c .before .before .before .before .loop) .l) ((c .before .before .before .before .before) .pre .1) (ap (λ (k : OrderLine). k .article) (getD-take ((c .before .before .before .before .before) .args .orders) ((c .before .before .before .before .before) .args .t1) ((c .before .before .before .before .loop) .l) noLine (omega arith)) ∙ (c .if1) .taken)
 
--- src/demand.rt:83:9
 add-l : tie.Need-add-l Inv-loop μ-loop
 add-l c = omega arith
 
--- src/demand.rt:78:5
 loop-less : tie.Need-loop-less Inv-loop μ-loop
 loop-less c = omega arith
 
--- src/demand.rt:78:5
 loop-again : tie.Need-loop-again Inv-loop μ-loop
 loop-again c = (omega arith, none-more noLine (λ (k : OrderLine). eqb (k .article) ((c .before .before .before .before .before) .args .article)) (take ((c .before .before .before .before .before) .args .orders) ((c .before .before .before .before .before) .args .t1)) ((c .before .before .before .before .loop) .l) ((c .before .before .before .before .loop) .inv .1) (ne-eqb (getD (take ((c .before .before .before .before .before) .args .orders) ((c .before .before .before .before .before) .args .t1)) ((c .before .before .before .before .loop) .l) noLine .article) ((c .before .before .before .before .before) .args .article) (λ e. (c .if1) .left (sym (ap (λ (k : OrderLine). k .article) (getD-take ((c .before .before .before .before .before) .args .orders) ((c .before .before .before .before .before) .args .t1) ((c .before .before .before .before .loop) .l) noLine (omega arith))) ∙ e))))
 
--- src/demand.rt:73:1
 returns-2 : tie.Need-returns-2 Inv-loop μ-loop
 returns-2 c = line-none (take ((c .before .before) .args .orders) ((c .before .before) .args .t1)) ((c .before .before) .args .article) ((c .before .loop) .l) (omega (arith, length-take ((c .before .before) .args .orders) ((c .before .before) .args .t1))) ((c .before .loop) .inv .1)
 

@@ -4,19 +4,13 @@ use borrow.Author.Tests.{ne-eqb}
 use Rattle.router.proofs.Shelving.{wanted-here}
 use Rattle.router.proofs.demand.wanted.Statement.{statement}
 use Rattle.router.proofs.demand.wanted.Tie as tie
-use Rattle.router.proofs.demand.wanted.Reads as reads
-use Rattle.router.proofs.demand.wanted.Lts as lts
-use Rattle.router.proofs.demand.line_of.Reads as line-of-reads
 
--- src/demand.rt:94:9
 line-of-requires : tie.Need-line-of-requires
 line-of-requires c κs = (c .before .before) .pre
 
--- src/demand.rt:89:1
 returns : tie.Need-returns
 returns c = wanted-here (take ((c .before .before .before) .args .orders) ((c .before .before .before) .args .lines)) ((c .before .before .before) .args .r .article) ((c .line-of) .result) ((c .before .before .before) .args .r .aisle) ((c .before .before .before) .args .j) ((c .before .if1) .taken) ((c .line-of) .ensures)
 
--- src/demand.rt:89:1
 returns-2 : tie.Need-returns-2
 returns-2 c = rw (ne-eqb ((c .before .before) .args .r .aisle) ((c .before .before) .args .j) ((c .if1) .left)) refl
 
