@@ -29,7 +29,9 @@ pub struct ListRead {
 }
 
 // No stock record.
-pub fn no_record() -> StockRecord {
+pub fn no_record() -> StockRecord
+    ensures { λ r. ⌜ r ≡ record { aisle = 0; cell = 0; article = 0; quantity = 0 } ⌝ }
+{
     StockRecord {
         aisle: 0,
         cell: 0,
@@ -39,7 +41,9 @@ pub fn no_record() -> StockRecord {
 }
 
 // No order line.
-pub fn no_line() -> OrderLine {
+pub fn no_line() -> OrderLine
+    ensures { λ r. ⌜ r ≡ record { article = 0; quantity = 0 } ⌝ }
+{
     OrderLine {
         article: 0,
         quantity: 0,
