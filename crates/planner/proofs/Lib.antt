@@ -1,0 +1,3 @@
+-- Laws of the library call.
+pub mod Replies
+pub mod Routes
