@@ -12,3 +12,6 @@ pub mod TraceLaws
 pub mod TraceEnds
 pub mod Numbers
 pub mod TableFills
+pub mod Digits
+pub mod Shelving
+pub mod DemandMaps

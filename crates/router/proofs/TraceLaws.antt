@@ -12,7 +12,7 @@ use Rattle.rules.specs.declared.Action.the-variants.{Void}
 use Rattle.rules.specs.declared.Passage.{Passage}
 use Rattle.rules.specs.declared.Passage.the-variants.{P00}
 use Rattle.rules.specs.Jobs.{Job}
-use Rattle.rules.specs.Refusals.{weight, stockInBounds}
+use Rattle.rules.specs.Refusals.{weight, stockInBounds, Admitted}
 use Rattle.rules.specs.Lengths.{actionLength, passageLength}
 use Rattle.rules.specs.BestPlan.{actionsOf, passagesInOrder, bestPlan}
 use Rattle.rules.specs.Machine.{State, nothing, closed, atFront, atBack, odd, joined, split, ending, dead, actionStep, passageStep}
@@ -25,9 +25,11 @@ use Rattle.optimum.specs.Routing.{routing, allActions, restOf}
 use Rattle.optimum.proofs.Choice.{first-agree, first-at-cong, first-at-holds}
 use Rattle.optimum.proofs.Radix.{radices-positive, gains-length, less-code}
 use Rattle.values.specs.declared.Stage.{Stage}
+use Rattle.router.specs.declared.candidates.Candidate.{Candidate}
+use Rattle.router.specs.declared.layers.Aisle.{Aisle}
 use Rattle.router.specs.States.{stateCode, stateOf}
 use Rattle.router.specs.Steps.{policyOf, policyCode, passageOf, crossOf}
-use Rattle.router.specs.Candidates.{candidateOf}
+use Rattle.router.specs.Candidates.{candidateOf, actionOf}
 use Rattle.router.specs.Rows.{throughPassage}
 use Rattle.router.specs.Layers.{stepCode, leftCode, throughAction}
 use Rattle.router.specs.Maps.{MapsReady}
@@ -37,6 +39,8 @@ use Rattle.router.specs.Tracing.{stagesRest, Traced}
 use Rattle.router.proofs.StepLaws.{state-of-code, cross-of, step-code}
 use Rattle.router.proofs.Passages.{passage-tried, tried-length}
 use Rattle.router.proofs.ActionRows.{ranked-fits}
+use Rattle.router.proofs.Geometry.{action-of-candidate}
+use Rattle.router.proofs.TableFills.{tried-five}
 use Rattle.router.proofs.FirstRanks.{rank-within}
 use Rattle.router.proofs.TableValues.{values, behind, tried-passages, value-dead, below-weight, passage-value, least-after-value, left-code, through-value}
 
@@ -212,3 +216,69 @@ module _ (job : Job) (stocked : stockInBounds job ≡ true) (n s q : ℕ) (next 
         finite = rw (left-is, back, b .demand-is) on;
         whole = more-whole k s₁ q₁ v₂ p s₂ f five (t .rest) l finite stages (omega (arith, t .sized)) ∙ t .whole;
       }
+
+-- one aisle of the trace as the code has it: the numbers that its parts give, and what they are
+pub record Aisled (job : Job) (n s q : ℕ) (next fronts backs : List ℕ) (x : Aisle) (tried side value : ℕ) : Type 0 where
+  pub ok : Admitted job
+  pub more : n < job .layout .aisles
+  pub numbers : x ≡ aisleOf job (suc n)
+  pub passages : tried ≡ triedAt (job .layout .aisles - suc n)
+  pub place : side ≡ sideOf (job .layout .depot) (suc n)
+  pub table : value ≡ values job (job .layout .aisles - n) (suc n) (stateOf s) (demandOf (radices job) q)
+  pub rows : RowHolds job (job .layout .aisles - suc n) (suc (suc n)) next
+  pub maps : MapsReady job (suc n) fronts backs
+
+module _ (job : Job) (n s q : ℕ) (next fronts backs : List ℕ) (x : Aisle) (tried side value : ℕ) (h : Aisled job n s q next fronts backs x tried side value) (stages : List Stage) (t : Traced job stages n s q) where
+  abbrev left-over : ℕ
+  left-over = job .layout .aisles - suc n
+
+  one-left : job .layout .aisles - n ≡ suc left-over
+  one-left = let m = h .more in omega arith
+
+  value-here : value ≡ here job (h .ok .stock) n s q next fronts backs (h .maps) left-over (h .rows) (t .demand-below) (t .state-below)
+  value-here = h .table ∙ ap (λ k. values job k (suc n) (stateOf s) (demandOf (radices job) q)) one-left
+
+  -- what the code found, put in the table's words
+  pub rank-here : (k : ℕ) → FirstRank (throughAction x (leastAfter next tried (policyOf (x .policy)) side (x .layout .width)) fronts backs s q) value (actionsOf (x .layout .cells)) Void k → FirstRank (throughAction (aisleOf job (suc n)) (aft job (h .ok .stock) n s q next fronts backs (h .maps) left-over (h .rows) (t .demand-below) (t .state-below)) fronts backs s q) (here job (h .ok .stock) n s q next fronts backs (h .maps) left-over (h .rows) (t .demand-below) (t .state-below)) (actionsOf (job .layout .cells)) Void k
+  unfolding aisleOf
+  rank-here k r =
+      subst (λ v. FirstRank (throughAction (aisleOf job (suc n)) (aft job (h .ok .stock) n s q next fronts backs (h .maps) left-over (h .rows) (t .demand-below) (t .state-below)) fronts backs s q) v (actionsOf (job .layout .cells)) Void k) value-here
+      (subst (λ d. FirstRank (throughAction (aisleOf job (suc n)) (leastAfter next (triedAt left-over) (policyOf (policyCode (job .policy))) d (job .layout .width)) fronts backs s q) value (actionsOf (job .layout .cells)) Void k) (h .place)
+      (subst (λ d. FirstRank (throughAction (aisleOf job (suc n)) (leastAfter next d (policyOf (policyCode (job .policy))) side (job .layout .width)) fronts backs s q) value (actionsOf (job .layout .cells)) Void k) (h .passages)
+      (subst (λ (y : Aisle). FirstRank (throughAction y (leastAfter next tried (policyOf (y .policy)) side (y .layout .width)) fronts backs s q) value (actionsOf (y .layout .cells)) Void k) (h .numbers) r)))
+
+  -- the action is one of the aisle's
+  led-here : Led job (h .ok .stock) n s q next fronts backs (h .maps) left-over (h .rows) (t .demand-below) (t .state-below) (t .rest)
+  led-here = led job (h .ok .stock) n s q next fronts backs (h .maps) left-over (h .rows) (t .demand-below) (t .state-below) (t .rest) (rw one-left at (t .leads))
+
+  finite-here : here job (h .ok .stock) n s q next fronts backs (h .maps) left-over (h .rows) (t .demand-below) (t .state-below) < noTour
+  finite-here = rw one-left at (t .finite)
+
+  pub rank-in : (k : ℕ) → FirstRank (throughAction x (leastAfter next tried (policyOf (x .policy)) side (x .layout .width)) fronts backs s q) value (actionsOf (x .layout .cells)) Void k → k < length (actionsOf (job .layout .cells))
+  rank-in k r =
+      action-found job (h .ok .stock) n s q next fronts backs (h .maps) left-over (h .rows) (t .demand-below) (t .state-below) k (led-here .action) (rank-here k r) (led-here .action-first) .0
+
+  module _ (k s₁ q₁ v₂ p : ℕ) (c : Candidate) (r : FirstRank (throughAction x (leastAfter next tried (policyOf (x .policy)) side (x .layout .width)) fronts backs s q) value (actionsOf (x .layout .cells)) Void k) (c-is : c ≡ candidateOf (job .layout .cells) (getD (actionsOf (job .layout .cells)) k Void)) (st : s₁ ≡ stepCode x c s) (dm : q₁ ≡ leftCode fronts backs c q) (v : v₂ ≡ leastAfter next tried (policyOf (x .policy)) side (job .layout .width) s₁ q₁) (pr : FirstRank (throughPassage next (policyOf (x .policy)) side (job .layout .width) s₁ q₁) v₂ (take tried passagesInOrder) P00 p) where
+    pub found-here : (s₂ : ℕ) → s₂ ≡ stateCode (crossOf (policyOf (x .policy)) (passageOf p) side (stateOf s₁)) → Found job (h .ok .stock) n s q next fronts backs (h .maps) left-over (h .rows) (t .demand-below) (t .state-below) k s₁ q₁ v₂ p s₂
+    unfolding aisleOf
+    found-here s₂ sp =
+        record {
+          rank = rank-here k r;
+          state-to = st ∙ ap₂ (λ y d. stepCode y d s) (h .numbers) c-is;
+          demand-to = dm ∙ ap (λ d. leftCode fronts backs d q) c-is;
+          value-to = v ∙ rw (h .numbers, h .passages, h .place) refl;
+          passage-rank = rw (h .numbers, h .passages, h .place) at pr;
+          state-past = sp ∙ rw (h .numbers, h .place) refl;
+        }
+
+    -- the passage is one of those that are tried
+    pub passage-in : p < 5
+    passage-in =
+        let f = found-here (stateCode (crossOf (policyOf (x .policy)) (passageOf p) side (stateOf s₁))) refl in
+        omega (arith, tried-five left-over, the-passage job (h .ok .stock) n s q next fronts backs (h .maps) left-over (h .rows) (t .demand-below) (t .state-below) k s₁ q₁ v₂ p _ f (tried-five left-over) (t .rest) led-here finite-here .0)
+
+    -- and the trace goes on
+    pub trace-on : (s₂ : ℕ) → s₂ ≡ stateCode (crossOf (policyOf (x .policy)) (passageOf p) side (stateOf s₁)) → n < 16 → (a : Action) (y : Passage) → a ≡ actionOf c → y ≡ passageOf p → Traced job (set stages n (record { action = a; passage = y })) (suc n) s₂ q₁
+    trace-on s₂ sp low a y a-is y-is =
+        subst₂ (λ b z. Traced job (set stages n (record { action = b; passage = z })) (suc n) s₂ q₁) (sym (a-is ∙ ap actionOf c-is ∙ action-of-candidate (job .layout .cells) (getD (actionsOf (job .layout .cells)) k Void))) (sym y-is)
+        (trace-next job (h .ok .stock) n s q next fronts backs (h .maps) left-over (h .rows) (t .demand-below) (t .state-below) stages t one-left (tried-five left-over) low k s₁ q₁ v₂ p s₂ (found-here s₂ sp))

@@ -8,3 +8,4 @@ pub mod TableHolds
 pub mod Choosing
 pub mod Tracing
 pub mod Stored
+pub mod Shelves

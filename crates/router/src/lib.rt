@@ -1,8 +1,33 @@
 // The router: for an admitted job, the first of the shortest allowed plans that serve its list.
 mod candidates;
 mod choices;
+mod demand;
+mod filling;
 mod layers;
 mod rows;
 mod steps;
 mod stored;
 mod table;
+mod trace;
+
+use values::JobValue;
+use values::Routed;
+ghost use mathlib.Core.Path.{_≡_};
+ghost use Prim.Native.Nat.{_≤_};
+ghost use lib.ListN.{length, replicate};
+ghost use Rattle.values.specs.Values.{jobOf, RoutedOf, Sound};
+
+// The best plan of a job and its length. The work area holds the table on the way, and is all zero at the end.
+pub fn route(job: JobValue, work: &mut [u16]) -> Routed
+    requires { ⌜ Sound job × (32768 ≤ length (now work)) ⌝ }
+    ensures { λ r. ⌜ RoutedOf (jobOf job) r × (now (work .exit) ≡ replicate (length (now (work .entry))) 0) ⌝ }
+{
+    let shelf = demand::shelve(job);
+    let d = demand::digits_of(job);
+    let weight = d.weight;
+    filling::fill_table(work, job, shelf, d);
+    let plan = trace::read_plan(work, job, shelf, d);
+    let length = rows::wide(work[(weight - 1) * 8]);
+    table::clear(work);
+    Routed { length, plan }
+}

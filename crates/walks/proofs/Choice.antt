@@ -1,29 +1,25 @@
 -- The choice of a letter: whether the search finds a walk behind it, told by what can be reached.
-use Prim.Native.Nat.{ℕ, zero, suc, _+_, _*_, _-_, _≤_, _<_}
+use Prim.Native.Nat.{ℕ, suc, _-_, _<_}
 use native.Mathlib.Omega.{arith}
-use mathlib.Core.Path.{_≡_, refl, sym, ap, ap₂, _∙_, subst}
-use mathlib.Core.Logic.{_⊎_, inl, inr, _↔_}
-use mathlib.Core.List.{List, [], _∷_}
+use mathlib.Core.Path.{_≡_, refl, ap, _∙_, subst}
+use mathlib.Core.List.{[], _∷_}
 use mathlib.Core.Bool.{Bool, true, false, _&&_}
 use mathlib.Core.Option.{Option, none, some}
 use lib.Dec.{ltb}
-use lib.ListN.{length, getD, set, length-set}
-use lib.Seq.{getD-set-same, getD-set-other}
-use borrow.Author.Tests.{ltb-true, lt-ltb, le-ltb}
+use borrow.Author.Tests.{ltb-true}
 use Rattle.rules.specs.declared.Layout.{Layout}
 use Rattle.rules.specs.declared.Direction.{Direction}
 use Rattle.rules.specs.declared.Direction.the-variants.{Back, Front, Left, Right}
 use Rattle.rules.specs.Store.{Point, Edge, InStore, depotPoint}
-use Rattle.rules.specs.Walks.{Walk, canStep, stepTo, stepEdge, one}
+use Rattle.rules.specs.Walks.{Walk, canStep, stepTo, stepEdge}
 use Rattle.rules.specs.FirstWalk.{without, firstFrom, stepsOf}
-use Rattle.closedwalks.specs.Ways.{PointOf, Leads, treadsFrom, Joined}
+use Rattle.closedwalks.specs.Ways.{Leads, treadsFrom, Joined}
 use Rattle.closedwalks.specs.Greedy.{firstLetter, admits, greedy, Ready, TellsJoined}
-use Rattle.closedwalks.proofs.Splits.{none-or-some}
-use Rattle.closedwalks.proofs.Steps.{both-true, one-refl, one-sym, stepped}
-use Rattle.closedwalks.proofs.Parity.{taken, total-step}
+use Rattle.closedwalks.proofs.Steps.{both-true, one-refl, stepped}
+use Rattle.closedwalks.proofs.Parity.{taken}
 use Rattle.closedwalks.proofs.Links.{joined-same, walk-joined}
 use Rattle.closedwalks.proofs.First.{first-fits}
-use Rattle.closedwalks.proofs.Greedily.{ready-found, found-joined, ready-step, spare-joined, greedy-found}
+use Rattle.closedwalks.proofs.Greedily.{ready-found, found-joined, ready-step, greedy-found}
 use Rattle.closedwalks.proofs.Statements.{completed}
 use Rattle.walks.specs.Letters.{isSome, finds}
 

@@ -24,7 +24,7 @@ use Rattle.values.specs.Values.{planOf}
 use Rattle.closedwalks.proofs.Splits.{equal-or-below}
 use Rattle.walks.specs.Treads.{slotOf, leftOf, Charted}
 use Rattle.walks.specs.Filling.{withAisle, withPassage, withBehind, stageAt, withAisles}
-use Rattle.walks.proofs.Flooding.{same-or-not}
+use Rattle.walks.proofs.Flooding.{same-or-not, none-at}
 use Rattle.walks.proofs.Places.{slot-same, slot-range, left-in}
 
 pub aisle-length : (action : Action) (aisle n : ℕ) (left : List ℕ) → length (withAisle action aisle n left) ≡ length left
@@ -56,12 +56,6 @@ module _ (aisles cells : ℕ) (stages : List Stage) where
           r ∙ ap₂ (λ (t : Bool) (l : List ℕ). withBehind t cells (stageAt stages j .passage) k l) (sym s) (q ∙ ap (withAisle (stageAt stages j .action) k (suc cells)) p)
           ∙ (λ i. withBehind (ltb (e i) aisles) cells (stageAt stages j .passage) (e i) (withAisle (stageAt stages j .action) (e i) (suc cells) (withAisles aisles cells stages j first)))
           ∙ ap (λ (n : ℕ). withAisles aisles cells stages n first) (sym e)
-
--- nothing is written yet
-pub none-left : (n i : ℕ) → getD (replicate {A = ℕ} n 0) i 0 ≡ 0
-none-left zero i = refl
-none-left (suc n) zero = refl
-none-left (suc n) (suc i) = none-left n i
 
 -- the order in which the edges are written
 abbrev turn : Edge → ℕ
@@ -162,7 +156,7 @@ module _ (z : Layout) (wide : z .aisles ≤ 16) (deep : z .cells ≤ 24) (plan :
   filled-aisles : (n : ℕ) → n ≤ z .aisles → Filled z (multiplicity (planOf plan)) (28 * suc n) (withAisles (z .aisles) (z .cells) (plan .stages) n (replicate 884 0))
   unfolding multiplicity InStore
   filled-aisles zero h =
-      record { charted = record { size = length-replicate {A = ℕ} 884 0; edge = λ i p. absurd (omega (arith, none-left 884 i)) }; written = λ e i t. absurd (before e i t) }
+      record { charted = record { size = length-replicate {A = ℕ} 884 0; edge = λ i p. absurd (omega (arith, none-at 884 i)) }; written = λ e i t. absurd (before e i t) }
     where
       before : (e : Edge) → InStore z e → turn e < 28 * 1 → ⊥
       before (along j k) i t = omega arith

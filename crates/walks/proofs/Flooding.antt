@@ -5,9 +5,9 @@ use mathlib.Core.Path.{_≡_, refl, sym, ap, _∙_, subst}
 use mathlib.Core.Logic.{_⊎_, inl, inr, _↔_}
 use mathlib.Core.List.{List, [], _∷_}
 use mathlib.Core.Bool.{true, false}
-use lib.ListN.{length, getD, set, replicate, length-set, length-replicate, getD-replicate, List·getD-eq-default}
+use lib.ListN.{length, getD, set, replicate, length-set, length-replicate, List·getD-eq-default}
 use lib.Seq.{getD-set-same, getD-set-other}
-use Rattle.closedwalks.proofs.Splits.{none-or-some, equal-or-below, below-or-from}
+use Rattle.closedwalks.proofs.Splits.{equal-or-below, below-or-from}
 use Rattle.walks.specs.Flood.{unseen, Reach, here, backward, forward, rightward, leftward, Starts, AllReached, Ranged, Alike, Calm, Within, Spread, Swept, Flooded, AllSeen}
 
 -- a point that is seen newly is one unseen less
@@ -32,6 +32,12 @@ pub seen-below : (seen : List ℕ) (p : ℕ) → 0 < getD seen p 0 → p < lengt
 seen-below seen p h =
     elim (below-or-from p (length seen)) [ inl l ↦ l | inr g ↦ absurd (omega (arith, List·getD-eq-default seen 0 g)) ]
 
+-- a list of zeros has nothing anywhere
+pub none-at : (n i : ℕ) → getD (replicate {A = ℕ} n 0) i 0 ≡ 0
+none-at zero i = refl
+none-at (suc n) zero = refl
+none-at (suc n) (suc i) = none-at n i
+
 -- at first only one point is seen
 abbrev pub one-seen : ℕ → ℕ → List ℕ
 one-seen n at = set (replicate n 0) at 1
@@ -40,18 +46,9 @@ pub one-seen-size : (n at : ℕ) → length (one-seen n at) ≡ n
 one-seen-size n at = let none : List ℕ = replicate n 0 in length-set none at 1 ∙ length-replicate {A = ℕ} n 0
 
 pub only-seen : (n at p : ℕ) → 0 < getD (one-seen n at) p 0 → p ≡ at
-only-seen n at p h = go (same-or-not p at)
-  where
-    none : List ℕ
-    none = replicate n 0
-
-    go : (p ≡ at) ⊎ (p ≡ at → ⊥) → p ≡ at
-    go (inl e) = e
-    go (inr q) =
-        let o : getD (one-seen n at) p 0 ≡ getD none p 0 = getD-set-other none at p 1 0 q in
-        let l = seen-below none p (omega arith) in
-        let z : getD none p 0 ≡ 0 = getD-replicate n p 0 0 (omega (arith, length-replicate {A = ℕ} n 0)) in
-        absurd (omega arith)
+only-seen n at p h =
+    let none : List ℕ = replicate n 0 in
+    elim (same-or-not p at) [ inl e ↦ e | inr q ↦ absurd (omega (arith, getD-set-other none at p 1 0 q, none-at n p)) ]
 
 pub first-seen : (n at : ℕ) → at < n → 0 < getD (one-seen n at) at 0
 first-seen n at h = let none : List ℕ = replicate n 0 in omega (arith, getD-set-same none at 1 0 (omega (arith, length-replicate {A = ℕ} n 0)))

@@ -1,12 +1,12 @@
 -- The numbers of points and edges: each point of the store and each of its edges has its own, and a step leads from one to another.
-use Prim.Native.Nat.{ℕ, zero, suc, _+_, _*_, _-_, _/_, _%_, _≤_, _<_}
+use Prim.Native.Nat.{ℕ, suc, _+_, _*_, _-_, _/_, _%_, _≤_, _<_}
 use native.Mathlib.Omega.{arith}
 use mathlib.Core.Path.{_≡_, refl, sym, ap, ap₂, _∙_, subst}
-use mathlib.Core.Logic.{_⊎_, inl, inr, _↔_}
+use mathlib.Core.Logic.{_⊎_, inl, inr}
 use mathlib.Core.List.{List}
 use mathlib.Core.Bool.{Bool, true, false, cond, _&&_, _||_}
 use lib.Dec.{ltb, leb, eqb}
-use lib.ListN.{length, getD, set, length-set}
+use lib.ListN.{length, getD, set}
 use lib.Seq.{getD-set-same, getD-set-other}
 use borrow.Author.Tests.{ltb-true, leb-true, eqb-true, lt-ltb, le-ltb, le-leb}
 use Rattle.rules.specs.declared.Layout.{Layout}
@@ -14,7 +14,7 @@ use Rattle.rules.specs.declared.Direction.{Direction}
 use Rattle.rules.specs.declared.Direction.the-variants.{Back, Front, Left, Right}
 use Rattle.rules.specs.Store.{Point, Edge, along, front, back, startOf, endOf, InStore, backHeight}
 use Rattle.rules.specs.Lawful.{Trodden}
-use Rattle.rules.specs.Walks.{canStep, stepTo, stepEdge, isCrossing, crossEdge, one}
+use Rattle.rules.specs.Walks.{canStep, stepTo, stepEdge, isCrossing, one}
 use Rattle.rules.specs.FirstWalk.{without}
 use Rattle.closedwalks.specs.Ways.{PointOf}
 use Rattle.closedwalks.proofs.Splits.{none-or-some}

@@ -1,12 +1,12 @@
 -- What can be reached by the numbers is what chains of edges that are left reach.
-use Prim.Native.Nat.{ℕ, _+_, _*_, _≤_, _<_}
+use Prim.Native.Nat.{ℕ, _+_, _≤_, _<_}
 use native.Mathlib.Omega.{arith}
-use mathlib.Core.Path.{_≡_, refl, sym, ap, _∙_, subst}
-use mathlib.Core.Logic.{_⊎_, inl, inr, _↔_}
+use mathlib.Core.Path.{_≡_, refl, sym, _∙_, subst}
+use mathlib.Core.Logic.{inl, inr, _↔_}
 use mathlib.Core.List.{List}
 use lib.ListN.{getD}
 use Rattle.rules.specs.declared.Layout.{Layout}
-use Rattle.rules.specs.Store.{Point, Edge, startOf, endOf, Joins, InStore}
+use Rattle.rules.specs.Store.{Point, Edge, startOf, endOf, Joins}
 use Rattle.rules.specs.Lawful.{Trodden, Linked}
 use Rattle.rules.specs.Lawful as Lawful
 use Rattle.closedwalks.specs.Ways.{PointOf, Joined}

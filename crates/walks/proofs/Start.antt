@@ -1,11 +1,11 @@
 -- Where the walk starts: the treads of a lawful plan can be walked from the depot, and the letters to come are those of its first walk.
 use Prim.Native.Nat.{ℕ, zero, suc, _+_, _*_, _%_, _≤_, _<_}
 use native.Mathlib.Omega.{arith}
-use mathlib.Core.Path.{_≡_, refl, sym, ap, ap₂, _∙_, subst}
+use mathlib.Core.Path.{_≡_, refl, sym, ap, _∙_, subst}
 use mathlib.Core.Logic.{_⊎_, inl, inr}
-use mathlib.Core.List.{List, []}
+use mathlib.Core.List.{[]}
 use mathlib.Core.Bool.{Bool, true, false, _&&_}
-use mathlib.Core.Option.{Option, some, Option·getD}
+use mathlib.Core.Option.{Option, Option·getD}
 use lib.Dec.{ltb}
 use lib.ListN.{length}
 use borrow.Author.Tests.{le-ltb}
@@ -16,7 +16,7 @@ use Rattle.rules.specs.Store.{Point, Edge, InStore, depotPoint}
 use Rattle.rules.specs.Plans.{multiplicity}
 use Rattle.rules.specs.Walks.{Walk, canStep, stepTo, stepEdge}
 use Rattle.rules.specs.FirstWalk.{without, firstWay, stepThen, firstFrom, firstWalk, stepsOf}
-use Rattle.closedwalks.specs.Ways.{PointOf, degree, same}
+use Rattle.closedwalks.specs.Ways.{PointOf, same}
 use Rattle.closedwalks.specs.Greedy.{greedy, Ready}
 use Rattle.closedwalks.proofs.Splits.{none-or-some}
 use Rattle.closedwalks.proofs.Steps.{stepped}

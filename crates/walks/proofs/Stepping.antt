@@ -5,16 +5,16 @@ use mathlib.Core.Path.{_≡_, refl, sym, ap, ap₂, _∙_, subst}
 use mathlib.Core.Logic.{_⊎_, inl, inr, _↔_}
 use mathlib.Core.List.{List, [], _∷_}
 use mathlib.Core.Bool.{Bool, true, false, _&&_}
-use mathlib.Core.Option.{Option, none, some}
+use mathlib.Core.Option.{none, some}
 use lib.Dec.{ltb}
 use lib.ListN.{length, getD, set, length-set}
-use lib.Seq.{getD-set-same, getD-set-other}
-use borrow.Author.Tests.{ltb-true, lt-ltb, le-ltb}
+use lib.Seq.{getD-set-other}
+use borrow.Author.Tests.{lt-ltb, le-ltb}
 use Rattle.rules.specs.declared.Layout.{Layout}
 use Rattle.rules.specs.declared.Direction.{Direction}
 use Rattle.rules.specs.declared.Direction.the-variants.{Back, Front, Left, Right}
-use Rattle.rules.specs.Store.{Point, Edge, InStore}
-use Rattle.rules.specs.Walks.{Walk, canStep, stepTo, stepEdge}
+use Rattle.rules.specs.Store.{Point, Edge}
+use Rattle.rules.specs.Walks.{canStep, stepTo, stepEdge}
 use Rattle.rules.specs.FirstWalk.{without, stepsOf}
 use Rattle.closedwalks.specs.Ways.{PointOf, Joined}
 use Rattle.closedwalks.specs.Greedy.{firstLetter, greedy, Ready, TellsJoined}

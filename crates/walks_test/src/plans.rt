@@ -6,7 +6,7 @@ use rules::Passage;
 use values::PlanValue;
 use values::Stage;
 ghost use mathlib.Core.Path.{_≡_};
-ghost use Prim.Native.Nat.{_+_, _≤_, _<_};
+ghost use Prim.Native.Nat.{_+_, _<_};
 ghost use lib.ListN.{getD};
 ghost use Rattle.walks_test.specs.Plans.{table, actionBy, passageBy, stageFrom, layoutAt, planAt};
 

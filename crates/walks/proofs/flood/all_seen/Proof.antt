@@ -1,9 +1,8 @@
 -- `walks::flood::all_seen` meets its contract. The loop's invariant: below `at` all that is left starts at seen points.
-use Prim.Native.Nat.{ℕ, _+_, _-_, _≤_, _<_}
+use Prim.Native.Nat.{_-_, _≤_, _<_}
 use native.Mathlib.Omega.{arith}
-use mathlib.Core.Path.{_≡_}
 use mathlib.Core.Logic.{inl, inr, ⊎-elim}
-use lib.ListN.{length, getD}
+use lib.ListN.{getD}
 use denote.Ref.{now}
 use Rattle.walks.specs.Flood.{Starts, AllSeen}
 use Rattle.walks.proofs.Flooding.{all-seen-none, all-seen-more, all-seen-true, all-seen-false}

@@ -1,9 +1,8 @@
 -- `walks::flood::flood` meets its contract. The loop's invariant: what `news` was counted for is calm where it is 0.
-use Prim.Native.Nat.{ℕ, _+_, _≤_, _<_, min}
+use Prim.Native.Nat.{_+_, min}
 use native.Mathlib.Omega.{arith}
-use mathlib.Core.Path.{_≡_, refl}
+use mathlib.Core.Path.{refl}
 use mathlib.Core.Logic.{inl}
-use lib.ListN.{length}
 use denote.Ref.{now}
 use Rattle.walks.specs.Flood.{unseen, Swept}
 use Rattle.walks.proofs.Flooding.{unseen-length, swept-join, Turned, turn}

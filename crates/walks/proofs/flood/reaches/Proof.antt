@@ -1,8 +1,6 @@
 -- `walks::flood::reaches` meets its contract: the flood starts from the one point, and all that is left starts where it came.
-use Prim.Native.Nat.{ℕ}
 use native.Mathlib.Omega.{arith}
-use mathlib.Core.Path.{_≡_, sym, _∙_, subst}
-use lib.ListN.{length}
+use mathlib.Core.Path.{sym, subst}
 use denote.Ref.{now}
 use borrow.Author.Needs.{needs}
 use Rattle.walks.specs.Flood.{Reach, here}

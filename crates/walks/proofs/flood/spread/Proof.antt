@@ -1,9 +1,5 @@
 -- `walks::flood::spread` meets its contract: the two edges of the point, one after the other.
-use Prim.Native.Nat.{ℕ, _+_, _≤_, _<_}
 use native.Mathlib.Omega.{arith}
-use mathlib.Core.Path.{_≡_}
-use mathlib.Core.List.{List}
-use lib.ListN.{length, getD}
 use denote.Ref.{now}
 use borrow.Author.Needs.{needs}
 use Rattle.walks.proofs.Flooding.{unseen-length, spread-both}

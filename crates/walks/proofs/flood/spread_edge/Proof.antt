@@ -1,7 +1,7 @@
 -- `walks::flood::spread_edge` meets its contract: by which of the two points is seen.
 use Prim.Native.Nat.{_<_}
 use native.Mathlib.Omega.{arith}
-use lib.ListN.{length, getD}
+use lib.ListN.{length}
 use denote.Ref.{now}
 use borrow.Author.Needs.{needs}
 use Rattle.walks.proofs.Flooding.{spread-none, spread-first, spread-second}

@@ -1,9 +1,7 @@
 -- `walks::flood::sweep_up` meets its contract. The loop's invariant: the points below `at` are swept.
-use Prim.Native.Nat.{ℕ, suc, _+_, _-_, _≤_, _<_}
+use Prim.Native.Nat.{_+_, _-_, _≤_}
 use native.Mathlib.Omega.{arith}
-use mathlib.Core.Path.{_≡_}
 use mathlib.Core.Logic.{inl, inr}
-use lib.ListN.{length}
 use denote.Ref.{now}
 use Rattle.closedwalks.proofs.Splits.{below-or-from}
 use Rattle.walks.specs.Flood.{Swept}

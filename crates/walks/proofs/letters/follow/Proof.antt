@@ -1,16 +1,15 @@
 -- `walks::letters::follow` meets its contract. The loop's invariant: the letters written and those still to come are the whole walk.
 -- The measure is what is left.
-use Prim.Native.Nat.{ℕ, _+_, _*_, _-_, _≤_, _<_}
+use Prim.Native.Nat.{_*_, _-_, _≤_, _<_}
 use native.Mathlib.Omega.{arith}
-use mathlib.Core.Path.{_≡_, sym, ap, _∙_, subst}
-use mathlib.Core.List.{List}
+use mathlib.Core.Path.{_≡_, sym, ap, _∙_}
 use mathlib.Core.Option.{some}
-use lib.ListN.{length, getD, set, length-set}
+use lib.ListN.{length, getD}
 use denote.Ref.{now}
 use Rattle.rules.specs.FirstWalk.{stepsOf}
 use Rattle.closedwalks.proofs.Counts.{layout-bounds}
 use Rattle.walks.specs.Treads.{leftOf}
-use Rattle.walks.specs.Letters.{slotBy, nextLetter, lettersLeft}
+use Rattle.walks.specs.Letters.{nextLetter, lettersLeft}
 use Rattle.walks.proofs.Stepping.{at-range, letter-left, slot-below}
 use Rattle.walks.proofs.Spelling.{spelt-length, Going, going-from, going-room, going-next, going-less, going-over}
 use Rattle.walks.proofs.letters.follow.Statement.{statement}

@@ -4,7 +4,7 @@ use mathlib.Core.Path.{_≡_, sym, ap, _∙_, subst}
 use mathlib.Core.List.{List}
 use denote.Ref.{now}
 use borrow.Author.Needs.{needs}
-use Rattle.rules.specs.declared.Direction.the-variants.{Back, Front, Left}
+use Rattle.rules.specs.declared.Direction.the-variants.{Front, Left}
 use Rattle.walks.specs.Letters.{Walkable, canBe}
 use Rattle.walks.proofs.Stepping.{first-back, first-front, first-left, first-right}
 use Rattle.walks.proofs.letters.next_letter.Statement.{statement}

@@ -1,7 +1,7 @@
 -- `walks::letters::reaches_without` meets its contract: the last tread is taken off, and put back after the test.
 use native.Mathlib.Omega.{arith}
-use mathlib.Core.Path.{_≡_, sym, ap, _∙_}
-use lib.ListN.{length, getD, set, length-set}
+use mathlib.Core.Path.{sym, ap, _∙_}
+use lib.ListN.{set, length-set}
 use lib.Seq.{set-set, set-getD}
 use denote.Ref.{now}
 use borrow.Author.Needs.{needs}

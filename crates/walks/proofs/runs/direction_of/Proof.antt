@@ -1,5 +1,4 @@
 -- `walks::runs::direction_of` meets its contract, letter by letter.
-use mathlib.Core.Path.{refl}
 use borrow.Author.Tests.{eq-eqb, ne-eqb}
 use Rattle.walks.specs.Runs.{directionOf}
 use Rattle.walks.proofs.runs.direction_of.Statement.{statement}

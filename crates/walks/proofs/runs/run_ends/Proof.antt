@@ -1,5 +1,4 @@
 -- `walks::runs::run_ends` meets its contract.
-use mathlib.Core.Path.{refl}
 use borrow.Author.Needs.{needs}
 use borrow.Author.Tests.{lt-ltb, le-ltb}
 use Rattle.walks.specs.Runs.{runEnds}

@@ -1,8 +1,8 @@
 -- `walks::runs::runs_of` meets its contract. The loop's invariant: the runs of the letters passed are made, but for the one that goes on.
-use Prim.Native.Nat.{ℕ, _+_, _-_, _≤_, _<_}
+use Prim.Native.Nat.{_+_, _-_, _<_}
 use native.Mathlib.Omega.{arith}
-use mathlib.Core.Path.{_≡_, refl, sym, ap, _∙_, subst}
-use lib.ListN.{length, set, replicate, length-replicate}
+use mathlib.Core.Path.{sym, _∙_, subst}
+use lib.ListN.{set, replicate, length-replicate}
 use denote.Ref.{now}
 use Rattle.rules.specs.declared.Direction.{Direction}
 use Rattle.rules.specs.declared.Direction.the-variants.{Back}

@@ -1,12 +1,10 @@
 -- `walks::treads::fill_aisle` meets its contract. The loop's invariant: the first `k` edges are filled.
-use Prim.Native.Nat.{ℕ, suc, _+_, _*_, _-_, _≤_, _<_}
+use Prim.Native.Nat.{ℕ, suc, _-_, _≤_}
 use native.Mathlib.Omega.{arith}
 use native.Mathlib.Numerals.{add-one}
-use mathlib.Core.Path.{_≡_, refl, sym, ap, ap₂, _∙_}
-use mathlib.Core.List.{List}
-use lib.ListN.{length, set, length-set}
+use mathlib.Core.Path.{_≡_, refl, ap, _∙_}
+use lib.ListN.{length}
 use denote.Ref.{now}
-use Rattle.rules.specs.Plans.{aisleTreads}
 use Rattle.walks.specs.Filling.{withAisle}
 use Rattle.walks.proofs.Filled.{aisle-length}
 use Rattle.walks.proofs.treads.fill_aisle.Statement.{statement}

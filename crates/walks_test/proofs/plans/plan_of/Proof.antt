@@ -1,8 +1,8 @@
 -- `walks_test::plans::plan_of` meets its contract. The loop's invariant: the first `j` stages are read.
-use Prim.Native.Nat.{ℕ, _+_, _-_, _≤_, _<_}
+use Prim.Native.Nat.{_-_, _≤_}
 use native.Mathlib.Omega.{arith}
 use native.Mathlib.Numerals.{add-one}
-use mathlib.Core.Path.{_≡_, refl, ap, _∙_}
+use mathlib.Core.Path.{_≡_, refl}
 use Rattle.walks_test.specs.Plans.{stagesTo, planAt}
 use Rattle.walks_test.proofs.plans.plan_of.Statement.{statement}
 use Rattle.walks_test.proofs.plans.plan_of.Tie as tie

@@ -1,0 +1,86 @@
+use native.Mathlib.Omega.{arith}
+use Prim.Native.Nat.{_+_, _*_, _-_, _≤_}
+use mathlib.Core.Path.{_≡_, refl, _∙_, subst}
+use lib.ListN.{length}
+use Rattle.values.specs.Values.{jobOf}
+use Rattle.router.specs.Shelves.{FrontsTo}
+use Rattle.router.proofs.DemandMaps.{aisle-small, line-small, front-first, front-next}
+use Rattle.router.proofs.demand.fill_fronts.Statement.{statement}
+use Rattle.router.proofs.demand.fill_fronts.Tie as tie
+
+abbrev Inv-loop : tie.InvT-loop
+Inv-loop map₀ job d j shelf h₀ map h = (h ≤ job .layout .cells) × ((length map ≡ length map₀) × FrontsTo (jobOf job) j (h + 1) map)
+
+abbrev μ-loop : tie.MeasureT-loop
+μ-loop map₀ job d j shelf h₀ map h = job .layout .cells - h
+
+plain-row-requires : tie.Need-plain-row-requires Inv-loop μ-loop
+plain-row-requires c κs = ((c .before .before) .pre .0, omega arith, (c .before .before) .pre .1 .digits-of .small .1)
+
+loop-holds : tie.Need-loop-holds Inv-loop μ-loop
+loop-holds c = (omega arith, (refl, front-first ((c .before .before .before .before .before) .args .job) ((c .before .before .before .before .before) .args .t3) ((c .before .before .before .before .before) .args .d) ((c .before .before .before .before .before) .args .j) ((c .before .before .before .before .before) .pre .1) _ ((c .before .before .plain-row) .last .0) ((c .before .before .plain-row) .ensures)))
+
+sub-at : tie.Need-sub-at Inv-loop μ-loop
+sub-at c = omega (arith, aisle-small ((c .before .before .before .before .before .before .before .before) .args .job) ((c .before .before .before .before .before .before .before .before) .args .t3) ((c .before .before .before .before .before .before .before .before) .args .d) ((c .before .before .before .before .before .before .before .before) .args .j) ((c .before .before .before .before .before .before .before .before) .pre .1))
+
+mul-at : tie.Need-mul-at Inv-loop μ-loop
+mul-at c = omega (arith, aisle-small ((c .before .before .before .before .before .before .before .before) .args .job) ((c .before .before .before .before .before .before .before .before) .args .t3) ((c .before .before .before .before .before .before .before .before) .args .d) ((c .before .before .before .before .before .before .before .before) .args .j) ((c .before .before .before .before .before .before .before .before) .pre .1))
+
+add-at : tie.Need-add-at Inv-loop μ-loop
+add-at c = omega (arith, aisle-small ((c .before .before .before .before .before .before .before .before) .args .job) ((c .before .before .before .before .before .before .before .before) .args .t3) ((c .before .before .before .before .before .before .before .before) .args .d) ((c .before .before .before .before .before .before .before .before) .args .j) ((c .before .before .before .before .before .before .before .before) .pre .1))
+
+add-map-row : tie.Need-add-map-row Inv-loop μ-loop
+add-map-row c = omega (arith, aisle-small ((c .before .before .before .before .before .before .before .before .before) .args .job) ((c .before .before .before .before .before .before .before .before .before) .args .t3) ((c .before .before .before .before .before .before .before .before .before) .args .d) ((c .before .before .before .before .before .before .before .before .before) .args .j) ((c .before .before .before .before .before .before .before .before .before) .pre .1))
+
+mul-map-row : tie.Need-mul-map-row Inv-loop μ-loop
+mul-map-row c = omega (arith, aisle-small ((c .before .before .before .before .before .before .before .before .before) .args .job) ((c .before .before .before .before .before .before .before .before .before) .args .t3) ((c .before .before .before .before .before .before .before .before .before) .args .d) ((c .before .before .before .before .before .before .before .before .before) .args .j) ((c .before .before .before .before .before .before .before .before .before) .pre .1))
+
+element-copy-out-map-row : tie.Need-element-copy-out-map-row Inv-loop μ-loop
+element-copy-out-map-row c = omega (arith, aisle-small ((c .before .before .before .before .before .before .before .before .before) .args .job) ((c .before .before .before .before .before .before .before .before .before) .args .t3) ((c .before .before .before .before .before .before .before .before .before) .args .d) ((c .before .before .before .before .before .before .before .before .before) .args .j) ((c .before .before .before .before .before .before .before .before .before) .pre .1))
+
+mul-map-row-2 : tie.Need-mul-map-row-2 Inv-loop μ-loop
+mul-map-row-2 c = omega (arith, aisle-small ((c .before .before .before .before .before .before .before .before .before .before) .args .job) ((c .before .before .before .before .before .before .before .before .before .before) .args .t3) ((c .before .before .before .before .before .before .before .before .before .before) .args .d) ((c .before .before .before .before .before .before .before .before .before .before) .args .j) ((c .before .before .before .before .before .before .before .before .before .before) .pre .1))
+
+element-copy-out-map-row-2 : tie.Need-element-copy-out-map-row-2 Inv-loop μ-loop
+element-copy-out-map-row-2 c = omega (arith, aisle-small ((c .before .before .before .before .before .before .before .before .before .before) .args .job) ((c .before .before .before .before .before .before .before .before .before .before) .args .t3) ((c .before .before .before .before .before .before .before .before .before .before) .args .d) ((c .before .before .before .before .before .before .before .before .before .before) .args .j) ((c .before .before .before .before .before .before .before .before .before .before) .pre .1))
+
+map-row-requires : tie.Need-map-row-requires Inv-loop μ-loop
+map-row-requires c κs = (omega (arith, (c .before .before .before .before .before .before .before .before .before .before .before) .pre .0, (c .before .before .before .before .before .before .before .before .plain-row) .ensures .kept, (c .before .before .before .before .before .loop) .inv .1 .0), omega (arith, aisle-small ((c .before .before .before .before .before .before .before .before .before .before .before) .args .job) ((c .before .before .before .before .before .before .before .before .before .before .before) .args .t3) ((c .before .before .before .before .before .before .before .before .before .before .before) .args .d) ((c .before .before .before .before .before .before .before .before .before .before .before) .args .j) ((c .before .before .before .before .before .before .before .before .before .before .before) .pre .1)), omega (arith, aisle-small ((c .before .before .before .before .before .before .before .before .before .before .before) .args .job) ((c .before .before .before .before .before .before .before .before .before .before .before) .args .t3) ((c .before .before .before .before .before .before .before .before .before .before .before) .args .d) ((c .before .before .before .before .before .before .before .before .before .before .before) .args .j) ((c .before .before .before .before .before .before .before .before .before .before .before) .pre .1)), (λ e. omega arith), (c .before .before .before .before .before .before .before .before .before .before .before) .pre .1 .digits-of .usable, (c .before .before .before .before .before .before .before .before .before .before .before) .pre .1 .digits-of .small .1, line-small ((c .before .before .before .before .before .before .before .before .before .before .before) .args .job) ((c .before .before .before .before .before .before .before .before .before .before .before) .args .t3) ((c .before .before .before .before .before .before .before .before .before .before .before) .args .d) ((c .before .before .before .before .before .before .before .before .before .before .before) .args .j) ((c .before .before .before .before .before .before .before .before .before .before .before) .pre .1) ((((c .before .before .before .before .before .before .before .before .before .before .before) .args .j) - 1) * 24 + (c .before .before .before .before .before .loop) .h))
+
+add-h : tie.Need-add-h Inv-loop μ-loop
+add-h c = omega (arith, aisle-small ((c .before .before .before .before .before .before .before .before .before .before .before .before .before .before) .args .job) ((c .before .before .before .before .before .before .before .before .before .before .before .before .before .before) .args .t3) ((c .before .before .before .before .before .before .before .before .before .before .before .before .before .before) .args .d) ((c .before .before .before .before .before .before .before .before .before .before .before .before .before .before) .args .j) ((c .before .before .before .before .before .before .before .before .before .before .before .before .before .before) .pre .1))
+
+loop-less : tie.Need-loop-less Inv-loop μ-loop
+loop-less c = omega arith
+
+loop-again : tie.Need-loop-again Inv-loop μ-loop
+loop-again c = (omega arith, ((c .before .before .map-row) .ensures .kept ∙ (c .before .before .before .before .before .before .before .before .loop) .inv .1 .0, front-next ((c .before .before .before .before .before .before .before .before .before .before .before .before .before .before) .args .job) ((c .before .before .before .before .before .before .before .before .before .before .before .before .before .before) .args .t3) ((c .before .before .before .before .before .before .before .before .before .before .before .before .before .before) .args .d) ((c .before .before .before .before .before .before .before .before .before .before .before .before .before .before) .args .j) ((c .before .before .before .before .before .before .before .before .before .before .before .before .before .before) .pre .1) ((c .before .before .before .before .before .before .before .before .loop) .map) ((c .before .before .map-row) .last .0) ((c .before .before .before .before .before .before .before .before .loop) .h) (omega arith) ((c .before .before .before .before .before .before .before .before .loop) .inv .1 .1) ((c .before .before .map-row) .ensures)))
+
+same-length : tie.Need-same-length Inv-loop μ-loop
+same-length c = (c .before .before .loop) .inv .1 .0 ∙ (c .before .before .before .before .before .plain-row) .ensures .kept
+
+returns : tie.Need-returns Inv-loop μ-loop
+returns c = let e : (c .before .before .loop) .h ≡ ((c .before .before .before .before .before .before .before .before) .args .job) .layout .cells = omega (arith, (c .before .before .loop) .inv .0) in (subst (λ n. FrontsTo (jobOf ((c .before .before .before .before .before .before .before .before) .args .job)) ((c .before .before .before .before .before .before .before .before) .args .j) (n + 1) ((c .before .before .loop) .map)) e ((c .before .before .loop) .inv .1 .1), (c .before .before .loop) .inv .1 .0 ∙ (c .before .before .before .before .before .plain-row) .ensures .kept)
+
+pub fill-fronts-spec : {M : Type 1} → statement M
+fill-fronts-spec =
+    tie.close
+    (tie.spec
+    Inv-loop
+    μ-loop
+    plain-row-requires
+    loop-holds
+    sub-at
+    mul-at
+    add-at
+    add-map-row
+    mul-map-row
+    element-copy-out-map-row
+    mul-map-row-2
+    element-copy-out-map-row-2
+    map-row-requires
+    add-h
+    loop-less
+    loop-again
+    same-length
+    returns)

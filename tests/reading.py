@@ -1,0 +1,79 @@
+"""Document 01's job file and its refusals 1 to 8, read on its own."""
+import re
+from math import prod
+
+POLICIES = [b"EXACT", b"RETURN", b"TRAVERSAL", b"MIDPOINT", b"COMPOSITE"]
+NUMBER = re.compile(rb"0|[1-9][0-9]{0,4}")
+
+
+class NotAJobFile(Exception):
+    pass
+
+
+def number(field):
+    if not NUMBER.fullmatch(field) or int(field) > 65535:
+        raise NotAJobFile
+    return int(field)
+
+
+def read(job):
+    """The layout's seven numbers, the stock records and the list lines."""
+    lines = job.split(b"\n")
+    if len(job) > 16384 or lines.pop() != b"":
+        raise NotAJobFile
+
+    def line(width):
+        fields = lines.pop(0).split(b" ") if lines else []
+        if len(fields) != width:
+            raise NotAJobFile
+        return fields
+
+    def section(letter, width):
+        name, count = line(2)
+        if name != letter:
+            raise NotAJobFile
+        return [[number(field) for field in line(width)] for _ in range(number(count))]
+
+    if line(2) != [b"L", b"1"]:
+        raise NotAJobFile
+    *layout, policy = line(8)
+    if policy not in POLICIES:
+        raise NotAJobFile
+    layout = [number(field) for field in layout]
+    stock = section(b"S", 4)
+    orders = section(b"D", 2)
+    if lines:
+        raise NotAJobFile
+    return layout, stock, orders
+
+
+def within(numbers, *bounds):
+    return all(1 <= value <= most for value, most in zip(numbers, bounds))
+
+
+def twice(items):
+    return len(set(items)) < len(items)
+
+
+def refusal(job):
+    """The number of the refusal, or 0 for a job that is served."""
+    try:
+        layout, stock, orders = read(job)
+    except NotAJobFile:
+        return 1
+    aisles, cells = layout[:2]
+    if not within(layout, 16, 24, 60, 30, 60, 400, aisles):
+        return 2
+    if len(stock) > 384 or not all(within(record, aisles, cells, 65535, 255) for record in stock):
+        return 3
+    if twice([(aisle, cell) for aisle, cell, _, _ in stock]):
+        return 4
+    if not 1 <= len(orders) <= 8 or not all(within(order, 65535, 255) for order in orders):
+        return 5
+    if twice([article for article, _ in orders]):
+        return 6
+    if prod(quantity + 1 for _, quantity in orders) > 256:
+        return 7
+    if any(sum(held for _, _, other, held in stock if other == article) < quantity for article, quantity in orders):
+        return 8
+    return 0
