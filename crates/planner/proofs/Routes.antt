@@ -24,7 +24,7 @@ use Rattle.sheets.proofs.SheetLaws.{sheet-of-values}
 use Rattle.walks.specs.Lawfully.{LawfulPlan}
 
 -- the best plan of an admitted job is a lawful plan of the store
-best-lawful : (job : Job) → Admitted job → WellFormed (job .layout) (bestPlan job) × Lawful (job .layout) (bestPlan job)
+pub best-lawful : (job : Job) → Admitted job → WellFormed (job .layout) (bestPlan job) × Lawful (job .layout) (bestPlan job)
 best-lawful job a =
     let t = serving-exists job a in
     let b = best-allowed job (a .layout) (t .0) (serving-plans job (t .0) .1 (t .1, t .2, t .3)) in

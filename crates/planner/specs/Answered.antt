@@ -9,3 +9,8 @@ use Rattle.rules.specs.Answers.{Answer}
 pub record Replied (a : Answer) (r : Reply) (bytes : List ℕ) : Type 0 where
   pub reply : r ≡ a .reply
   pub sheet : bytes ≡ a .sheet
+
+-- so is every number of the lent work area
+pub record Answered (a : Answer) (r : Reply) (bytes numbers : List ℕ) : Type 0 where
+  pub replied : Replied a r bytes
+  pub work : numbers ≡ a .work

@@ -1,7 +1,6 @@
 -- `planner::finish` meets its contract: the size decides, and what is written is the job's sheet.
 use native.Mathlib.Omega.{arith}
 use mathlib.Core.Path.{_≡_, ap, subst}
-use mathlib.Core.List.{[]}
 use lib.ListN.{length}
 use denote.Ref.{now}
 use Rattle.rules.specs.Sheet.{sheetText}
@@ -40,9 +39,9 @@ sheet-size-requires c κs =
     routed-counts (c₀ .args .job) (c₀ .args .routed) (c₀ .pre .0) (c₀ .pre .1) (c .before .picks .result) (c .walk-runs .result) (c .before .picks .ensures .1) (c .walk-runs .ensures .1)
 
 returns : tie.Need-returns
-returns c =
+returns c work =
     let x = c .before .before .before .before .before .before .before .args in
-    replied-short (sheetText (jobOf (x .job))) (now (x .sheet)) []
+    replied-short (sheetText (jobOf (x .job))) (now (x .sheet)) work
     (omega (arith, c .if1 .taken, c .before .sheet-size .ensures .count, ap length (sheet-known (c .before))))
 
 write-sheet-requires : tie.Need-write-sheet-requires
@@ -53,10 +52,10 @@ same-length : tie.Need-same-length
 same-length c = search needs
 
 returns-2 : tie.Need-returns-2
-returns-2 c =
+returns-2 c work =
     let s = c .before .before .before .before .before in
     let x = s .before .before .before .before .before .before .args in
-    replied-written (sheetText (jobOf (x .job))) (now (x .sheet)) [] (c .before .before .write-sheet .last .0) (c .before .before .write-sheet .result)
+    replied-written (sheetText (jobOf (x .job))) (now (x .sheet)) work (c .before .before .write-sheet .last .0) (c .before .before .write-sheet .result)
     (omega (arith, c .before .before .before .before .if1 .left, s .sheet-size .ensures .count, ap length (sheet-known s)))
     (subst (λ t. Written t (now (x .sheet)) (c .before .before .write-sheet .last .0) (c .before .before .write-sheet .result)) (sheet-known s) (c .before .before .write-sheet .ensures))
 
