@@ -1,0 +1,4 @@
+-- Laws of the library call.
+pub mod Replies
+pub mod Routes
+pub mod Space

@@ -1,0 +1,3 @@
+-- Laws of what the program prints.
+pub mod Longer
+pub mod Printing
