@@ -10,7 +10,7 @@ use values::RunList;
 ghost use Rattle.sheets.specs.Parts.{CountsWithin};
 
 // Prints the sheet with these parts, if it has at most 512 bytes.
-pub fn show(policy: Policy, total: usize, plan: PlanValue, picks: PickList, runs: RunList)
+fn show(policy: Policy, total: usize, plan: PlanValue, picks: PickList, runs: RunList)
     requires { ⌜ CountsWithin plan picks runs ⌝ }
 {
     let size = sheets::sheet::sheet_size(policy, total, plan, picks, runs);
@@ -21,7 +21,25 @@ pub fn show(policy: Policy, total: usize, plan: PlanValue, picks: PickList, runs
     }
 }
 
+// Prints the sheet of the worked example.
+fn print_worked() {
+    let job = worked_job::job();
+    let plan = worked_job::plan();
+    let picks = sheets::picks::picks(job, plan);
+    let policy = job.policy;
+    show(policy, 14, plan, picks, worked_job::runs());
+}
+
+// Prints the sheet of the job whose plan enters from the back.
+fn print_top() {
+    let job = top_job::job();
+    let plan = top_job::plan();
+    let picks = sheets::picks::picks(job, plan);
+    let policy = job.policy;
+    show(policy, 20, plan, picks, top_job::runs());
+}
+
 fn main() {
-    worked_job::print();
-    top_job::print();
+    print_worked();
+    print_top();
 }

@@ -1,5 +1,4 @@
 // A job whose plan enters from the back, with its plan and its walk.
-use crate::show;
 use rules::Action;
 use rules::Direction;
 use rules::Layout;
@@ -17,7 +16,7 @@ ghost use Prim.Native.Nat.{_≤_};
 ghost use Rattle.values.specs.Values.{Sound};
 
 // The job: five records and three lines, in a store of three aisles with two cells.
-fn job() -> JobValue
+pub fn job() -> JobValue
     ensures { λ r. ⌜ Sound r × (r .layout .aisles ≡ 3) ⌝ }
 {
     let mut stock = [StockRecord {
@@ -81,7 +80,7 @@ fn job() -> JobValue
 }
 
 // Its plan: ONCE 11 TOP 2 11 ONCE.
-fn plan() -> PlanValue
+pub fn plan() -> PlanValue
     ensures { λ r. ⌜ r .aisles ≡ 3 ⌝ }
 {
     let mut stages = [Stage {
@@ -103,7 +102,7 @@ fn plan() -> PlanValue
 }
 
 // Its walk: B, R, F, B, R, F, L.
-fn runs() -> RunList
+pub fn runs() -> RunList
     ensures { λ r. ⌜ r .count ≤ 860 ⌝ }
 {
     let mut runs = [Run {
@@ -138,13 +137,4 @@ fn runs() -> RunList
         count: 7,
         runs: runs,
     }
-}
-
-// Prints its sheet.
-pub fn print() {
-    let job = job();
-    let plan = plan();
-    let picks = sheets::picks::picks(job, plan);
-    let policy = job.policy;
-    show(policy, 20, plan, picks, runs());
 }

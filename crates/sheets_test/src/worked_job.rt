@@ -1,5 +1,4 @@
 // The job that document 01 walks through, with its plan and its walk.
-use crate::show;
 use rules::Action;
 use rules::Direction;
 use rules::Layout;
@@ -17,7 +16,7 @@ ghost use Prim.Native.Nat.{_≤_};
 ghost use Rattle.values.specs.Values.{Sound};
 
 // The job: one of article 9 from a store of two aisles with three cells.
-fn job() -> JobValue
+pub fn job() -> JobValue
     ensures { λ r. ⌜ Sound r × (r .layout .aisles ≡ 2) ⌝ }
 {
     let mut stock = [StockRecord {
@@ -61,7 +60,7 @@ fn job() -> JobValue
 }
 
 // Its plan: VOID 02 BOTTOM 1.
-fn plan() -> PlanValue
+pub fn plan() -> PlanValue
     ensures { λ r. ⌜ r .aisles ≡ 2 ⌝ }
 {
     let mut stages = [Stage {
@@ -79,7 +78,7 @@ fn plan() -> PlanValue
 }
 
 // Its walk: R, B, F, L, a step each.
-fn runs() -> RunList
+pub fn runs() -> RunList
     ensures { λ r. ⌜ r .count ≤ 860 ⌝ }
 {
     let mut runs = [Run {
@@ -102,13 +101,4 @@ fn runs() -> RunList
         count: 4,
         runs: runs,
     }
-}
-
-// Prints its sheet.
-pub fn print() {
-    let job = job();
-    let plan = plan();
-    let picks = sheets::picks::picks(job, plan);
-    let policy = job.policy;
-    show(policy, 14, plan, picks, runs());
 }

@@ -1,8 +1,8 @@
--- `sheets_test::worked_job::print` meets its contract: the plan has the aisles of the job.
+-- `sheets_test::print_top` meets its contract: the plan has the aisles of the job.
 use Rattle.sheets.specs.Picking.{SameAisles}
 use borrow.Author.Needs.{needs}
-use Rattle.sheets_test.proofs.worked_job.print.Statement.{statement}
-use Rattle.sheets_test.proofs.worked_job.print.Tie as tie
+use Rattle.sheets_test.proofs.print_top.Statement.{statement}
+use Rattle.sheets_test.proofs.print_top.Tie as tie
 
 job-requires : tie.Need-job-requires
 job-requires c κs = search needs
@@ -23,7 +23,7 @@ show-requires c κs = search needs
 returns : tie.Need-returns
 returns c = search needs
 
-pub print-spec : {M : Type 1} → statement M
-print-spec =
+pub print-top-spec : {M : Type 1} → statement M
+print-top-spec =
     tie.close
     (tie.spec job-requires plan-requires picks-requires runs-requires show-requires returns)

@@ -1,9 +1,9 @@
--- `jobfile_test::text::append_times` meets its contract: the loop ends.
+-- `jobfile_test::append_times` meets its contract: the loop ends.
 use Prim.Native.Nat.{_-_}
 use native.Mathlib.Omega.{arith}
 use borrow.Author.Needs.{needs}
-use Rattle.jobfile_test.proofs.text.append_times.Statement.{statement}
-use Rattle.jobfile_test.proofs.text.append_times.Tie as tie
+use Rattle.jobfile_test.proofs.append_times.Statement.{statement}
+use Rattle.jobfile_test.proofs.append_times.Tie as tie
 
 abbrev Inv-loop : tie.InvT-loop
 Inv-loop piece times whole₀ i₀ whole i = Unit {0}

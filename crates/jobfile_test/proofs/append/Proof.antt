@@ -1,9 +1,9 @@
--- `jobfile_test::text::append` meets its contract: each index is below its bound.
+-- `jobfile_test::append` meets its contract: each index is below its bound.
 use Prim.Native.Nat.{_-_}
 use native.Mathlib.Omega.{arith}
 use lib.ListN.{length}
-use Rattle.jobfile_test.proofs.text.append.Statement.{statement}
-use Rattle.jobfile_test.proofs.text.append.Tie as tie
+use Rattle.jobfile_test.proofs.append.Statement.{statement}
+use Rattle.jobfile_test.proofs.append.Tie as tie
 
 abbrev Inv-loop : tie.InvT-loop
 Inv-loop piece bytes₀ at₀ i₀ bytes at i = Unit {0}

@@ -1,8 +1,8 @@
--- `sheets_test::top_job::print` meets its contract: the plan has the aisles of the job.
+-- `sheets_test::print_worked` meets its contract: the plan has the aisles of the job.
 use Rattle.sheets.specs.Picking.{SameAisles}
 use borrow.Author.Needs.{needs}
-use Rattle.sheets_test.proofs.top_job.print.Statement.{statement}
-use Rattle.sheets_test.proofs.top_job.print.Tie as tie
+use Rattle.sheets_test.proofs.print_worked.Statement.{statement}
+use Rattle.sheets_test.proofs.print_worked.Tie as tie
 
 job-requires : tie.Need-job-requires
 job-requires c κs = search needs
@@ -23,7 +23,7 @@ show-requires c κs = search needs
 returns : tie.Need-returns
 returns c = search needs
 
-pub print-spec : {M : Type 1} → statement M
-print-spec =
+pub print-worked-spec : {M : Type 1} → statement M
+print-worked-spec =
     tie.close
     (tie.spec job-requires plan-requires picks-requires runs-requires show-requires returns)

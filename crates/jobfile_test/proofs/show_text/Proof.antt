@@ -1,11 +1,11 @@
--- `jobfile_test::text::show_text` meets its contract: the part lies within the array.
+-- `jobfile_test::show_text` meets its contract: the part lies within the array.
 use mathlib.Core.Path.{_≡_, sym}
 use native.Mathlib.Omega.{arith}
 use lib.ListN.{length, length-map}
 use lib.Seq.{length-take-le}
 use borrow.Author.Needs.{needs}
-use Rattle.jobfile_test.proofs.text.show_text.Statement.{statement}
-use Rattle.jobfile_test.proofs.text.show_text.Tie as tie
+use Rattle.jobfile_test.proofs.show_text.Statement.{statement}
+use Rattle.jobfile_test.proofs.show_text.Tie as tie
 
 -- the array's room
 size : (c : tie.Start) → length (c .args .text .bytes) ≡ 16400
