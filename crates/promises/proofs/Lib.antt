@@ -5,3 +5,4 @@ pub mod Texts
 pub mod Best
 pub mod Shown
 pub mod Demands
+pub mod Theory
