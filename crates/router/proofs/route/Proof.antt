@@ -1,7 +1,8 @@
+-- `router::route` meets its contract. Assumes nothing.
 use borrow.Author.Needs.{needs}
 use native.Mathlib.Omega.{arith}
-use Prim.Native.Nat.{ℕ, suc, _+_, _*_, _-_, _≤_, _<_, min}
-use mathlib.Core.Path.{_≡_, refl, sym, _∙_, ap}
+use Prim.Native.Nat.{suc, _+_, _*_, _-_, _≤_, _<_}
+use mathlib.Core.Path.{_≡_, _∙_, ap}
 use lib.ListN.{length, getD}
 use Rattle.values.specs.Values.{jobOf}
 use Rattle.rules.specs.Refusals.{weight}
@@ -14,60 +15,40 @@ use Rattle.router.proofs.Geometry.{within}
 use Rattle.router.proofs.TraceEnds.{start-length}
 use Rattle.router.proofs.route.Statement.{statement}
 use Rattle.router.proofs.route.Tie as tie
-use Rattle.router.proofs.route.Reads as reads
-use Rattle.router.proofs.route.Lts as lts
-use Rattle.router.proofs.demand.digits_of.Reads as digits-of-reads
-use Rattle.router.proofs.demand.shelve.Reads as shelve-reads
-use Rattle.router.proofs.filling.fill_table.Reads as fill-table-reads
-use Rattle.router.proofs.rows.wide.Reads as wide-reads
-use Rattle.router.proofs.table.clear.Reads as clear-reads
-use Rattle.router.proofs.trace.read_plan.Reads as read-plan-reads
 
--- src/lib.rt:25:9
 shelve-requires : tie.Need-shelve-requires
 shelve-requires c κs = search needs
 
--- src/lib.rt:26:9
 digits-of-requires : tie.Need-digits-of-requires
 digits-of-requires c κs = search needs
 
--- src/lib.rt:28:5
 fill-table-requires : tie.Need-fill-table-requires
 fill-table-requires c κs = search needs
 
--- src/lib.rt:29:9
 read-plan-requires : tie.Need-read-plan-requires
 read-plan-requires c κs = search needs
 
--- src/lib.rt:30:35
 sub-wide : tie.Need-sub-wide
 sub-wide c = search needs
 
--- src/lib.rt:30:34
 mul-wide : tie.Need-mul-wide
 mul-wide c = search needs
 
--- src/lib.rt:30:29
 mul-wide-2 : tie.Need-mul-wide-2
 mul-wide-2 c = search needs
 
--- src/lib.rt:30:29
 slice-read-wide : tie.Need-slice-read-wide
 slice-read-wide c = search needs
 
--- src/lib.rt:30:9
 wide-requires : tie.Need-wide-requires
 wide-requires c κs = search needs
 
--- src/lib.rt:31:5
 clear-requires : tie.Need-clear-requires
 clear-requires c κs = search needs
 
--- src/lib.rt:21:1
 same-length : tie.Need-same-length
 same-length c = search needs
 
--- src/lib.rt:21:1
 returns : tie.Need-returns
 unfolding jobOf
 returns c = (record { aisles = (c .before .before .before .before .before .before .read-plan) .ensures .0; plan = (c .before .before .before .before .before .before .read-plan) .ensures .1; length = (let w = within ((c .before .before .before .before .before .before .before .before .before .before .before .before .before .before .before) .args .job .layout) (((c .before .before .before .before .before .before .before .before .before .before .before .before .before .before .before) .pre .0 .admitted) .layout) in let u = (c .before .before .before .before .before .before .before .before .before .before .before .before .digits-of) .ensures .counted in let p = (c .before .before .before .before .before .before .before .before .before .before .before .before .digits-of) .ensures .small in let at : (((c .before .before .before .before .before .before .before .before .before .before .before .before .digits-of) .result .weight) - 1) * 8 ≡ (1 - 1) * 2048 + (((weight ((jobOf ((c .before .before .before .before .before .before .before .before .before .before .before .before .before .before .before) .args .job)) .lines)) - 1) * 8 + 0) = omega arith in let f : suc ((c .before .before .before .before .before .before .before .before .before .before .before .before .before .before .before) .args .job .layout .aisles) - 1 ≡ ((c .before .before .before .before .before .before .before .before .before .before .before .before .before .before .before) .args .job .layout .aisles) = omega arith in (c .before .before .before .before .wide) .ensures .0 ∙ ap (λ k. getD ((c .before .before .before .before .before .before .before .before .before .before .fill-table) .last .0) k 0) at ∙ (c .before .before .before .before .before .before .before .before .before .before .fill-table) .ensures .0 1 0 ((weight ((jobOf ((c .before .before .before .before .before .before .before .before .before .before .before .before .before .before .before) .args .job)) .lines)) - 1) (omega arith) (omega arith) (omega arith) (omega arith) ∙ ap (λ k. value (routing (jobOf ((c .before .before .before .before .before .before .before .before .before .before .before .before .before .before .before) .args .job)) (allActions (jobOf ((c .before .before .before .before .before .before .before .before .before .before .before .before .before .before .before) .args .job)))) k 1 nothing (demandOf (radices (jobOf ((c .before .before .before .before .before .before .before .before .before .before .before .before .before .before .before) .args .job))) ((weight ((jobOf ((c .before .before .before .before .before .before .before .before .before .before .before .before .before .before .before) .args .job)) .lines)) - 1))) f ∙ start-length (jobOf ((c .before .before .before .before .before .before .before .before .before .before .before .before .before .before .before) .args .job)) ((c .before .before .before .before .before .before .before .before .before .before .before .before .before .before .before) .pre .0 .admitted)) }, (c .before .before .clear) .ensures ∙ ap (λ k. replicate k 0) ((c .before .before .before .before .before .before .before .before .before .before .fill-table) .ensures .1))

@@ -1,13 +1,12 @@
+-- `router::candidates::gap` meets its contract. Assumes nothing.
 use native.Mathlib.Omega.{arith}
 use native.Mathlib.Numerals.{add-one}
-use Prim.Native.Nat.{ℕ, suc, _+_, _*_, _-_, _≤_, _<_}
+use Prim.Native.Nat.{suc, _+_, _*_, _-_, _≤_, _<_}
 use mathlib.Core.Path.{_≡_, refl, sym, _∙_, ap}
 use Rattle.router.proofs.Ranks.{GapLeft, gap-start, gap-next, gap-found, gap-once, gap-twice}
-use Rattle.router.specs.Candidates.{candidateOf, gapsFrom}
+use Rattle.router.specs.Candidates.{candidateOf}
 use Rattle.router.proofs.candidates.gap.Statement.{statement}
 use Rattle.router.proofs.candidates.gap.Tie as tie
-use Rattle.router.proofs.candidates.gap.Reads as reads
-use Rattle.router.proofs.candidates.gap.Lts as lts
 
 abbrev Inv-loop : tie.InvT-loop
 Inv-loop cells g h₀ rest₀ h rest = GapLeft cells g h rest
@@ -15,51 +14,39 @@ Inv-loop cells g h₀ rest₀ h rest = GapLeft cells g h rest
 abbrev μ-loop : tie.MeasureT-loop
 μ-loop cells g h₀ rest₀ h rest = suc cells - h
 
--- src/candidates.rt:42:5
 loop-holds : tie.Need-loop-holds Inv-loop μ-loop
 loop-holds c = gap-start (c .args .cells) (c .args .g) (c .pre .1)
 
--- src/candidates.rt:47:23
 add-t7 : tie.Need-add-t7 Inv-loop μ-loop
 add-t7 c = omega arith
 
--- src/candidates.rt:47:23
 add-t8 : tie.Need-add-t8 Inv-loop μ-loop
 add-t8 c = omega arith
 
--- src/candidates.rt:44:13
 returns : tie.Need-returns Inv-loop μ-loop
 returns c = sym (ap (candidateOf ((c .before .before .before) .args .cells)) (gap-found ((c .before .before .before) .args .cells) ((c .before .before .before) .args .g) (c .before .before .loop .h) (c .before .before .loop .rest) (c .before .before .loop .inv) (omega arith) (omega arith)))
 
--- src/candidates.rt:50:9
 sub-rest : tie.Need-sub-rest Inv-loop μ-loop
 sub-rest c = omega arith
 
--- src/candidates.rt:51:9
 add-h : tie.Need-add-h Inv-loop μ-loop
 add-h c = omega arith
 
--- src/candidates.rt:42:5
 loop-less : tie.Need-loop-less Inv-loop μ-loop
 loop-less c = omega arith
 
--- src/candidates.rt:42:5
 loop-again : tie.Need-loop-again Inv-loop μ-loop
 loop-again c = gap-next ((c .before .before .before) .args .cells) ((c .before .before .before) .args .g) (c .before .before .loop .h) (c .before .before .loop .rest) (c .before .before .loop .inv) (omega arith) (omega arith)
 
--- src/candidates.rt:57:19
 add-t11 : tie.Need-add-t11 Inv-loop μ-loop
 add-t11 c = omega arith
 
--- src/candidates.rt:63:19
 add-t12 : tie.Need-add-t12 Inv-loop μ-loop
 add-t12 c = omega arith
 
--- src/candidates.rt:36:1
 returns-2 : tie.Need-returns-2 Inv-loop μ-loop
 returns-2 c = sym (ap (candidateOf ((c .before .before .before) .args .cells)) (gap-once ((c .before .before .before) .args .cells) ((c .before .before .before) .args .g) (c .before .before .loop .h) (c .before .before .loop .rest) (c .before .before .loop .inv) (omega arith) (c .if2 .taken)) ∙ rw (add-one ((c .before .before .before) .args .cells)) refl)
 
--- src/candidates.rt:36:1
 returns-3 : tie.Need-returns-3 Inv-loop μ-loop
 returns-3 c = sym (ap (candidateOf ((c .before .before .before) .args .cells)) (gap-twice ((c .before .before .before) .args .cells) ((c .before .before .before) .args .g) (c .before .before .loop .h) (c .before .before .loop .rest) (c .before .before .loop .inv) (omega arith) (c .if2 .left)) ∙ rw (add-one ((c .before .before .before) .args .cells)) refl)
 

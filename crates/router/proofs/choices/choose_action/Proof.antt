@@ -1,6 +1,7 @@
+-- `router::choices::choose_action` meets its contract. Assumes nothing.
 use native.Mathlib.Omega.{arith}
-use Prim.Native.Nat.{ℕ, suc, _+_, _*_, _-_, _≤_, _<_, min}
-use mathlib.Core.Path.{_≡_, refl, sym, _∙_, ap}
+use Prim.Native.Nat.{_+_, _*_, _-_, _≤_, _<_}
+use mathlib.Core.Path.{_≡_, sym, _∙_}
 use Rattle.router.proofs.FirstRanks.{NoneBefore, rank-found, rank-none}
 use borrow.Author.Count.{below-more}
 use Rattle.router.specs.Layers.{throughAction}
@@ -10,14 +11,9 @@ use Rattle.router.specs.Choosing.{leastAfter}
 use Rattle.router.specs.Steps.{policyOf}
 use Rattle.router.proofs.Geometry.{within}
 use mathlib.Core.Path.{subst}
-use lib.ListN.{length, getD}
-use borrow.Author.Needs.{needs}
+use lib.ListN.{getD}
 use Rattle.router.proofs.choices.choose_action.Statement.{statement}
 use Rattle.router.proofs.choices.choose_action.Tie as tie
-use Rattle.router.proofs.choices.choose_action.Reads as reads
-use Rattle.router.proofs.choices.choose_action.Lts as lts
-use Rattle.router.proofs.candidates.action_count.Reads as action-count-reads
-use Rattle.router.proofs.choices.over.Reads as over-reads
 
 abbrev Inv-loop : tie.InvT-loop
 Inv-loop next fronts backs x side tried s q value cells count k₀ k = (k ≤ count) × NoneBefore (throughAction x (leastAfter next tried (policyOf (x .policy)) side (x .layout .width)) fronts backs s q) value (actionsOf (x .layout .cells)) Void k
@@ -25,35 +21,27 @@ Inv-loop next fronts backs x side tried s q value cells count k₀ k = (k ≤ co
 abbrev μ-loop : tie.MeasureT-loop
 μ-loop next fronts backs x side tried s q value cells count k₀ k = count - k
 
--- src/choices.rt:79:9
 action-count-requires : tie.Need-action-count-requires Inv-loop μ-loop
 action-count-requires c κs = let w = within ((c .before .before .before) .args .x .layout) ((c .before .before .before) .pre .0 .bounds) in omega arith
 
--- src/choices.rt:81:5
 loop-holds : tie.Need-loop-holds Inv-loop μ-loop
 loop-holds c = (omega arith, λ i l. absurd (omega arith))
 
--- src/choices.rt:82:12
 over-requires : tie.Need-over-requires Inv-loop μ-loop
 over-requires c κs = ((c .before .before .before .before .before .before) .pre .0, (c .before .before .before .before .before .before) .pre .1, (c .before .before .before .before .before .before) .pre .2, (c .before .before .before .before .before .before) .pre .3, (c .before .before .before .before .before .before) .pre .4, (c .before .before .before .before .before .before) .pre .5, (subst (λ n. (c .before .loop) .k < n) ((c .before .before .action-count) .ensures) (omega arith)))
 
--- src/choices.rt:83:13
 returns : tie.Need-returns Inv-loop μ-loop
 returns c = rank-found (throughAction ((c .before .before .before .before .before .before .before .before) .args .x) (leastAfter ((c .before .before .before .before .before .before .before .before) .args .next .now) ((c .before .before .before .before .before .before .before .before) .args .tried) (policyOf ((c .before .before .before .before .before .before .before .before) .args .x .policy)) ((c .before .before .before .before .before .before .before .before) .args .side) ((c .before .before .before .before .before .before .before .before) .args .x .layout .width)) ((c .before .before .before .before .before .before .before .before) .args .fronts .now) ((c .before .before .before .before .before .before .before .before) .args .backs .now) ((c .before .before .before .before .before .before .before .before) .args .s) ((c .before .before .before .before .before .before .before .before) .args .q)) ((c .before .before .before .before .before .before .before .before) .args .value) Void (actionsOf ((c .before .before .before .before .before .before .before .before) .args .x .layout .cells)) ((c .before .before .before .loop) .k) (subst (λ n. (c .before .before .before .loop) .k < n) ((c .before .before .before .before .action-count) .ensures) (omega arith)) ((c .before .before .before .loop) .inv .1) (sym ((c .before .over) .ensures) ∙ (c .if1) .taken)
 
--- src/choices.rt:85:9
 add-k : tie.Need-add-k Inv-loop μ-loop
 add-k c = omega arith
 
--- src/choices.rt:81:5
 loop-less : tie.Need-loop-less Inv-loop μ-loop
 loop-less c = omega arith
 
--- src/choices.rt:81:5
 loop-again : tie.Need-loop-again Inv-loop μ-loop
 loop-again c = (omega arith, below-more (λ i. (throughAction ((c .before .before .before .before .before .before .before .before) .args .x) (leastAfter ((c .before .before .before .before .before .before .before .before) .args .next .now) ((c .before .before .before .before .before .before .before .before) .args .tried) (policyOf ((c .before .before .before .before .before .before .before .before) .args .x .policy)) ((c .before .before .before .before .before .before .before .before) .args .side) ((c .before .before .before .before .before .before .before .before) .args .x .layout .width)) ((c .before .before .before .before .before .before .before .before) .args .fronts .now) ((c .before .before .before .before .before .before .before .before) .args .backs .now) ((c .before .before .before .before .before .before .before .before) .args .s) ((c .before .before .before .before .before .before .before .before) .args .q)) (getD (actionsOf ((c .before .before .before .before .before .before .before .before) .args .x .layout .cells)) i Void) ≡ (c .before .before .before .before .before .before .before .before) .args .value → ⊥) ((c .before .before .before .loop) .k) ((c .before .before .before .loop) .inv .1) (λ e. (c .if1) .left ((c .before .over) .ensures ∙ e)))
 
--- src/choices.rt:64:1
 returns-2 : tie.Need-returns-2 Inv-loop μ-loop
 returns-2 c = rank-none (throughAction ((c .before .before .before .before .before .before) .args .x) (leastAfter ((c .before .before .before .before .before .before) .args .next .now) ((c .before .before .before .before .before .before) .args .tried) (policyOf ((c .before .before .before .before .before .before) .args .x .policy)) ((c .before .before .before .before .before .before) .args .side) ((c .before .before .before .before .before .before) .args .x .layout .width)) ((c .before .before .before .before .before .before) .args .fronts .now) ((c .before .before .before .before .before .before) .args .backs .now) ((c .before .before .before .before .before .before) .args .s) ((c .before .before .before .before .before .before) .args .q)) ((c .before .before .before .before .before .before) .args .value) Void (actionsOf ((c .before .before .before .before .before .before) .args .x .layout .cells)) ((c .before .before .action-count) .result) ((c .before .before .action-count) .ensures) (λ i l. (c .before .loop) .inv .1 i (omega (arith, (c .before .loop) .inv .0)))
 

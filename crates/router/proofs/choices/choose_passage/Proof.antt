@@ -1,6 +1,7 @@
+-- `router::choices::choose_passage` meets its contract. Assumes nothing.
 use native.Mathlib.Omega.{arith}
-use Prim.Native.Nat.{ℕ, suc, _+_, _*_, _-_, _≤_, _<_, min}
-use mathlib.Core.Path.{_≡_, refl, sym, _∙_, ap}
+use Prim.Native.Nat.{_+_, _*_, _-_, _≤_, _<_}
+use mathlib.Core.Path.{_≡_, sym, _∙_, ap}
 use Rattle.router.proofs.FirstRanks.{NoneBefore, rank-found, rank-none}
 use borrow.Author.Count.{below-more}
 use Rattle.router.specs.Rows.{throughPassage}
@@ -9,13 +10,9 @@ use Rattle.rules.specs.declared.Passage.the-variants.{P00}
 use lib.ListN.{take}
 use Rattle.router.proofs.Passages.{passage-tried, tried-length}
 use Rattle.router.specs.Steps.{policyOf}
-use lib.ListN.{length, getD}
-use borrow.Author.Needs.{needs}
+use lib.ListN.{getD}
 use Rattle.router.proofs.choices.choose_passage.Statement.{statement}
 use Rattle.router.proofs.choices.choose_passage.Tie as tie
-use Rattle.router.proofs.choices.choose_passage.Reads as reads
-use Rattle.router.proofs.choices.choose_passage.Lts as lts
-use Rattle.router.proofs.rows.through.Reads as through-reads
 
 abbrev Inv-loop : tie.InvT-loop
 Inv-loop next tried policy side width s q value p₀ p = (p ≤ tried) × NoneBefore (throughPassage next (policyOf policy) side width s q) value (take tried passagesInOrder) P00 p
@@ -23,31 +20,24 @@ Inv-loop next tried policy side width s q value p₀ p = (p ≤ tried) × NoneBe
 abbrev μ-loop : tie.MeasureT-loop
 μ-loop next tried policy side width s q value p₀ p = tried - p
 
--- src/choices.rt:105:5
 loop-holds : tie.Need-loop-holds Inv-loop μ-loop
 loop-holds c = (omega arith, λ i l. absurd (omega arith))
 
--- src/choices.rt:106:12
 through-requires : tie.Need-through-requires Inv-loop μ-loop
 through-requires c κs = ((c .before .before .before) .pre .0, omega arith)
 
--- src/choices.rt:107:13
 returns : tie.Need-returns Inv-loop μ-loop
 returns c = rank-found (throughPassage ((c .before .before .before .before .before) .args .next .now) (policyOf ((c .before .before .before .before .before) .args .policy)) ((c .before .before .before .before .before) .args .side) ((c .before .before .before .before .before) .args .width) ((c .before .before .before .before .before) .args .s) ((c .before .before .before .before .before) .args .q)) ((c .before .before .before .before .before) .args .value) P00 (take ((c .before .before .before .before .before) .args .tried) passagesInOrder) ((c .before .before .before .loop) .p) (omega (arith, tried-length ((c .before .before .before .before .before) .args .tried) ((c .before .before .before .before .before) .pre .1))) ((c .before .before .before .loop) .inv .1) ((ap (throughPassage ((c .before .before .before .before .before) .args .next .now) (policyOf ((c .before .before .before .before .before) .args .policy)) ((c .before .before .before .before .before) .args .side) ((c .before .before .before .before .before) .args .width) ((c .before .before .before .before .before) .args .s) ((c .before .before .before .before .before) .args .q)) (passage-tried ((c .before .before .before .before .before) .args .tried) ((c .before .before .before .loop) .p) (omega arith) ((c .before .before .before .before .before) .pre .1)) ∙ sym ((c .before .through) .ensures .0)) ∙ (c .if1) .taken)
 
--- src/choices.rt:109:9
 add-p : tie.Need-add-p Inv-loop μ-loop
 add-p c = omega arith
 
--- src/choices.rt:105:5
 loop-less : tie.Need-loop-less Inv-loop μ-loop
 loop-less c = omega arith
 
--- src/choices.rt:105:5
 loop-again : tie.Need-loop-again Inv-loop μ-loop
 loop-again c = (omega arith, below-more (λ i. (throughPassage ((c .before .before .before .before .before) .args .next .now) (policyOf ((c .before .before .before .before .before) .args .policy)) ((c .before .before .before .before .before) .args .side) ((c .before .before .before .before .before) .args .width) ((c .before .before .before .before .before) .args .s) ((c .before .before .before .before .before) .args .q)) (getD (take ((c .before .before .before .before .before) .args .tried) passagesInOrder) i P00) ≡ (c .before .before .before .before .before) .args .value → ⊥) ((c .before .before .before .loop) .p) ((c .before .before .before .loop) .inv .1) (λ e. (c .if1) .left (sym (ap (throughPassage ((c .before .before .before .before .before) .args .next .now) (policyOf ((c .before .before .before .before .before) .args .policy)) ((c .before .before .before .before .before) .args .side) ((c .before .before .before .before .before) .args .width) ((c .before .before .before .before .before) .args .s) ((c .before .before .before .before .before) .args .q)) (passage-tried ((c .before .before .before .before .before) .args .tried) ((c .before .before .before .loop) .p) (omega arith) ((c .before .before .before .before .before) .pre .1)) ∙ sym ((c .before .through) .ensures .0)) ∙ e)))
 
--- src/choices.rt:91:1
 returns-2 : tie.Need-returns-2 Inv-loop μ-loop
 returns-2 c = rank-none (throughPassage ((c .before .before .before) .args .next .now) (policyOf ((c .before .before .before) .args .policy)) ((c .before .before .before) .args .side) ((c .before .before .before) .args .width) ((c .before .before .before) .args .s) ((c .before .before .before) .args .q)) ((c .before .before .before) .args .value) P00 (take ((c .before .before .before) .args .tried) passagesInOrder) ((c .before .before .before) .args .tried) (sym (tried-length ((c .before .before .before) .args .tried) ((c .before .before .before) .pre .1))) (λ i l. (c .before .loop) .inv .1 i (omega (arith, (c .before .loop) .inv .0)))
 

@@ -1,28 +1,21 @@
+-- `router::choices::step_of` meets its contract. Assumes nothing.
 use borrow.Author.Needs.{needs}
-use native.Mathlib.Omega.{arith}
-use Prim.Native.Nat.{ℕ, suc, _+_, _*_, _-_, _≤_, _<_, min}
-use mathlib.Core.Path.{_≡_, refl, sym, _∙_, ap}
-use Rattle.router.specs.Layers.{stepCode, leftCode, throughAction, throughCandidate}
+use Prim.Native.Nat.{_+_, _*_, _≤_, _<_}
+use mathlib.Core.Path.{_≡_, sym, _∙_, ap}
+use Rattle.router.specs.Layers.{stepCode}
 use Rattle.router.specs.Steps.{policyOf, sampleAction, bit, stepOf}
 use Rattle.router.specs.States.{stateCode, stateOf}
-use Rattle.router.proofs.ActionRows.{ranked-fits, Parts, candidate-parts, step-small}
+use Rattle.router.proofs.ActionRows.{step-small}
 use mathlib.Core.Path.{subst}
 use Rattle.router.proofs.choices.step_of.Statement.{statement}
 use Rattle.router.proofs.choices.step_of.Tie as tie
-use Rattle.router.proofs.choices.step_of.Reads as reads
-use Rattle.router.proofs.choices.step_of.Lts as lts
-use Rattle.router.proofs.candidates.keeps_halves.Reads as keeps-halves-reads
-use Rattle.router.proofs.steps.action_step.Reads as action-step-reads
 
--- src/choices.rt:25:9
 keeps-halves-requires : tie.Need-keeps-halves-requires
 keeps-halves-requires c κs = search needs
 
--- src/choices.rt:26:5
 action-step-requires : tie.Need-action-step-requires
 action-step-requires c κs = search needs
 
--- src/choices.rt:21:1
 returns : tie.Need-returns
 unfolding stepCode
 returns c = let e = (c .action-step) .ensures ∙ ap (λ b. stateCode (stepOf (policyOf ((c .before .before) .args .x .policy)) (sampleAction ((c .before .before) .args .c .kind)) (bit ((c .before .before) .args .x .holds)) b (stateOf ((c .before .before) .args .s)))) ((c .before .keeps-halves) .ensures .0) in (e, subst (λ n. n ≤ 8) (sym e) (step-small ((c .before .before) .args .x) ((c .before .before) .args .c) ((c .before .before) .args .s)))

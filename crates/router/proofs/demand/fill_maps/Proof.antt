@@ -1,3 +1,4 @@
+-- `router::demand::fill_maps` meets its contract. Assumes nothing.
 use borrow.Author.Needs.{needs}
 use Rattle.values.specs.Values.{jobOf}
 use Rattle.router.proofs.DemandMaps.{maps-ready}

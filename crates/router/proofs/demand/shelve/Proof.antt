@@ -1,3 +1,4 @@
+-- `router::demand::shelve` meets its contract. Assumes nothing.
 use native.Mathlib.Omega.{arith}
 use Prim.Native.Nat.{_-_, _≤_}
 use lib.ListN.{length-map}

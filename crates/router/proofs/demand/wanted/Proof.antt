@@ -1,3 +1,4 @@
+-- `router::demand::wanted` meets its contract. Assumes nothing.
 use mathlib.Core.Path.{refl}
 use lib.ListN.{take}
 use borrow.Author.Tests.{ne-eqb}

@@ -1,20 +1,15 @@
+-- `router::filling::fill_table` meets its contract. Assumes nothing.
 use native.Mathlib.Omega.{arith}
-use Prim.Native.Nat.{ℕ, suc, _+_, _*_, _-_, _≤_, _<_, min}
-use mathlib.Core.Path.{_≡_, refl, sym, _∙_, ap}
+use Prim.Native.Nat.{suc, _+_, _*_, _≤_, _<_}
+use mathlib.Core.Path.{_≡_, _∙_}
 use Rattle.router.proofs.TableFills.{Filling, filling-start, filling-next}
 use Rattle.router.proofs.Geometry.{within}
 use Rattle.values.specs.Values.{jobOf}
 use Rattle.router.specs.TableHolds.{TableFrom}
 use mathlib.Core.Path.{subst}
-use lib.ListN.{length, getD}
 use borrow.Author.Needs.{needs}
 use Rattle.router.proofs.filling.fill_table.Statement.{statement}
 use Rattle.router.proofs.filling.fill_table.Tie as tie
-use Rattle.router.proofs.filling.fill_table.Reads as reads
-use Rattle.router.proofs.filling.fill_table.Lts as lts
-use Rattle.router.proofs.filling.fill_layer.Reads as fill-layer-reads
-use Rattle.router.proofs.stored.store_row.Reads as store-row-reads
-use Rattle.router.proofs.table.end_row.Reads as end-row-reads
 
 abbrev Inv-loop : tie.InvT-loop
 Inv-loop work₀ job shelf d next₀ j₀ work next j = Filling (jobOf job) j work₀ work next
@@ -22,55 +17,43 @@ Inv-loop work₀ job shelf d next₀ j₀ work next j = Filling (jobOf job) j wo
 abbrev μ-loop : tie.MeasureT-loop
 μ-loop work₀ job shelf d next₀ j₀ work next j = j
 
--- src/filling.rt:68:13
 slice-aggregate-end-row : tie.Need-slice-aggregate-end-row Inv-loop μ-loop
 slice-aggregate-end-row c = search needs
 
--- src/filling.rt:68:5
 end-row-requires : tie.Need-end-row-requires Inv-loop μ-loop
 end-row-requires c κs = search needs
 
--- src/filling.rt:70:5
 loop-holds : tie.Need-loop-holds Inv-loop μ-loop
 unfolding jobOf
 loop-holds c = filling-start (jobOf ((c .before .before .before .before) .args .job)) (((c .before .before .before .before) .pre .0 .admitted) .light) ((c .before .before .before .before) .args .work .now) ((c .before .end-row) .last .0) ((c .before .end-row) .ensures .1) ((c .before .end-row) .ensures .0)
 
--- src/filling.rt:71:20
 slice-aggregate-fill-layer : tie.Need-slice-aggregate-fill-layer Inv-loop μ-loop
 slice-aggregate-fill-layer c = omega (arith, (c .before .before .loop) .inv .long)
 
--- src/filling.rt:71:9
 fill-layer-requires : tie.Need-fill-layer-requires Inv-loop μ-loop
 unfolding jobOf
 fill-layer-requires c κs = (record { sound = (c .before .before .before .before .before .before .before) .pre .0; shelf-of = (c .before .before .before .before .before .before .before) .pre .1; digits-of = (c .before .before .before .before .before .before .before) .pre .2; aisle = (omega arith, (c .before .before .loop) .inv .seen) }, omega (arith, (c .before .before .loop) .inv .long), (c .before .before .loop) .inv .row)
 
--- src/filling.rt:72:25
 slice-aggregate-store-row : tie.Need-slice-aggregate-store-row Inv-loop μ-loop
 slice-aggregate-store-row c = omega (arith, (c .before .before .before .before .before .before .loop) .inv .long, (c .before .before .before .fill-layer) .ensures .1)
 
--- src/filling.rt:72:9
 store-row-requires : tie.Need-store-row-requires Inv-loop μ-loop
 unfolding jobOf
 store-row-requires c κs = let w = within ((c .before .before .before .before .before .before .before .before .before .before .before) .args .job .layout) (((c .before .before .before .before .before .before .before .before .before .before .before) .pre .0 .admitted) .layout) in (omega arith, omega (arith, (c .before .before .before .before .before .before .loop) .inv .seen), omega (arith, (c .before .before .before .before .before .before .before .before .before .before .before) .pre .3, (c .before .before .before .before .before .before .loop) .inv .kept), omega (arith, (c .before .before .before .fill-layer) .ensures .1, (c .before .before .before .before .before .before .loop) .inv .long))
 
--- src/filling.rt:73:9
 sub-j : tie.Need-sub-j Inv-loop μ-loop
 sub-j c = omega arith
 
--- src/filling.rt:70:5
 loop-less : tie.Need-loop-less Inv-loop μ-loop
 loop-less c = omega arith
 
--- src/filling.rt:70:5
 loop-again : tie.Need-loop-again Inv-loop μ-loop
 unfolding jobOf
 loop-again c = filling-next (jobOf ((c .before .before .before .before .before .before .before .before .before .before .before .before .before .before) .args .job)) (((c .before .before .before .before .before .before .before .before .before .before .before .before .before .before) .pre .0 .admitted) .light) ((c .before .before .before .before .before .before .before .before .before .loop) .j) ((c .before .before .before .before .before .before .before .before .before .before .before .before .before .before) .args .work .now) ((c .before .before .before .before .before .before .before .before .before .loop) .work) ((c .before .before .store-row) .last .0) ((c .before .before .before .before .before .before .before .before .before .loop) .next) ((c .before .before .before .before .before .before .fill-layer) .last .0) (omega arith) ((c .before .before .before .before .before .before .before .before .before .loop) .inv) ((c .before .before .before .before .before .before .fill-layer) .ensures .1) ((c .before .before .before .before .before .before .fill-layer) .ensures .0) ((c .before .before .store-row) .ensures)
 
--- src/filling.rt:63:1
 same-length : tie.Need-same-length Inv-loop μ-loop
 same-length c = (c .before .loop) .inv .kept
 
--- src/filling.rt:63:1
 returns : tie.Need-returns Inv-loop μ-loop
 returns c = let e : (c .before .loop) .j ≡ 0 = omega arith in (subst (λ n. TableFrom (jobOf ((c .before .before .before .before .before .before) .args .job)) (suc n) ((c .before .loop) .work)) e ((c .before .loop) .inv .table), (c .before .loop) .inv .kept)
 

@@ -1,17 +1,14 @@
+-- `router::filling::tried_of` meets its contract. Assumes nothing.
 use native.Mathlib.Omega.{arith}
-use Prim.Native.Nat.{ℕ, suc, _+_, _*_, _-_, _≤_, _<_, min}
-use mathlib.Core.Path.{_≡_, refl, sym, _∙_, ap}
-use Rattle.router.proofs.TableFills.{tried-last, tried-all, flag-is}
+use Prim.Native.Nat.{_+_, _*_, _-_, _≤_, _<_}
+use mathlib.Core.Path.{_≡_, _∙_}
+use Rattle.router.proofs.TableFills.{tried-last, tried-all}
 use Rattle.router.proofs.filling.tried_of.Statement.{statement}
 use Rattle.router.proofs.filling.tried_of.Tie as tie
-use Rattle.router.proofs.filling.tried_of.Reads as reads
-use Rattle.router.proofs.filling.tried_of.Lts as lts
 
--- src/filling.rt:31:1
 returns : tie.Need-returns
 returns c = (tried-last ((c .before) .args .aisles - (c .before) .args .j) (omega (arith, (c .if1) .taken)), omega arith)
 
--- src/filling.rt:31:1
 returns-2 : tie.Need-returns-2
 returns-2 c = (tried-all ((c .before) .args .aisles - (c .before) .args .j) (omega (arith, (c .if1) .left)), omega arith)
 

@@ -1,13 +1,12 @@
+-- `router::layers::fill_none` meets its contract. Assumes nothing.
 use native.Mathlib.Omega.{arith}
-use Prim.Native.Nat.{ℕ, suc, _+_, _*_, _-_, _≤_, _<_, min}
-use mathlib.Core.Path.{_≡_, refl, sym, _∙_, ap}
+use Prim.Native.Nat.{ℕ, _+_, _*_, _-_, _≤_, _<_}
+use mathlib.Core.Path.{_≡_, refl, _∙_}
 use Rattle.router.proofs.Relaxing.{filled-one}
 use lib.ListN.{length, getD}
-use lib.ListN.{set, length-set}
+use lib.ListN.{length-set}
 use Rattle.router.proofs.layers.fill_none.Statement.{statement}
 use Rattle.router.proofs.layers.fill_none.Tie as tie
-use Rattle.router.proofs.layers.fill_none.Reads as reads
-use Rattle.router.proofs.layers.fill_none.Lts as lts
 
 abbrev Inv-loop : tie.InvT-loop
 Inv-loop row₀ n i₀ row i = (i ≤ n) × ((length row ≡ length row₀) × ((k : ℕ) → k < i → getD row k 0 ≡ 65535))
@@ -15,35 +14,27 @@ Inv-loop row₀ n i₀ row i = (i ≤ n) × ((length row ≡ length row₀) × (
 abbrev μ-loop : tie.MeasureT-loop
 μ-loop row₀ n i₀ row i = n - i
 
--- src/layers.rt:47:5
 loop-holds : tie.Need-loop-holds Inv-loop μ-loop
 loop-holds c = (omega arith, (refl, λ k h. absurd (omega arith)))
 
--- src/layers.rt:48:9
 mul-row : tie.Need-mul-row Inv-loop μ-loop
 mul-row c = omega (arith, (c .before .loop) .inv .1 .0)
 
--- src/layers.rt:48:9
 slice-write-row : tie.Need-slice-write-row Inv-loop μ-loop
 slice-write-row c = omega (arith, (c .before .loop) .inv .1 .0)
 
--- src/layers.rt:49:9
 add-i : tie.Need-add-i Inv-loop μ-loop
 add-i c = omega (arith, (c .before .loop) .inv .1 .0)
 
--- src/layers.rt:47:5
 loop-less : tie.Need-loop-less Inv-loop μ-loop
 loop-less c = omega arith
 
--- src/layers.rt:47:5
 loop-again : tie.Need-loop-again Inv-loop μ-loop
 loop-again c = (omega arith, (length-set ((c .before .loop) .row) ((c .before .loop) .i) 65535 ∙ (c .before .loop) .inv .1 .0, filled-one (λ k. 65535) ((c .before .loop) .row) ((c .before .loop) .i) 65535 (omega (arith, (c .before .loop) .inv .1 .0)) ((c .before .loop) .inv .1 .1) refl))
 
--- src/layers.rt:42:1
 same-length : tie.Need-same-length Inv-loop μ-loop
 same-length c = (c .before .loop) .inv .1 .0
 
--- src/layers.rt:42:1
 returns : tie.Need-returns Inv-loop μ-loop
 returns c = (λ k h. (c .before .loop) .inv .1 .1 k (omega (arith, (c .before .loop) .inv .0)), (c .before .loop) .inv .1 .0)
 

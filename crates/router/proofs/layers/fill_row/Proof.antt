@@ -1,29 +1,20 @@
+-- `router::layers::fill_row` meets its contract. Assumes nothing.
 use native.Mathlib.Omega.{arith}
-use Prim.Native.Nat.{ℕ, suc, _+_, _*_, _-_, _≤_, _<_, min}
+use Prim.Native.Nat.{_+_, _*_, _-_, _≤_, _<_}
 use mathlib.Core.Path.{_≡_, refl, sym, _∙_, ap}
 use Rattle.router.proofs.ActionRows.{ranked-fits, Parts, candidate-parts, row-start, row-next}
-use Rattle.router.proofs.Geometry.{within, length-of-candidate}
+use Rattle.router.proofs.Geometry.{within}
 use Rattle.router.specs.Layers.{RowFilled}
 use Rattle.rules.specs.BestPlan.{actionsOf}
-use Rattle.router.specs.Candidates.{candidateOf}
 use Rattle.rules.specs.declared.Action.the-variants.{Void}
 use mathlib.Core.Path.{subst}
 use lib.ListN.{length, getD}
-use borrow.Author.Needs.{needs}
 use Rattle.router.proofs.ActionRows.{relax-ready, step-small}
 use Rattle.router.specs.declared.candidates.Candidate.{Candidate}
 use Rattle.router.specs.Layers.{stepCode}
 use Rattle.router.specs.Candidates.{candidateLength}
 use Rattle.router.proofs.layers.fill_row.Statement.{statement}
 use Rattle.router.proofs.layers.fill_row.Tie as tie
-use Rattle.router.proofs.layers.fill_row.Reads as reads
-use Rattle.router.proofs.layers.fill_row.Lts as lts
-use Rattle.router.proofs.candidates.action_at.Reads as action-at-reads
-use Rattle.router.proofs.candidates.action_count.Reads as action-count-reads
-use Rattle.router.proofs.candidates.action_length.Reads as action-length-reads
-use Rattle.router.proofs.layers.fill_none.Reads as fill-none-reads
-use Rattle.router.proofs.layers.steps_of.Reads as steps-of-reads
-use Rattle.router.proofs.rows.relax_row.Reads as relax-row-reads
 
 abbrev Inv-loop : tie.InvT-loop
 Inv-loop row₀ after fronts backs x z cells weight count k₀ row k = (k ≤ count) × ((length row ≡ length row₀) × RowFilled x row after fronts backs k)
@@ -31,55 +22,42 @@ Inv-loop row₀ after fronts backs x z cells weight count k₀ row k = (k ≤ co
 abbrev μ-loop : tie.MeasureT-loop
 μ-loop row₀ after fronts backs x z cells weight count k₀ row k = count - k
 
--- src/layers.rt:61:9
 action-count-requires : tie.Need-action-count-requires Inv-loop μ-loop
 action-count-requires c κs = let w = within ((c .before .before .before .before .before) .args .x .layout) ((c .before .before .before .before .before) .pre .0 .bounds) in omega arith
 
--- src/layers.rt:62:20
 mul-fill-none : tie.Need-mul-fill-none Inv-loop μ-loop
 mul-fill-none c = omega (arith, (c .before .before .before .before .before .before .before) .pre .0 .small)
 
--- src/layers.rt:62:5
 fill-none-requires : tie.Need-fill-none-requires Inv-loop μ-loop
 fill-none-requires c κs = omega (arith, (c .before .before .before .before .before .before .before) .pre .0 .small, (c .before .before .before .before .before .before .before) .pre .1)
 
--- src/layers.rt:64:5
 loop-holds : tie.Need-loop-holds Inv-loop μ-loop
 loop-holds c = (omega arith, (refl, row-start ((c .before .before .before .before .before .before .before .before .before .before) .args .x) ((c .before .before .before .before .before .before .before .before .before .before) .args .after .now) ((c .before .before .before .before .before .before .before .before .before .before) .args .fronts .now) ((c .before .before .before .before .before .before .before .before .before .before) .args .backs .now) ((c .before .before .fill-none) .last .0) ((c .before .before .fill-none) .ensures .0)))
 
--- src/layers.rt:65:13
 action-at-requires : tie.Need-action-at-requires Inv-loop μ-loop
 action-at-requires c κs = let w = within ((c .before .before .before .before .before .before .before .before .before .before .before .before) .args .x .layout) ((c .before .before .before .before .before .before .before .before .before .before .before .before) .pre .0 .bounds) in (omega arith, (subst (λ n. (c .before .loop) .k < n) ((c .before .before .before .before .before .before .action-count) .ensures) (omega arith)))
 
--- src/layers.rt:68:13
 action-length-requires : tie.Need-action-length-requires Inv-loop μ-loop
 action-length-requires c κs = ((c .before .before .before .before .before .before .before .before .before .before .before .before .before) .pre .0 .bounds, subst (λ (d : Candidate). d .kind < 6) (sym ((c .action-at) .ensures)) ((candidate-parts ((c .before .before .before .before .before .before .before .before .before .before .before .before .before) .args .x .layout .cells) (getD (actionsOf ((c .before .before .before .before .before .before .before .before .before .before .before .before .before) .args .x .layout .cells)) ((c .before .before .loop) .k) Void) (ranked-fits ((c .before .before .before .before .before .before .before .before .before .before .before .before .before) .args .x .layout .cells) ((c .before .before .loop) .k) (subst (λ n. (c .before .before .loop) .k < n) ((c .before .before .before .before .before .before .before .action-count) .ensures) (omega arith)))) .kind-below))
 
--- src/layers.rt:69:21
 steps-of-requires : tie.Need-steps-of-requires Inv-loop μ-loop
 steps-of-requires c κs = ((c .before .before .before .before .before .before .before .before .before .before .before .before .before .before) .pre .0 .bounds, (c .before .before .before .before .before .before .before .before .before .before .before .before .before .before) .pre .0 .policy-below, (c .before .before .before .before .before .before .before .before .before .before .before .before .before .before) .pre .0 .holds-below, subst (λ (d : Candidate). d .kind < 6) (sym ((c .before .action-at) .ensures)) ((candidate-parts ((c .before .before .before .before .before .before .before .before .before .before .before .before .before .before) .args .x .layout .cells) (getD (actionsOf ((c .before .before .before .before .before .before .before .before .before .before .before .before .before .before) .args .x .layout .cells)) ((c .before .before .before .loop) .k) Void) (ranked-fits ((c .before .before .before .before .before .before .before .before .before .before .before .before .before .before) .args .x .layout .cells) ((c .before .before .before .loop) .k) (subst (λ n. (c .before .before .before .loop) .k < n) ((c .before .before .before .before .before .before .before .before .action-count) .ensures) (omega arith)))) .kind-below))
 
--- src/layers.rt:70:9
 relax-row-requires : tie.Need-relax-row-requires Inv-loop μ-loop
 relax-row-requires c κs = relax-ready ((c .before .before .before .before .before .before .before .before .before .before .before .before .before .before .before .before .before) .args .x) ((c .before .before .before .before .before .before .before .before .before .before .before .before .before .before .before .before .before) .args .fronts .now) ((c .before .before .before .before .before .before .before .before .before .before .before .before .before .before .before .before .before) .args .backs .now) ((c .before .before .before .before .before .before .loop) .row) ((c .before .before .before .before .before .before .before .before .before .before .before .before .before .before .before .before .before) .args .after .now) ((c .before .before .steps-of) .result) ((c .before .before .before .before .action-at) .result .kind) ((c .before .before .before .before .action-at) .result .front) ((c .before .before .before .before .action-at) .result .back) ((c .before .before .before .action-length) .result) ((c .before .before .before .before .before .before .before .before .before .before .before .before .before .before .before .before .before) .pre .0) (subst (λ (d : Candidate). Parts ((c .before .before .before .before .before .before .before .before .before .before .before .before .before .before .before .before .before) .args .x .layout .cells) (d .kind) (d .front) (d .back)) (sym ((c .before .before .before .before .action-at) .ensures)) (candidate-parts ((c .before .before .before .before .before .before .before .before .before .before .before .before .before .before .before .before .before) .args .x .layout .cells) (getD (actionsOf ((c .before .before .before .before .before .before .before .before .before .before .before .before .before .before .before .before .before) .args .x .layout .cells)) ((c .before .before .before .before .before .before .loop) .k) Void) (ranked-fits ((c .before .before .before .before .before .before .before .before .before .before .before .before .before .before .before .before .before) .args .x .layout .cells) ((c .before .before .before .before .before .before .loop) .k) (subst (λ n. (c .before .before .before .before .before .before .loop) .k < n) ((c .before .before .before .before .before .before .before .before .before .before .before .action-count) .ensures) (omega arith))))) (omega (arith, (c .before .before .before .before .before .before .before .before .before .before .before .before .before .before .before .before .before) .pre .1, (c .before .before .before .before .before .before .loop) .inv .1 .0, (c .before .before .before .before .before .before .before .before .before .fill-none) .ensures .1)) ((c .before .before .before .before .before .before .before .before .before .before .before .before .before .before .before .before .before) .pre .2) (λ s h. subst (λ n. n ≤ 8) (sym ((c .before .before .steps-of) .ensures s h)) (step-small ((c .before .before .before .before .before .before .before .before .before .before .before .before .before .before .before .before .before) .args .x) ((c .before .before .before .before .action-at) .result) s)) ((c .before .before .before .action-length) .ensures .1)
 
--- src/layers.rt:71:9
 add-k : tie.Need-add-k Inv-loop μ-loop
 add-k c = omega arith
 
--- src/layers.rt:64:5
 loop-less : tie.Need-loop-less Inv-loop μ-loop
 loop-less c = omega arith
 
--- src/layers.rt:64:5
 loop-again : tie.Need-loop-again Inv-loop μ-loop
 loop-again c = (omega arith, ((c .before .before .relax-row) .ensures .kept ∙ (c .before .before .before .before .before .before .before .before .before .loop) .inv .1 .0, row-next ((c .before .before .before .before .before .before .before .before .before .before .before .before .before .before .before .before .before .before .before .before) .args .x) ((c .before .before .before .before .before .before .before .before .before .before .before .before .before .before .before .before .before .before .before .before) .args .after .now) ((c .before .before .before .before .before .before .before .before .before .before .before .before .before .before .before .before .before .before .before .before) .args .fronts .now) ((c .before .before .before .before .before .before .before .before .before .before .before .before .before .before .before .before .before .before .before .before) .args .backs .now) ((c .before .before .before .before .before .before .before .before .before .loop) .row) ((c .before .before .relax-row) .last .0) ((c .before .before .before .before .before .before .before .before .before .loop) .k) ((c .before .before .before .before .before .before .before .action-at) .result .front) ((c .before .before .before .before .before .before .before .action-at) .result .back) ((c .before .before .before .before .before .steps-of) .result) ((c .before .before .before .before .before .before .action-length) .result) (subst (λ n. (c .before .before .before .before .before .before .before .before .before .loop) .k < n) ((c .before .before .before .before .before .before .before .before .before .before .before .before .before .before .action-count) .ensures) (omega arith)) (ap (λ (d : Candidate). d .front) ((c .before .before .before .before .before .before .before .action-at) .ensures)) (ap (λ (d : Candidate). d .back) ((c .before .before .before .before .before .before .before .action-at) .ensures)) (λ s h. (c .before .before .before .before .before .steps-of) .ensures s h ∙ ap (λ d. stepCode ((c .before .before .before .before .before .before .before .before .before .before .before .before .before .before .before .before .before .before .before .before) .args .x) d s) ((c .before .before .before .before .before .before .before .action-at) .ensures)) ((c .before .before .before .before .before .before .action-length) .ensures .0 ∙ ap (candidateLength ((c .before .before .before .before .before .before .before .before .before .before .before .before .before .before .before .before .before .before .before .before) .args .x .layout)) ((c .before .before .before .before .before .before .before .action-at) .ensures)) ((c .before .before .before .before .before .before .before .before .before .loop) .inv .1 .1) ((c .before .before .relax-row) .ensures)))
 
--- src/layers.rt:54:1
 same-length : tie.Need-same-length Inv-loop μ-loop
 same-length c = (c .before .loop) .inv .1 .0 ∙ (c .before .before .before .before .fill-none) .ensures .1
 
--- src/layers.rt:54:1
 returns : tie.Need-returns Inv-loop μ-loop
 returns c = let e : (c .before .loop) .k ≡ length (actionsOf ((c .before .before .before .before .before .before .before .before .before .before .before .before) .args .x .layout .cells)) = omega (arith, (c .before .loop) .inv .0, (c .before .before .before .before .before .before .action-count) .ensures) in (subst (λ n. RowFilled ((c .before .before .before .before .before .before .before .before .before .before .before .before) .args .x) ((c .before .loop) .row) ((c .before .before .before .before .before .before .before .before .before .before .before .before) .args .after .now) ((c .before .before .before .before .before .before .before .before .before .before .before .before) .args .fronts .now) ((c .before .before .before .before .before .before .before .before .before .before .before .before) .args .backs .now) n) e ((c .before .loop) .inv .1 .1), (c .before .loop) .inv .1 .0 ∙ (c .before .before .before .before .fill-none) .ensures .1)
 

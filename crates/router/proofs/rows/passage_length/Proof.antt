@@ -1,32 +1,25 @@
-use borrow.Author.Needs.{needs}
+-- `router::rows::passage_length` meets its contract. Assumes nothing.
 use native.Mathlib.Omega.{arith}
-use Prim.Native.Nat.{ℕ, suc, _+_, _*_, _-_, _≤_, _<_, min}
-use mathlib.Core.Path.{_≡_, refl, sym, _∙_, ap}
-use Rattle.router.proofs.Passages.{two-treads, state-small, through-dead, through-alive, least-tried}
-use Rattle.router.specs.Steps.{policyOf, passageOf, crossOf}
+use Prim.Native.Nat.{_+_, _*_, _≤_, _<_}
+use mathlib.Core.Path.{_≡_, sym, _∙_, ap}
+use Rattle.router.proofs.Passages.{two-treads}
+use Rattle.router.specs.Steps.{passageOf}
 use Rattle.rules.specs.Plans.{backTreads, frontTreads}
 use Rattle.router.proofs.rows.passage_length.Statement.{statement}
 use Rattle.router.proofs.rows.passage_length.Tie as tie
-use Rattle.router.proofs.rows.passage_length.Reads as reads
-use Rattle.router.proofs.rows.passage_length.Lts as lts
 
--- src/rows.rt:78:9
 returns : tie.Need-returns
 returns c = (sym (ap (λ p. (backTreads (passageOf p) + frontTreads (passageOf p)) * (c .before) .args .width) ((c .if1) .taken) ∙ omega arith), omega arith)
 
--- src/rows.rt:81:16
 mul-result : tie.Need-mul-result
 mul-result c = omega arith
 
--- src/rows.rt:81:9
 returns-2 : tie.Need-returns-2
 returns-2 c = (sym (ap (λ p. (backTreads (passageOf p) + frontTreads (passageOf p)) * (c .before .before) .args .width) ((c .if2) .taken)), omega arith)
 
--- src/rows.rt:83:5
 mul-result-2 : tie.Need-mul-result-2
 mul-result-2 c = omega arith
 
--- src/rows.rt:73:1
 returns-3 : tie.Need-returns-3
 returns-3 c = (sym (ap (λ n. n * (c .before .before) .args .width) (two-treads ((c .before .before) .args .passage) (omega (arith, (c .before .if1) .left)) (omega (arith, (c .if2) .left)))), omega arith)
 

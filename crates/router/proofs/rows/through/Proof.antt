@@ -1,60 +1,44 @@
+-- `router::rows::through` meets its contract. Assumes nothing.
 use borrow.Author.Needs.{needs}
 use native.Mathlib.Omega.{arith}
-use Prim.Native.Nat.{ℕ, suc, _+_, _*_, _-_, _≤_, _<_, min}
-use mathlib.Core.Path.{_≡_, refl, sym, _∙_, ap}
-use Rattle.router.proofs.Passages.{two-treads, state-small, through-dead, through-alive, least-tried}
+use Prim.Native.Nat.{_+_, _*_, _≤_, _<_}
+use mathlib.Core.Path.{_≡_, sym, _∙_}
+use Rattle.router.proofs.Passages.{state-small, through-dead, through-alive}
 use Rattle.router.specs.Steps.{policyOf, passageOf, crossOf}
 use Rattle.router.specs.States.{stateOf}
-use lib.ListN.{length, getD}
 use Rattle.router.proofs.rows.through.Statement.{statement}
 use Rattle.router.proofs.rows.through.Tie as tie
-use Rattle.router.proofs.rows.through.Reads as reads
-use Rattle.router.proofs.rows.through.Lts as lts
-use Rattle.router.proofs.rows.passage_length.Reads as passage-length-reads
-use Rattle.router.proofs.rows.wide.Reads as wide-reads
-use Rattle.router.proofs.steps.passage_step.Reads as passage-step-reads
 
--- src/rows.rt:91:9
 passage-step-requires : tie.Need-passage-step-requires
 passage-step-requires c κs = ((c .before) .pre .0 .policy-below, (c .before) .pre .1, (c .before) .pre .0 .side-below, (c .before) .pre .0 .state-below)
 
--- src/rows.rt:93:9
 returns : tie.Need-returns
 returns c = (sym (through-dead ((c .before .before .before) .args .next .now) (policyOf ((c .before .before .before) .args .policy)) ((c .before .before .before) .args .side) ((c .before .before .before) .args .width) ((c .before .before .before) .args .s) ((c .before .before .before) .args .q) (passageOf ((c .before .before .before) .args .passage)) (sym ((c .before .passage-step) .ensures) ∙ (c .if1) .taken)), omega arith)
 
--- src/rows.rt:95:15
 passage-length-requires : tie.Need-passage-length-requires
 passage-length-requires c κs = ((c .before .before .before) .pre .1, (c .before .before .before) .pre .0 .width-fits)
 
--- src/rows.rt:95:58
 mul-wide : tie.Need-mul-wide
 mul-wide c = omega (arith, (c .before .before .before .before) .pre .0 .long, (c .before .before .before .before) .pre .0 .demand, (c .before .before .passage-step) .ensures, state-small (crossOf (policyOf ((c .before .before .before .before) .args .policy)) (passageOf ((c .before .before .before .before) .args .passage)) ((c .before .before .before .before) .args .side) (stateOf ((c .before .before .before .before) .args .s))), (c .before .if1) .left)
 
--- src/rows.rt:95:58
 add-wide : tie.Need-add-wide
 add-wide c = omega (arith, (c .before .before .before .before) .pre .0 .long, (c .before .before .before .before) .pre .0 .demand, (c .before .before .passage-step) .ensures, state-small (crossOf (policyOf ((c .before .before .before .before) .args .policy)) (passageOf ((c .before .before .before .before) .args .passage)) ((c .before .before .before .before) .args .side) (stateOf ((c .before .before .before .before) .args .s))), (c .before .if1) .left)
 
--- src/rows.rt:95:53
 mul-wide-2 : tie.Need-mul-wide-2
 mul-wide-2 c = omega (arith, (c .before .before .before .before) .pre .0 .long, (c .before .before .before .before) .pre .0 .demand, (c .before .before .passage-step) .ensures, state-small (crossOf (policyOf ((c .before .before .before .before) .args .policy)) (passageOf ((c .before .before .before .before) .args .passage)) ((c .before .before .before .before) .args .side) (stateOf ((c .before .before .before .before) .args .s))), (c .before .if1) .left)
 
--- src/rows.rt:95:53
 shared-slice-read-wide : tie.Need-shared-slice-read-wide
 shared-slice-read-wide c = omega (arith, (c .before .before .before .before .before) .pre .0 .long, (c .before .before .before .before .before) .pre .0 .demand, (c .before .before .before .passage-step) .ensures, state-small (crossOf (policyOf ((c .before .before .before .before .before) .args .policy)) (passageOf ((c .before .before .before .before .before) .args .passage)) ((c .before .before .before .before .before) .args .side) (stateOf ((c .before .before .before .before .before) .args .s))), (c .before .before .if1) .left)
 
--- src/rows.rt:95:48
 wide-requires : tie.Need-wide-requires
 wide-requires c κs = search needs
 
--- src/rows.rt:95:15
 add-sum : tie.Need-add-sum
 add-sum c = omega (arith, (c .before .before .passage-length) .ensures .1, (c .wide) .ensures .1)
 
--- src/rows.rt:87:1
 returns-2 : tie.Need-returns-2
 returns-2 c = (omega (arith, through-alive ((c .before .before .before .before .before .before .before) .args .next .now) (policyOf ((c .before .before .before .before .before .before .before) .args .policy)) ((c .before .before .before .before .before .before .before) .args .side) ((c .before .before .before .before .before .before .before) .args .width) ((c .before .before .before .before .before .before .before) .args .s) ((c .before .before .before .before .before .before .before) .args .q) (passageOf ((c .before .before .before .before .before .before .before) .args .passage)) ((c .before .before .before .before .before .passage-step) .result) (sym ((c .before .before .before .before .before .passage-step) .ensures)) (omega (arith, (c .before .before .before .before .before .passage-step) .ensures, state-small (crossOf (policyOf ((c .before .before .before .before .before .before .before) .args .policy)) (passageOf ((c .before .before .before .before .before .before .before) .args .passage)) ((c .before .before .before .before .before .before .before) .args .side) (stateOf ((c .before .before .before .before .before .before .before) .args .s))), (c .before .before .before .before .if1) .left)), (c .before .before .before .passage-length) .ensures .0, (c .before .wide) .ensures .0), omega arith)
 
--- src/rows.rt:87:1
 returns-3 : tie.Need-returns-3
 returns-3 c = (omega (arith, through-alive ((c .before .before .before .before .before .before .before) .args .next .now) (policyOf ((c .before .before .before .before .before .before .before) .args .policy)) ((c .before .before .before .before .before .before .before) .args .side) ((c .before .before .before .before .before .before .before) .args .width) ((c .before .before .before .before .before .before .before) .args .s) ((c .before .before .before .before .before .before .before) .args .q) (passageOf ((c .before .before .before .before .before .before .before) .args .passage)) ((c .before .before .before .before .before .passage-step) .result) (sym ((c .before .before .before .before .before .passage-step) .ensures)) (omega (arith, (c .before .before .before .before .before .passage-step) .ensures, state-small (crossOf (policyOf ((c .before .before .before .before .before .before .before) .args .policy)) (passageOf ((c .before .before .before .before .before .before .before) .args .passage)) ((c .before .before .before .before .before .before .before) .args .side) (stateOf ((c .before .before .before .before .before .before .before) .args .s))), (c .before .before .before .before .if1) .left)), (c .before .before .before .passage-length) .ensures .0, (c .before .wide) .ensures .0), omega arith)
 

@@ -1,46 +1,35 @@
+-- `router::steps::passage_step` meets its contract. Assumes nothing.
 use borrow.Author.Needs.{needs}
 use mathlib.Core.Path.{_∙_}
 use Rattle.router.specs.Steps.{passageTable, passageEntry, crossOf}
 use Rattle.router.proofs.Tables.{passage-entry}
 use Rattle.router.proofs.steps.passage_step.Statement.{statement}
 use Rattle.router.proofs.steps.passage_step.Tie as tie
-use Rattle.router.proofs.steps.passage_step.Reads as reads
-use Rattle.router.proofs.steps.passage_step.Lts as lts
-use Rattle.router.proofs.steps.wide.Reads as wide-reads
 
--- src/steps.rt:101:16
 mul-at : tie.Need-mul-at
 mul-at c = search needs
 
--- src/steps.rt:101:16
 add-at : tie.Need-add-at
 add-at c = search needs
 
--- src/steps.rt:101:15
 mul-at-2 : tie.Need-mul-at-2
 mul-at-2 c = search needs
 
--- src/steps.rt:101:15
 add-at-2 : tie.Need-add-at-2
 add-at-2 c = search needs
 
--- src/steps.rt:101:14
 mul-at-3 : tie.Need-mul-at-3
 mul-at-3 c = search needs
 
--- src/steps.rt:101:14
 add-at-3 : tie.Need-add-at-3
 add-at-3 c = search needs
 
--- src/steps.rt:102:10
 array-read-wide : tie.Need-array-read-wide
 array-read-wide c = search needs
 
--- src/steps.rt:102:5
 wide-requires : tie.Need-wide-requires
 wide-requires c κs = search needs
 
--- src/steps.rt:97:1
 returns : tie.Need-returns
 unfolding passageTable passageEntry crossOf
 returns c = c .wide .ensures ∙ passage-entry (c .before .args .policy) (c .before .args .passage) (c .before .args .side) (c .before .args .state) (c .before .pre .0) (c .before .pre .1) (c .before .pre .2) (c .before .pre .3)

@@ -1,15 +1,12 @@
+-- `router::stored::store_row` meets its contract. Assumes nothing.
 use native.Mathlib.Omega.{arith}
-use Prim.Native.Nat.{ℕ, suc, _+_, _*_, _-_, _≤_, _<_, min}
-use mathlib.Core.Path.{_≡_, refl, sym, _∙_, ap}
+use Prim.Native.Nat.{_+_, _*_, _-_, _≤_, _<_}
+use mathlib.Core.Path.{_≡_, _∙_}
 use Rattle.router.proofs.Relaxing.{stored-none, stored-one}
 use Rattle.router.specs.Stored.{StoredTo}
-use lib.ListN.{length, getD}
 use mathlib.Core.Path.{subst}
-use borrow.Author.Needs.{needs}
 use Rattle.router.proofs.stored.store_row.Statement.{statement}
 use Rattle.router.proofs.stored.store_row.Tie as tie
-use Rattle.router.proofs.stored.store_row.Reads as reads
-use Rattle.router.proofs.stored.store_row.Lts as lts
 
 abbrev Inv-loop : tie.InvT-loop
 Inv-loop work₀ row j at i₀ work i = (i ≤ 2048) × StoredTo work₀ work row at i
@@ -17,55 +14,42 @@ Inv-loop work₀ row j at i₀ work i = (i ≤ 2048) × StoredTo work₀ work ro
 abbrev μ-loop : tie.MeasureT-loop
 μ-loop work₀ row j at i₀ work i = 2048 - i
 
--- src/stored.rt:12:15
 sub-at : tie.Need-sub-at Inv-loop μ-loop
 sub-at c = omega arith
 
--- src/stored.rt:12:14
 mul-at : tie.Need-mul-at Inv-loop μ-loop
 mul-at c = omega arith
 
--- src/stored.rt:14:5
 loop-holds : tie.Need-loop-holds Inv-loop μ-loop
 loop-holds c = (omega arith, stored-none ((c) .args .work .now) ((c) .args .row .now) (((c) .args .j - 1) * 2048))
 
--- src/stored.rt:15:24
 mul-work : tie.Need-mul-work Inv-loop μ-loop
 mul-work c = omega arith
 
--- src/stored.rt:15:24
 shared-slice-read-work : tie.Need-shared-slice-read-work Inv-loop μ-loop
 shared-slice-read-work c = omega arith
 
--- src/stored.rt:15:14
 add-work : tie.Need-add-work Inv-loop μ-loop
 add-work c = omega (arith, (c .before .before .loop) .inv .1 .kept)
 
--- src/stored.rt:15:9
 mul-work-2 : tie.Need-mul-work-2 Inv-loop μ-loop
 mul-work-2 c = omega (arith, (c .before .before .loop) .inv .1 .kept)
 
--- src/stored.rt:15:9
 slice-write-work : tie.Need-slice-write-work Inv-loop μ-loop
 slice-write-work c = omega (arith, (c .before .before .loop) .inv .1 .kept)
 
--- src/stored.rt:16:9
 add-i : tie.Need-add-i Inv-loop μ-loop
 add-i c = omega arith
 
--- src/stored.rt:14:5
 loop-less : tie.Need-loop-less Inv-loop μ-loop
 loop-less c = omega arith
 
--- src/stored.rt:14:5
 loop-again : tie.Need-loop-again Inv-loop μ-loop
 loop-again c = (omega arith, stored-one ((c .before .before .before) .args .work .now) ((c .before .before .loop) .work) ((c .before .before .before) .args .row .now) (((c .before .before .before) .args .j - 1) * 2048) ((c .before .before .loop) .i) (omega arith) ((c .before .before .loop) .inv .1))
 
--- src/stored.rt:8:1
 same-length : tie.Need-same-length Inv-loop μ-loop
 same-length c = (c .before .loop) .inv .1 .kept
 
--- src/stored.rt:8:1
 returns : tie.Need-returns Inv-loop μ-loop
 returns c = let e : (c .before .loop) .i ≡ 2048 = omega (arith, (c .before .loop) .inv .0) in subst (λ n. StoredTo ((c .before .before) .args .work .now) ((c .before .loop) .work) ((c .before .before) .args .row .now) (((c .before .before) .args .j - 1) * 2048) n) e ((c .before .loop) .inv .1)
 

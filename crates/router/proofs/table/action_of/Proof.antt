@@ -1,39 +1,32 @@
+-- `router::table::action_of` meets its contract. Assumes nothing.
 use native.Mathlib.Omega.{arith}
-use Prim.Native.Nat.{ℕ, suc, _+_, _*_, _-_, _≤_, _<_, min}
-use mathlib.Core.Path.{_≡_, refl, sym, _∙_, ap}
+use Prim.Native.Nat.{_+_, _*_, _≤_, _<_}
+use mathlib.Core.Path.{_≡_, sym, _∙_, ap}
 use Rattle.router.specs.Candidates.{actionOf, actionOfParts}
-use Rattle.router.proofs.Numbers.{last-action, last-passage}
+use Rattle.router.proofs.Numbers.{last-action}
 use Rattle.router.proofs.table.action_of.Statement.{statement}
 use Rattle.router.proofs.table.action_of.Tie as tie
-use Rattle.router.proofs.table.action_of.Reads as reads
-use Rattle.router.proofs.table.action_of.Lts as lts
 
--- src/table.rt:40:1
 returns : tie.Need-returns
 unfolding actionOf
 returns c = sym (ap (λ k. actionOfParts k ((c .before) .args .c .front) ((c .before) .args .c .back)) ((c .match) .keys1))
 
--- src/table.rt:40:1
 returns-2 : tie.Need-returns-2
 unfolding actionOf
 returns-2 c = sym (ap (λ k. actionOfParts k ((c .before) .args .c .front) ((c .before) .args .c .back)) ((c .match) .keys2))
 
--- src/table.rt:40:1
 returns-3 : tie.Need-returns-3
 unfolding actionOf
 returns-3 c = sym (ap (λ k. actionOfParts k ((c .before) .args .c .front) ((c .before) .args .c .back)) ((c .match) .keys3))
 
--- src/table.rt:40:1
 returns-4 : tie.Need-returns-4
 unfolding actionOf
 returns-4 c = sym (ap (λ k. actionOfParts k ((c .before) .args .c .front) ((c .before) .args .c .back)) ((c .match) .keys4))
 
--- src/table.rt:40:1
 returns-5 : tie.Need-returns-5
 unfolding actionOf
 returns-5 c = sym (ap (λ k. actionOfParts k ((c .before) .args .c .front) ((c .before) .args .c .back)) ((c .match) .keys5))
 
--- src/table.rt:40:1
 returns-6 : tie.Need-returns-6
 unfolding actionOf
 returns-6 c = sym (last-action ((c .before) .args .c .kind) ((c .before) .args .c .front) ((c .before) .args .c .back) (omega (arith, (c .match) .rest)))

@@ -1,14 +1,13 @@
+-- `router::table::clear` meets its contract. Assumes nothing.
 use native.Mathlib.Omega.{arith}
-use Prim.Native.Nat.{ℕ, suc, _+_, _*_, _-_, _≤_, _<_, min}
-use mathlib.Core.Path.{_≡_, refl, sym, _∙_, ap}
+use Prim.Native.Nat.{ℕ, _+_, _*_, _-_, _≤_, _<_}
+use mathlib.Core.Path.{_≡_, refl, _∙_}
 use Rattle.router.proofs.Relaxing.{filled-one}
 use lib.ListN.{length, getD}
-use lib.ListN.{set, length-set}
+use lib.ListN.{length-set}
 use Rattle.router.proofs.Numbers.{all-zero}
 use Rattle.router.proofs.table.clear.Statement.{statement}
 use Rattle.router.proofs.table.clear.Tie as tie
-use Rattle.router.proofs.table.clear.Reads as reads
-use Rattle.router.proofs.table.clear.Lts as lts
 
 abbrev Inv-loop : tie.InvT-loop
 Inv-loop work₀ i₀ work i = (i ≤ length work₀) × ((length work ≡ length work₀) × ((k : ℕ) → k < i → getD work k 0 ≡ 0))
@@ -16,35 +15,27 @@ Inv-loop work₀ i₀ work i = (i ≤ length work₀) × ((length work ≡ lengt
 abbrev μ-loop : tie.MeasureT-loop
 μ-loop work₀ i₀ work i = length work₀ - i
 
--- src/table.rt:105:5
 loop-holds : tie.Need-loop-holds Inv-loop μ-loop
 loop-holds c = (omega arith, (refl, λ k h. absurd (omega arith)))
 
--- src/table.rt:106:9
 mul-work : tie.Need-mul-work Inv-loop μ-loop
 mul-work c = omega (arith, (c .before .loop) .inv .1 .0)
 
--- src/table.rt:106:9
 slice-write-work : tie.Need-slice-write-work Inv-loop μ-loop
 slice-write-work c = omega arith
 
--- src/table.rt:107:9
 add-i : tie.Need-add-i Inv-loop μ-loop
 add-i c = omega arith
 
--- src/table.rt:105:5
 loop-less : tie.Need-loop-less Inv-loop μ-loop
 loop-less c = omega arith
 
--- src/table.rt:105:5
 loop-again : tie.Need-loop-again Inv-loop μ-loop
 loop-again c = (omega arith, (length-set ((c .before .loop) .work) ((c .before .loop) .i) 0 ∙ (c .before .loop) .inv .1 .0, filled-one (λ k. 0) ((c .before .loop) .work) ((c .before .loop) .i) 0 (omega (arith, (c .before .loop) .inv .1 .0)) ((c .before .loop) .inv .1 .1) refl))
 
--- src/table.rt:101:1
 same-length : tie.Need-same-length Inv-loop μ-loop
 same-length c = (c .before .loop) .inv .1 .0
 
--- src/table.rt:101:1
 returns : tie.Need-returns Inv-loop μ-loop
 returns c = all-zero ((c .before .loop) .work) (length ((c .before .before) .args .work .now)) ((c .before .loop) .inv .1 .0) (λ k h. (c .before .loop) .inv .1 .1 k (omega (arith, (c .before .loop) .inv .0, (c .before .loop) .inv .1 .0)))
 

@@ -1,13 +1,12 @@
+-- `router::table::copy_row` meets its contract. Assumes nothing.
 use native.Mathlib.Omega.{arith}
-use Prim.Native.Nat.{ℕ, suc, _+_, _*_, _-_, _≤_, _<_, min}
-use mathlib.Core.Path.{_≡_, refl, sym, _∙_, ap}
+use Prim.Native.Nat.{ℕ, _+_, _*_, _-_, _≤_, _<_}
+use mathlib.Core.Path.{_≡_, refl, _∙_}
 use Rattle.router.proofs.Relaxing.{filled-one}
 use lib.ListN.{length, getD}
-use lib.ListN.{set, length-set}
+use lib.ListN.{length-set}
 use Rattle.router.proofs.table.copy_row.Statement.{statement}
 use Rattle.router.proofs.table.copy_row.Tie as tie
-use Rattle.router.proofs.table.copy_row.Reads as reads
-use Rattle.router.proofs.table.copy_row.Lts as lts
 
 abbrev Inv-loop : tie.InvT-loop
 Inv-loop to₀ from i₀ to i = (i ≤ 2048) × ((length to ≡ length to₀) × ((k : ℕ) → k < i → getD to k 0 ≡ getD from k 0))
@@ -15,43 +14,33 @@ Inv-loop to₀ from i₀ to i = (i ≤ 2048) × ((length to ≡ length to₀) ×
 abbrev μ-loop : tie.MeasureT-loop
 μ-loop to₀ from i₀ to i = 2048 - i
 
--- src/table.rt:75:5
 loop-holds : tie.Need-loop-holds Inv-loop μ-loop
 loop-holds c = (omega arith, (refl, λ k h. absurd (omega arith)))
 
--- src/table.rt:76:17
 mul-to : tie.Need-mul-to Inv-loop μ-loop
 mul-to c = omega arith
 
--- src/table.rt:76:17
 shared-slice-read-to : tie.Need-shared-slice-read-to Inv-loop μ-loop
 shared-slice-read-to c = omega arith
 
--- src/table.rt:76:9
 mul-to-2 : tie.Need-mul-to-2 Inv-loop μ-loop
 mul-to-2 c = omega arith
 
--- src/table.rt:76:9
 slice-write-to : tie.Need-slice-write-to Inv-loop μ-loop
 slice-write-to c = omega (arith, (c .before .before .loop) .inv .1 .0)
 
--- src/table.rt:77:9
 add-i : tie.Need-add-i Inv-loop μ-loop
 add-i c = omega (arith, (c .before .before .loop) .inv .1 .0)
 
--- src/table.rt:75:5
 loop-less : tie.Need-loop-less Inv-loop μ-loop
 loop-less c = omega arith
 
--- src/table.rt:75:5
 loop-again : tie.Need-loop-again Inv-loop μ-loop
 loop-again c = (omega arith, (length-set ((c .before .before .loop) .to) ((c .before .before .loop) .i) (getD ((c .before .before .before) .args .from .now) ((c .before .before .loop) .i) 0) ∙ (c .before .before .loop) .inv .1 .0, filled-one (λ k. getD ((c .before .before .before) .args .from .now) k 0) ((c .before .before .loop) .to) ((c .before .before .loop) .i) (getD ((c .before .before .before) .args .from .now) ((c .before .before .loop) .i) 0) (omega (arith, (c .before .before .loop) .inv .1 .0)) ((c .before .before .loop) .inv .1 .1) refl))
 
--- src/table.rt:70:1
 same-length : tie.Need-same-length Inv-loop μ-loop
 same-length c = (c .before .loop) .inv .1 .0
 
--- src/table.rt:70:1
 returns : tie.Need-returns Inv-loop μ-loop
 returns c = (λ k h. (c .before .loop) .inv .1 .1 k (omega (arith, (c .before .loop) .inv .0)), (c .before .loop) .inv .1 .0)
 

@@ -1,16 +1,14 @@
+-- `router::table::end_row` meets its contract. Assumes nothing.
 use native.Mathlib.Omega.{arith}
-use Prim.Native.Nat.{ℕ, suc, _+_, _*_, _-_, _≤_, _<_, min}
-use mathlib.Core.Path.{_≡_, refl, sym, _∙_, ap}
+use Prim.Native.Nat.{ℕ, _+_, _*_, _-_, _≤_, _<_}
+use mathlib.Core.Path.{_≡_, refl, _∙_}
 use Rattle.router.proofs.Relaxing.{filled-one}
 use lib.ListN.{length, getD}
-use lib.ListN.{set, length-set}
-use Rattle.router.specs.TableHolds.{sideOf, endEntry}
+use lib.ListN.{length-set}
+use Rattle.router.specs.TableHolds.{endEntry}
 use borrow.Author.Needs.{needs}
 use Rattle.router.proofs.table.end_row.Statement.{statement}
 use Rattle.router.proofs.table.end_row.Tie as tie
-use Rattle.router.proofs.table.end_row.Reads as reads
-use Rattle.router.proofs.table.end_row.Lts as lts
-use Rattle.router.proofs.table.end_entry.Reads as end-entry-reads
 
 abbrev Inv-loop : tie.InvT-loop
 Inv-loop next₀ i₀ next i = (i ≤ 2048) × ((length next ≡ length next₀) × ((k : ℕ) → k < i → getD next k 0 ≡ endEntry k))
@@ -18,39 +16,30 @@ Inv-loop next₀ i₀ next i = (i ≤ 2048) × ((length next ≡ length next₀)
 abbrev μ-loop : tie.MeasureT-loop
 μ-loop next₀ i₀ next i = 2048 - i
 
--- src/table.rt:87:5
 loop-holds : tie.Need-loop-holds Inv-loop μ-loop
 loop-holds c = (omega arith, (refl, λ k h. absurd (omega arith)))
 
--- src/table.rt:88:19
 end-entry-requires : tie.Need-end-entry-requires Inv-loop μ-loop
 end-entry-requires c κs = search needs
 
--- src/table.rt:88:9
 mul-next : tie.Need-mul-next Inv-loop μ-loop
 mul-next c = omega arith
 
--- src/table.rt:88:9
 slice-write-next : tie.Need-slice-write-next Inv-loop μ-loop
 slice-write-next c = omega (arith, (c .before .before .loop) .inv .1 .0)
 
--- src/table.rt:89:9
 add-i : tie.Need-add-i Inv-loop μ-loop
 add-i c = omega (arith, (c .before .before .loop) .inv .1 .0)
 
--- src/table.rt:87:5
 loop-less : tie.Need-loop-less Inv-loop μ-loop
 loop-less c = omega arith
 
--- src/table.rt:87:5
 loop-again : tie.Need-loop-again Inv-loop μ-loop
 loop-again c = (omega arith, (length-set ((c .before .before .loop) .next) ((c .before .before .loop) .i) ((c .end-entry) .result) ∙ (c .before .before .loop) .inv .1 .0, filled-one endEntry ((c .before .before .loop) .next) ((c .before .before .loop) .i) ((c .end-entry) .result) (omega (arith, (c .before .before .loop) .inv .1 .0)) ((c .before .before .loop) .inv .1 .1) ((c .end-entry) .ensures)))
 
--- src/table.rt:82:1
 same-length : tie.Need-same-length Inv-loop μ-loop
 same-length c = (c .before .loop) .inv .1 .0
 
--- src/table.rt:82:1
 returns : tie.Need-returns Inv-loop μ-loop
 returns c = (λ k h. (c .before .loop) .inv .1 .1 k (omega (arith, (c .before .loop) .inv .0)), (c .before .loop) .inv .1 .0)
 
