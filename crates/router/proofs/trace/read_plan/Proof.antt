@@ -15,9 +15,6 @@ use Rattle.optimum.specs.Table.{value}
 use Rattle.optimum.specs.Demand.{radices, demandOf}
 use Rattle.optimum.specs.Routing.{routing, allActions}
 use Rattle.router.specs.States.{stateOf}
-use lib.ListN.{replicate}
-use Rattle.rules.specs.declared.Action.the-variants.{Void}
-use Rattle.rules.specs.declared.Passage.the-variants.{P00}
 use Rattle.router.proofs.trace.read_plan.Statement.{statement}
 use Rattle.router.proofs.trace.read_plan.Tie as tie
 
@@ -32,7 +29,8 @@ sub-t17 c = omega (arith, (c .before .before) .pre .2 .small .0)
 
 loop-holds : tie.Need-loop-holds Inv-loop μ-loop
 unfolding jobOf
-loop-holds c = (refl, subst (λ w. Traced (jobOf ((c .before .before) .args .job)) (replicate 16 (record { action = Void; passage = P00 })) 0 0 (w - 1)) (sym ((c .before .before) .pre .2 .counted)) (trace-start (jobOf ((c .before .before) .args .job)) ((c .before .before) .pre .0 .admitted) (replicate 16 (record { action = Void; passage = P00 })) refl))
+loop-holds c =
+    (refl, rw ((c .before .before) .pre .2 .counted) (trace-start (jobOf ((c .before .before) .args .job)) ((c .before .before) .pre .0 .admitted) _ refl))
 
 slice-aggregate-next-row : tie.Need-slice-aggregate-next-row Inv-loop μ-loop
 slice-aggregate-next-row c = omega (arith, (c .before .before .loop) .inv .0)
