@@ -185,5 +185,5 @@ module _ (z : Layout) where
         )
 
     -- the first walk of a lawful plan is one of its walks, and not after any of them
-    pub first-walk : WellFormed z plan → Lawful z plan → WalkOf z plan (firstWalk z plan) × ((walk : Walk) → WalkOf z plan walk → NotAfter (firstWalk z plan) walk)
-    first-walk wf law = let w = lawful-walked z plan wf law p q in (found-first (w .0) (w .1) .0, λ walk v. found-first walk v .1)
+    pub first-walk : Lawful z plan → WalkOf z plan (firstWalk z plan) × ((walk : Walk) → WalkOf z plan walk → NotAfter (firstWalk z plan) walk)
+    first-walk law = let w = lawful-walked z plan law p q in (found-first (w .0) (w .1) .0, λ walk v. found-first walk v .1)

@@ -59,8 +59,8 @@ module _ (z : Layout) where
         λ e u. step s (t .edge, still s (t .edge) h) (joins-turn z s x (stepTo x d) (t .joins)) (j e u)
 
   -- the treads of a lawful plan can be walked from the depot
-  pub lawful-ready : (plan : Plan) → 1 ≤ z .depot → z .depot ≤ z .aisles → WellFormed z plan → Lawful z plan → Ready z (multiplicity plan) (depotPoint z)
-  lawful-ready plan p q wf law = record { point = depot-point z p q; balanced = lawful-balanced z plan wf law; joined = lawful-joined z plan wf law }
+  pub lawful-ready : (plan : Plan) → 1 ≤ z .depot → z .depot ≤ z .aisles → Lawful z plan → Ready z (multiplicity plan) (depotPoint z)
+  lawful-ready plan p q law = record { point = depot-point z p q; balanced = lawful-balanced z plan law; joined = lawful-joined z plan law }
 
   module _ (test : LetterTest) (right : TellsJoined z test) where
     -- one letter of the search and of the greedy walk, where they agree on what follows
@@ -122,8 +122,8 @@ module _ (z : Layout) where
         pick n left x r e (λ rest y. greedy-found n rest y) (admits z test left x Back) (admits z test left x Front) (admits z test left x Left) (admits z test left x Right) refl refl refl refl
 
     -- the greedy walk of a lawful plan is its first walk
-    pub greedy-first : (plan : Plan) → 1 ≤ z .depot → z .depot ≤ z .aisles → WellFormed z plan → Lawful z plan
+    pub greedy-first : (plan : Plan) → 1 ≤ z .depot → z .depot ≤ z .aisles → Lawful z plan
         → greedy z test (stepsOf z (multiplicity plan)) (multiplicity plan) (depotPoint z) ≡ firstWalk z plan
     unfolding firstWalk
-    greedy-first plan p q wf law =
-        sym (ap (λ (o : Option Walk). Option·getD o []) (greedy-found (stepsOf z (multiplicity plan)) (multiplicity plan) (depotPoint z) (lawful-ready plan p q wf law) refl))
+    greedy-first plan p q law =
+        sym (ap (λ (o : Option Walk). Option·getD o []) (greedy-found (stepsOf z (multiplicity plan)) (multiplicity plan) (depotPoint z) (lawful-ready plan p q law) refl))

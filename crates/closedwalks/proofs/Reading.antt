@@ -136,6 +136,7 @@ module _ (z : Layout) (t : Edge → ℕ) (r : Readable z t) where
       let fro : Covers z (multiplicity plan) t = λ e i h. omega (arith, eq e i) in
       let d = r .touched in
       record {
+        well-formed = wf;
         front-even = λ j p q. rw (← plan-front z plan wf j p q) (evenly (record { aisle = j; height = 0 }) (record { first = p; last = q; high = omega arith }));
         back-even = λ j p q. rw (← plan-back z plan wf j p q) (evenly (record { aisle = j; height = suc (z .cells) }) (record { first = p; last = q; high = omega arith }));
         together = joined-together z (multiplicity plan) (depotPoint z) (joined-same z t (multiplicity plan) (depotPoint z) to fro (r .joined));
@@ -143,5 +144,5 @@ module _ (z : Layout) (t : Edge → ℕ) (r : Readable z t) where
       }
 
   -- such treads are those of a lawful plan
-  pub reads : 1 ≤ z .aisles → (plan : Plan) × WellFormed z plan × ((e : Edge) → InStore z e → multiplicity plan e ≡ t e) × Lawful z plan
-  reads h = let p = plan-read h in (p .0, p .1, p .2, read-lawful (p .0) (p .1) (p .2))
+  pub reads : 1 ≤ z .aisles → (plan : Plan) × Lawful z plan × ((e : Edge) → InStore z e → multiplicity plan e ≡ t e)
+  reads h = let p = plan-read h in (p .0, read-lawful (p .0) (p .1) (p .2), p .2)

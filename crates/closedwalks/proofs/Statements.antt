@@ -28,26 +28,26 @@ use Rattle.closedwalks.proofs.Serving.{serves-too}
 
 module _ (z : Layout) (low : 1 ≤ z .depot) (high : z .depot ≤ z .aisles) where
   -- every lawful plan has a closed walk that treads each edge exactly as the plan says
-  pub lawful-walked : (plan : Plan) → WellFormed z plan → Lawful z plan → (walk : Walk) × WalkOf z plan walk
-  lawful-walked plan wf law = Walked.lawful-walked z plan wf law low high
+  pub lawful-walked : (plan : Plan) → Lawful z plan → (walk : Walk) × WalkOf z plan walk
+  lawful-walked plan law = Walked.lawful-walked z plan law low high
 
   -- its first walk is one of them, and none of them comes before it in the alphabet
-  pub first-walk : (plan : Plan) → WellFormed z plan → Lawful z plan → WalkOf z plan (firstWalk z plan) × ((walk : Walk) → WalkOf z plan walk → NotAfter (firstWalk z plan) walk)
+  pub first-walk : (plan : Plan) → Lawful z plan → WalkOf z plan (firstWalk z plan) × ((walk : Walk) → WalkOf z plan walk → NotAfter (firstWalk z plan) walk)
   first-walk = First.first-walk z low high
 
   -- the first walk takes at each point the first letter behind which all that remains can be reached, whatever test tells that
-  pub greedy-first : (test : LetterTest) → TellsJoined z test → (plan : Plan) → WellFormed z plan → Lawful z plan
+  pub greedy-first : (test : LetterTest) → TellsJoined z test → (plan : Plan) → Lawful z plan
       → greedy z test (stepsOf z (multiplicity plan)) (multiplicity plan) (depotPoint z) ≡ firstWalk z plan
   greedy-first test tells plan = Greedily.greedy-first z test tells plan low high
 
   -- a closed walk that treads some edge, and none more than twice, reads as a lawful plan
   pub walk-reads : (walk : Walk) → ¬ (walk ≡ []) → ClosedWalk z walk → ((e : Edge) → InStore z e → walkTreads z walk e ≤ 2)
-      → (plan : Plan) × WellFormed z plan × ((e : Edge) → InStore z e → multiplicity plan e ≡ walkTreads z walk e) × Lawful z plan
+      → (plan : Plan) × Lawful z plan × ((e : Edge) → InStore z e → multiplicity plan e ≡ walkTreads z walk e)
   walk-reads = WalkReads.walk-reads z low high
 
   -- for every closed walk with a step, however often it treads an edge, a lawful plan passes the same cells and is no longer
   pub walk-plan : (walk : Walk) → ¬ (walk ≡ []) → ClosedWalk z walk
-      → (plan : Plan) × WellFormed z plan × Lawful z plan
+      → (plan : Plan) × Lawful z plan
       × ((j c : ℕ) → walkPasses z walk j c ≡ true → 1 ≤ c → c ≤ z .cells → planPasses plan j c ≡ true)
       × (planLength z plan ≤ walkLength z walk)
   walk-plan = WalkReads.walk-plan z low high
@@ -80,8 +80,8 @@ plan-determined = Determined.plan-determined
 pub walk-plan-serves : (job : Job) → 1 ≤ job .layout .depot → job .layout .depot ≤ job .layout .aisles
     → ((r : StockRecord) → List·Memᴰ r (job .stock) → (1 ≤ r .cell) × (r .cell ≤ job .layout .cells))
     → (walk : Walk) → ¬ (walk ≡ []) → ClosedWalk (job .layout) walk → WalkServes job walk
-    → (plan : Plan) × WellFormed (job .layout) plan × Lawful (job .layout) plan × PlanServes job plan × (planLength (job .layout) plan ≤ walkLength (job .layout) walk)
+    → (plan : Plan) × Lawful (job .layout) plan × PlanServes job plan × (planLength (job .layout) plan ≤ walkLength (job .layout) walk)
 unfolding PlanServes WalkServes
 walk-plan-serves job low high cells walk some closed serves =
     let t = walk-plan (job .layout) low high walk some closed in
-    (t .0, t .1, t .2, serves-too job (walkPasses (job .layout) walk) (planPasses (t .0)) (λ r m h. t .3 (r .aisle) (r .cell) h (cells r m .0) (cells r m .1)) serves, t .4)
+    (t .0, t .1, serves-too job (walkPasses (job .layout) walk) (planPasses (t .0)) (λ r m h. t .2 (r .aisle) (r .cell) h (cells r m .0) (cells r m .1)) serves, t .3)

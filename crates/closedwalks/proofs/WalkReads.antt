@@ -100,7 +100,7 @@ module _ (z : Layout) where
 
     -- a closed walk that treads no edge more than twice has exactly the treads of a lawful plan
     pub walk-reads : ((e : Edge) → InStore z e → walkTreads z walk e ≤ 2)
-        → (plan : Plan) × WellFormed z plan × ((e : Edge) → InStore z e → multiplicity plan e ≡ walkTreads z walk e) × Lawful z plan
+        → (plan : Plan) × Lawful z plan × ((e : Edge) → InStore z e → multiplicity plan e ≡ walkTreads z walk e)
     unfolding walkTreads timesIn
     walk-reads few = reads z treads (record { few = few; even = walk-even; joined = joined; cut = λ j u v. cut-even j; touched = walk-touched }) (omega arith)
 
@@ -145,7 +145,7 @@ module _ (z : Layout) where
         (omega (arith, t .1, degree-cell z treads j c u v, eq (along j (c - 1)) (low, high, omega arith), eq (along j c) (low, high, v)))
 
     -- whatever a closed walk treads, a lawful plan passes the same cells and is no longer
-    pub walk-plan : (plan : Plan) × WellFormed z plan × Lawful z plan
+    pub walk-plan : (plan : Plan) × Lawful z plan
         × ((j c : ℕ) → walkPasses z walk j c ≡ true → 1 ≤ c → c ≤ z .cells → planPasses plan j c ≡ true)
         × (planLength z plan ≤ walkLength z walk)
     unfolding planLength lengthOf
@@ -153,7 +153,6 @@ module _ (z : Layout) where
         let r = reads z clamped clamped-readable (omega arith) in (
           r .0,
           r .1,
-          r .3,
           clamped-passes (r .0) (r .2),
           omega (arith, clamped-length, sum-same z (λ e. multiplicity (r .0) e * distance z e) (λ e. clamped e * distance z e) (λ e i. rw (r .2 e i))),
         )

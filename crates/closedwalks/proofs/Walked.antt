@@ -44,7 +44,10 @@ module _ (z : Layout) where
   unfolding walkTreads timesIn
   of-walk plan walk w = w .treads
 
-  module _ (plan : Plan) (wf : WellFormed z plan) (law : Lawful z plan) where
+  module _ (plan : Plan) (law : Lawful z plan) where
+    wf : WellFormed z plan
+    wf = law .well-formed
+
     even-point : (p : Point) → PointOf z p → degree z (multiplicity plan) p % 2 ≡ 0
     even-point =
         each-point z (λ p. degree z (multiplicity plan) p % 2 ≡ 0)

@@ -17,7 +17,8 @@ use Rattle.rules.specs.Serving.{supply, Serves, PlanServes, WalkServes}
 use Rattle.rules.specs.Walks.{Walk, ClosedWalk, walkPasses, walkLength}
 use Rattle.rules.specs.BestPlan.{bestPlan, servingPlans, PlanBefore}
 use Rattle.rules.specs.Refusals.{Admitted}
-use Rattle.rules.proofs.Admission.{LayoutWithin, layout-within, stock-within, list-within}
+use Rattle.rules.specs.Store.{LayoutWithin}
+use Rattle.rules.proofs.Admission.{layout-within, stock-within, list-within}
 use Rattle.rules.proofs.Enumeration.{serving-plans, serving-plans-ordered, best-plan-first-shortest, first-shortest-first}
 use Rattle.tours.proofs.Machine.{accepts-allowed}
 use Rattle.tours.proofs.Existence.{serving-exists}

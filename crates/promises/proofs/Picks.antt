@@ -11,15 +11,15 @@ use Rattle.rules.specs.declared.Layout.{Layout}
 use Rattle.rules.specs.declared.StockRecord.{StockRecord}
 use Rattle.rules.specs.declared.OrderLine.{OrderLine}
 use Rattle.rules.specs.declared.Pick.{Pick}
-use Rattle.rules.specs.Lists.{from, sumOf}
+use Rattle.rules.specs.Lists.{from, sumOf, Sorted}
 use Rattle.rules.specs.Store.{Point}
 use Rattle.rules.specs.Jobs.{Job}
 use Rattle.rules.specs.Plans.{Plan, planPasses}
 use Rattle.rules.specs.Serving.{supply, Serves, PlanServes}
-use Rattle.rules.specs.Refusals.{Admitted}
+use Rattle.rules.specs.Refusals.{Admitted, RecordWithin}
 use Rattle.rules.specs.Picks.{cellsOf, lackOf, lessOf, recordAt, taken, addPick, picksFrom, found, passedRecords, picksOf}
-use Rattle.rules.proofs.Lists.{sum-agree, sum-plus, sum-map, sum-concat, Sorted, sorted-map}
-use Rattle.rules.proofs.Admission.{RecordWithin, stock-within, cells-once, articles-once}
+use Rattle.rules.proofs.Lists.{sum-agree, sum-plus, sum-map, sum-concat, sorted-map}
+use Rattle.rules.proofs.Admission.{stock-within, cells-once, articles-once}
 use Rattle.closedwalks.proofs.Sums.{sum-none, sum-from}
 use Rattle.promises.specs.Contents.{picked}
 

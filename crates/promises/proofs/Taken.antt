@@ -12,12 +12,12 @@ use Rattle.rules.specs.declared.Layout.{Layout}
 use Rattle.rules.specs.declared.StockRecord.{StockRecord}
 use Rattle.rules.specs.declared.OrderLine.{OrderLine}
 use Rattle.rules.specs.declared.Pick.{Pick}
-use Rattle.rules.specs.Lists.{from, firstOf}
+use Rattle.rules.specs.Lists.{from, firstOf, Sorted}
 use Rattle.rules.specs.Store.{Point}
 use Rattle.rules.specs.Jobs.{Job}
 use Rattle.rules.specs.Plans.{Plan, planPasses}
 use Rattle.rules.specs.Picks.{cellsOf, lessOf, recordAt, taken, picksFrom, found, passedRecords, picksOf}
-use Rattle.rules.proofs.Lists.{member-concat, Sorted, sorted-concat, sorted-map, sorted-from}
+use Rattle.rules.proofs.Lists.{member-concat, sorted-concat, sorted-map, sorted-from}
 use Rattle.promises.specs.Contents.{TakenFrom, CellBefore, PickBefore}
 
 -- a pick takes from a record

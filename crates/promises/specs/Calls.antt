@@ -22,7 +22,7 @@ use Rattle.rules.specs.BestPlan.{PlanBefore}
 use Rattle.rules.specs.Refusals.{numberOf}
 use Rattle.rules.specs.Sheet.{sheetText}
 use Rattle.rules.specs.Answers.{Answer, answer, replyNumber, replyLength, cleared}
-use Rattle.rules.proofs.Lists.{Sorted}
+use Rattle.rules.specs.Lists.{Sorted}
 use Rattle.promises.specs.Causes.{JobFileOf, workAfter}
 use Rattle.promises.specs.Contents.{Content, contentText, picked, TakenFrom, PickBefore}
 

@@ -7,11 +7,11 @@ use mathlib.Core.Bool.{Bool, true, false}
 use Rattle.rules.specs.declared.Layout.{Layout}
 use Rattle.rules.specs.declared.Action.{Action}
 use Rattle.rules.specs.declared.Action.the-variants.{Void, Bottom, Top, Gap, Once, Twice}
-use Rattle.rules.specs.Store.{position, aisleLength, layoutInBounds}
+use Rattle.rules.specs.Store.{position, aisleLength, layoutInBounds, LayoutWithin}
 use Rattle.rules.specs.Plans.{Fits}
 use Rattle.rules.specs.Lengths.{actionLength}
 use Rattle.rules.specs.Policies.{halved}
-use Rattle.rules.proofs.Admission.{LayoutWithin, layout-within}
+use Rattle.rules.proofs.Admission.{layout-within}
 use Rattle.rules.proofs.Lengths.{position-front, position-back, position-within}
 use Rattle.router.specs.Candidates.{candidateOf, actionOf, lengthOfParts, candidateLength, halvesOfParts, candidateHalves}
 

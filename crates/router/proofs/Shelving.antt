@@ -13,11 +13,11 @@ use lib.Seq.{getD-set-same, getD-set-other, getD-take, take-all, take-suc, ext-g
 use borrow.Author.Tests.{eq-eqb, ne-eqb, lt-ltb}
 use Rattle.rules.specs.declared.StockRecord.{StockRecord}
 use Rattle.rules.specs.declared.OrderLine.{OrderLine}
-use Rattle.rules.specs.Lists.{sumOf, anyOf, anyTwo}
+use Rattle.rules.specs.Lists.{sumOf, anyOf, anyTwo, Sorted}
 use Rattle.rules.specs.Jobs.{Job, listed, holdsListed}
-use Rattle.rules.specs.Refusals.{sameCell, sameArticle, Admitted}
-use Rattle.rules.proofs.Lists.{sum-append, any-false, any-true, Sorted, no-two-alike}
-use Rattle.rules.proofs.Admission.{stock-within, layout-within, RecordWithin}
+use Rattle.rules.specs.Refusals.{sameCell, sameArticle, Admitted, RecordWithin}
+use Rattle.rules.proofs.Lists.{sum-append, any-false, any-true, no-two-alike}
+use Rattle.rules.proofs.Admission.{stock-within, layout-within}
 use Rattle.values.specs.declared.JobValue.{JobValue}
 use Rattle.values.specs.Values.{jobOf, Sound}
 use Rattle.router.specs.declared.demand.Shelf.{Shelf}

@@ -14,11 +14,11 @@ use Rattle.rules.specs.declared.StockRecord.{StockRecord}
 use Rattle.rules.specs.declared.OrderLine.{OrderLine}
 use Rattle.rules.specs.declared.Refusal.{Refusal}
 use Rattle.rules.specs.declared.Refusal.the-variants.{LayoutBounds, StockBounds, CellTwice, ListBounds, ArticleTwice, TooHeavy, ShortOfStock}
-use Rattle.rules.specs.Lists.{anyTwo}
-use Rattle.rules.specs.Store.{within, layoutInBounds}
+use Rattle.rules.specs.Lists.{anyTwo, Sorted}
+use Rattle.rules.specs.Store.{within, layoutInBounds, LayoutWithin}
 use Rattle.rules.specs.Jobs.{Job}
-use Rattle.rules.specs.Refusals.{recordInBounds, stockInBounds, sameCell, lineInBounds, listInBounds, sameArticle, weight, allStock, shortOfStock, numberOf, firstRow, jobRows, jobRefusal, Admitted}
-use Rattle.rules.proofs.Lists.{all-true, any-false, any-true, Sorted, sorted-imply, no-two-alike, alike-members}
+use Rattle.rules.specs.Refusals.{recordInBounds, stockInBounds, sameCell, lineInBounds, listInBounds, sameArticle, weight, allStock, shortOfStock, numberOf, firstRow, jobRows, jobRefusal, Admitted, RecordWithin, StockWithin, LineWithin, ListWithin}
+use Rattle.rules.proofs.Lists.{all-true, any-false, any-true, sorted-imply, no-two-alike, alike-members}
 
 -- what tests of numbers say
 within-bounds : (a b n : ℕ) → (within a b n ≡ true) ↔ ((a ≤ n) × (n ≤ b))
@@ -46,16 +46,6 @@ once {A} alike P says xs = (
     go x y true e h = absurd (h (says x y .0 e))
     go x y false e h = e
 
--- the bounds of the layout's numbers
-pub record LayoutWithin (z : Layout) : Type 0 where
-  pub aisles : (1 ≤ z .aisles) × (z .aisles ≤ 16)
-  pub cells : (1 ≤ z .cells) × (z .cells ≤ 24)
-  pub front : (1 ≤ z .front) × (z .front ≤ 60)
-  pub pitch : (1 ≤ z .pitch) × (z .pitch ≤ 30)
-  pub back : (1 ≤ z .back) × (z .back ≤ 60)
-  pub width : (1 ≤ z .width) × (z .width ≤ 400)
-  pub depot : (1 ≤ z .depot) × (z .depot ≤ z .aisles)
-
 -- the test of the layout's numbers says so
 pub layout-within : (z : Layout) → (layoutInBounds z ≡ true) ↔ LayoutWithin z
 unfolding layoutInBounds
@@ -64,18 +54,6 @@ layout-within z =
       λ p. record { aisles = p .0 .0 .0 .0 .0 .0; cells = p .0 .0 .0 .0 .0 .1; front = p .0 .0 .0 .0 .1; pitch = p .0 .0 .0 .1; back = p .0 .0 .1; width = p .0 .1; depot = p .1 },
       λ b. ((((((b .aisles, b .cells), b .front), b .pitch), b .back), b .width), b .depot),
     )
-
--- the bounds of a stock record
-pub record RecordWithin (z : Layout) (r : StockRecord) : Type 0 where
-  pub aisle : (1 ≤ r .aisle) × (r .aisle ≤ z .aisles)
-  pub cell : (1 ≤ r .cell) × (r .cell ≤ z .cells)
-  pub article : (1 ≤ r .article) × (r .article ≤ 65535)
-  pub quantity : (1 ≤ r .quantity) × (r .quantity ≤ 255)
-
--- the bounds of the stock
-pub record StockWithin (job : Job) : Type 0 where
-  pub count : length (job .stock) ≤ 384
-  pub records : (r : StockRecord) → List·Memᴰ r (job .stock) → RecordWithin (job .layout) r
 
 pub record-within : (job : Job) (r : StockRecord) → (recordInBounds job r ≡ true) ↔ RecordWithin (job .layout) r
 unfolding recordInBounds
@@ -90,16 +68,6 @@ pub stock-within : (job : Job) → (stockInBounds job ≡ true) ↔ StockWithin 
 unfolding stockInBounds
 stock-within job =
     simp (and-eq-true-iff, leb-bound, all-true, record-within) (λ p. record { count = p .0; records = p .1 }, λ b. (b .count, b .records))
-
--- the bounds of an order line
-pub record LineWithin (l : OrderLine) : Type 0 where
-  pub article : (1 ≤ l .article) × (l .article ≤ 65535)
-  pub quantity : (1 ≤ l .quantity) × (l .quantity ≤ 255)
-
--- the bounds of the list
-pub record ListWithin (job : Job) : Type 0 where
-  pub count : (1 ≤ length (job .lines)) × (length (job .lines) ≤ 8)
-  pub lines : (l : OrderLine) → List·Memᴰ l (job .lines) → LineWithin l
 
 pub line-within : (l : OrderLine) → (lineInBounds l ≡ true) ↔ LineWithin l
 unfolding lineInBounds

@@ -31,7 +31,7 @@ module _ (z : Layout) where
   unfolding position
   position-cell zero low high = absurd (omega arith)
   position-cell (suc k) low high =
-      rw (lt-ltb k (z .cells) high) (ap (λ n. z .front + n * z .pitch) (omega arith))
+      rw (lt-ltb k (z .cells) high) refl
 
   -- the back crossing, and any height beyond it
   pub position-back : (i : ℕ) → z .cells < i → position z i ≡ aisleLength z

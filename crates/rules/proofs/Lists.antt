@@ -7,7 +7,7 @@ use mathlib.Core.Bool.{Bool, true, false, cond, _&&_, _||_, true≢false, false�
 use native.Mathlib.Nat.{eq-or-lt-of-le, suc-mul}
 use native.Mathlib.Omega.{arith}
 use lib.ListN.{length}
-use Rattle.rules.specs.Lists.{from, sumOf, concatOf, nth, allOf, anyOf, anyTwo, select}
+use Rattle.rules.specs.Lists.{from, sumOf, concatOf, nth, allOf, anyOf, anyTwo, select, Sorted}
 
 -- tests joined by "or"
 or-false : (a b : Bool) → (a || b) ≡ false → (a ≡ false) × (b ≡ false)
@@ -188,11 +188,6 @@ module _ {A B : Type 0} where
   concat-member f (List·Memᴰ·tail {x = w} m) l = Memᴰ·append-right (f w) (concat-member f m l)
 
 module _ {A : Type 0} where
-  -- each element stands in the relation to all later ones
-  abbrev pub Sorted : (A → A → Type 0) → List A → Type 0
-  Sorted R [] = Unit {0}
-  Sorted R (x ∷ xs) = ((y : A) → List·Memᴰ y xs → R x y) × Sorted R xs
-
   -- sorted by one relation, so by one that follows from it
   pub sorted-imply : (R S : A → A → Type 0) → ((x y : A) → R x y → S x y) → (xs : List A) → Sorted R xs → Sorted S xs
   sorted-imply R S h [] s = s

@@ -1,5 +1,5 @@
 -- Document 01, "Policies", the ties: the order of plans, and the first of the shortest that serve the list.
-use Prim.Native.Nat.{ℕ, zero, suc, _+_, _-_, _<_}
+use Prim.Native.Nat.{ℕ, zero, suc, _+_, _-_, _≤_, _<_}
 use mathlib.Core.Path.{_≡_}
 use mathlib.Core.Logic.{_⊎_}
 use mathlib.Core.List.{List, [], _∷_, _++_, map, reverse}
@@ -15,7 +15,8 @@ use Rattle.rules.specs.declared.Passage.the-variants.{P00, P02, P11, P20
 use Rattle.rules.specs.Lists.{from, select, concatOf}
 use Rattle.rules.specs.Jobs.{Job}
 use Rattle.rules.specs.Plans.{Plan, planLength, planPasses}
-use Rattle.rules.specs.Serving.{serves}
+use Rattle.rules.specs.Serving.{serves, PlanServes}
+use Rattle.rules.specs.Policies.{Allowed}
 use Rattle.rules.specs.Machine.{accepts}
 
 -- the numbers from n down to 1
@@ -30,7 +31,7 @@ actionsOf cells =
     ++ (map Top (downFrom cells)
     ++ (concatOf (λ h. map (Gap h) (from (suc h) (cells - h))) (from 1 cells) ++ (Once ∷ Twice ∷ [])))
 
--- the passages in rank order
+-- the passages in rank order: 00, 02, 11, 20, 22
 unfoldable pub passagesInOrder : List Passage
 passagesInOrder = P00 ∷ P02 ∷ P11 ∷ P20 ∷ P22 ∷ []
 
@@ -76,6 +77,7 @@ pub data Before (cells : ℕ) : List Action → List Passage → List Action →
   by-passage : {a : Action} {xs ys : List Action} {p q : Passage} {ps qs : List Passage} → passageRank p < passageRank q → Before cells (a ∷ xs) (p ∷ ps) (a ∷ ys) (q ∷ qs)
   further : {a : Action} {xs ys : List Action} {p : Passage} {ps qs : List Passage} → Before cells xs ps ys qs → Before cells (a ∷ xs) (p ∷ ps) (a ∷ ys) (p ∷ qs)
 
+-- the same of whole plans
 unfoldable pub PlanBefore : ℕ → Plan → Plan → Type 0
 PlanBefore cells x y = Before cells (x .actions) (x .passages) (y .actions) (y .passages)
 
@@ -90,7 +92,8 @@ module _ {A : Type 0} where
   firstShortest len [] = none
   firstShortest len (x ∷ xs) = some (shorterOf len x (firstShortest len xs))
 
--- the plans that the job's policy allows and that serve its list, in order
+-- the plans that the job's policy allows and that serve its list, in order. `accepts` (Machine) is the executable test of
+-- `Allowed` (Policies): that the two agree is proved (tours/proofs/Machine, `accepts-allowed`)
 unfoldable pub servingPlans : Job → List Plan
 servingPlans job =
     select (λ plan. accepts job plan && serves job (planPasses plan)) (plansOf (job .layout .cells) (job .layout .aisles))
@@ -103,3 +106,12 @@ emptyPlan z = record { actions = replicate (z .aisles) Void; passages = replicat
 -- the plan that treads nothing only stands in where there is none.)
 unfoldable pub bestPlan : Job → Plan
 bestPlan job = Option·getD (firstShortest (planLength (job .layout)) (servingPlans job)) (emptyPlan (job .layout))
+
+-- its declarative twin: the policy allows the plan and it serves the list; no other such plan is shorter;
+-- and of those that are no longer it is the first in the order of plans.
+-- That this is `bestPlan`, and no other plan, for every job that is not refused is proved (optimum/proofs/Best, `best-plan`)
+pub record IsBest (job : Job) (plan : Plan) : Type 0 where
+  pub allowed : Allowed job plan
+  pub serving : PlanServes job plan
+  pub least : (other : Plan) → Allowed job other → PlanServes job other → planLength (job .layout) plan ≤ planLength (job .layout) other
+  pub first : (other : Plan) → Allowed job other → PlanServes job other → planLength (job .layout) other ≤ planLength (job .layout) plan → (other ≡ plan) ⊎ PlanBefore (job .layout .cells) plan other

@@ -4,7 +4,7 @@ use mathlib.Core.Path.{_≡_}
 use mathlib.Core.Logic.{_⊎_}
 use Rattle.rules.specs.declared.Layout.{Layout}
 use Rattle.rules.specs.Store.{Point, Edge, along, front, back, startOf, endOf, Joins, InStore, depotPoint}
-use Rattle.rules.specs.Plans.{Plan, multiplicity}
+use Rattle.rules.specs.Plans.{Plan, WellFormed, multiplicity}
 
 -- how often the edges at the front crossing of aisle j are trodden; no edge leads beyond the first and the last aisle
 unfoldable pub frontDegree : (Edge → ℕ) → ℕ → ℕ
@@ -27,9 +27,10 @@ pub data Linked (z : Layout) (treads : Edge → ℕ) (y : Point) : Point → Typ
   here : Linked z treads y y
   step : {x w : Point} (e : Edge) → Trodden z treads e → Joins z e x w → Linked z treads y w → Linked z treads y x
 
--- "lawful": each crossing has an even number of treads, all trodden edges hang together,
+-- "lawful": a plan of the store in which each crossing has an even number of treads, all trodden edges hang together,
 -- and the depot's crossing touches one of them
 pub record Lawful (z : Layout) (plan : Plan) : Type 0 where
+  pub well-formed : WellFormed z plan
   pub front-even : (j : ℕ) → 1 ≤ j → j ≤ z .aisles → frontDegree (multiplicity plan) j % 2 ≡ 0
   pub back-even : (j : ℕ) → 1 ≤ j → j ≤ z .aisles → backDegree z (multiplicity plan) j % 2 ≡ 0
   pub together : (x y : Point) → Touched z (multiplicity plan) x → Touched z (multiplicity plan) y → Linked z (multiplicity plan) y x

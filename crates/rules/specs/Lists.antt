@@ -1,6 +1,6 @@
 -- Lists: the few functions that the definitions are written with.
 use Prim.Native.Nat.{ℕ, zero, suc, _+_, _*_}
-use mathlib.Core.List.{List, [], _∷_, _++_}
+use mathlib.Core.List.{List, [], _∷_, _++_, List·Memᴰ}
 use mathlib.Core.Bool.{Bool, true, false, _&&_, _||_, cond}
 use mathlib.Core.Option.{Option, none, some}
 
@@ -52,9 +52,15 @@ module _ {A : Type 0} where
   nth (x ∷ xs) (suc zero) d = x
   nth (x ∷ xs) (suc (suc j)) d = nth xs (suc j) d
 
+  -- the first element; d where there is none
   abbrev pub headOr : A → List A → A
   headOr d [] = d
   headOr d (x ∷ xs) = x
+
+  -- each element stands in the relation to all later ones
+  abbrev pub Sorted : (A → A → Type 0) → List A → Type 0
+  Sorted R [] = Unit {0}
+  Sorted R (x ∷ xs) = ((y : A) → List·Memᴰ y xs → R x y) × Sorted R xs
 
 -- the lists of f, one behind the other
 abbrev pub concatOf : {A B : Type 0} → (A → List B) → List A → List B

@@ -13,6 +13,33 @@ use Rattle.rules.specs.declared.Passage.the-variants.{P00, P02, P11, P20
 use Rattle.rules.specs.Lists.{sumOf, nth}
 use Rattle.rules.specs.Store.{Edge, along, front, back, distance, edgesOf}
 
+-- the kinds of actions, in document 01's words
+pub data Kind : Type 0 where
+  VOID : Kind
+  BOTTOM : Kind
+  TOP : Kind
+  GAP : Kind
+  ONCE : Kind
+  TWICE : Kind
+
+-- the kind of an action
+abbrev pub kindOf : Action → Kind
+kindOf Void = VOID
+kindOf (Bottom i) = BOTTOM
+kindOf (Top i) = TOP
+kindOf (Gap h i) = GAP
+kindOf Once = ONCE
+kindOf Twice = TWICE
+
+-- the rank of a kind: VOID, BOTTOM, TOP, GAP, ONCE, TWICE
+abbrev pub kindRank : Kind → ℕ
+kindRank VOID = 0
+kindRank BOTTOM = 1
+kindRank TOP = 2
+kindRank GAP = 3
+kindRank ONCE = 4
+kindRank TWICE = 5
+
 -- one action per aisle, and one passage per pair of neighbouring aisles
 pub record Plan : Type 0 where
   pub actions : List Action
@@ -50,7 +77,7 @@ aisleTreads (Gap h i) k = cond (ltb k h || leb i k) 2 0
 aisleTreads Once k = 1
 aisleTreads Twice k = 2
 
--- a passage's digits: the treads of the back cross-aisle, then of the front one
+-- a passage's two digits: how often it treads the back cross-aisle
 abbrev pub backTreads : Passage → ℕ
 backTreads P00 = 0
 backTreads P02 = 0
@@ -58,6 +85,7 @@ backTreads P11 = 1
 backTreads P20 = 2
 backTreads P22 = 2
 
+-- and of the front cross-aisle
 abbrev pub frontTreads : Passage → ℕ
 frontTreads P00 = 0
 frontTreads P02 = 2

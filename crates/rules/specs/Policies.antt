@@ -3,7 +3,7 @@ use Prim.Native.Nat.{ℕ, zero, suc, _+_, _*_, _%_, _≤_, _<_}
 use mathlib.Core.Path.{_≡_}
 use mathlib.Core.List.{List, [], _∷_}
 use mathlib.Core.Bool.{Bool, true, false, cond, _&&_}
-use lib.Dec.{leb}
+use lib.Dec.{leb, eqb}
 use Rattle.rules.specs.declared.Layout.{Layout}
 use Rattle.rules.specs.declared.Policy.{Policy}
 use Rattle.rules.specs.declared.Policy.the-variants.{Exact, Return, Traversal, Midpoint, Composite}
@@ -11,44 +11,36 @@ use Rattle.rules.specs.declared.Action.{Action}
 use Rattle.rules.specs.declared.Action.the-variants.{Void, Bottom, Top, Gap, Once, Twice}
 use Rattle.rules.specs.declared.Passage.{Passage}
 use Rattle.rules.specs.declared.Passage.the-variants.{P00, P02, P11, P20, P22}
-use Rattle.rules.specs.Lists.{sumOf}
+use Rattle.rules.specs.Lists.{sumOf, anyOf}
 use Rattle.rules.specs.Store.{aisleLength, position}
 use Rattle.rules.specs.Jobs.{Job, holdsListed}
-use Rattle.rules.specs.Plans.{Plan, actionAt, passageAt, entered}
+use Rattle.rules.specs.Plans.{Plan, Kind, VOID, BOTTOM, TOP, GAP, ONCE, TWICE, kindOf, kindRank, actionAt, passageAt, backTreads, frontTreads, entered}
 use Rattle.rules.specs.Lawful.{Lawful}
 
--- a choice of the kinds VOID, BOTTOM, TOP, GAP, ONCE, TWICE
-abbrev pub isKind : (void bottom top gap once twice : Bool) → Action → Bool
-isKind v b t g o w Void = v
-isKind v b t g o w (Bottom i) = b
-isKind v b t g o w (Top i) = t
-isKind v b t g o w (Gap h i) = g
-isKind v b t g o w Once = o
-isKind v b t g o w Twice = w
-
--- the actions that a policy names
-abbrev pub actionNamed : Policy → Action → Bool
-actionNamed Exact = isKind true true true true true true
-actionNamed Return = isKind true true false false false false
-actionNamed Traversal = isKind true true false false true false
-actionNamed Midpoint = isKind true true true true true false
-actionNamed Composite = isKind true true true false true false
-
--- a choice of the passages 00, 02, 11, 20, 22
-abbrev pub isOneOf : (p00 p02 p11 p20 p22 : Bool) → Passage → Bool
-isOneOf a b c d e P00 = a
-isOneOf a b c d e P02 = b
-isOneOf a b c d e P11 = c
-isOneOf a b c d e P20 = d
-isOneOf a b c d e P22 = e
+-- the kinds of actions that a policy names
+abbrev pub kindsNamed : Policy → List Kind
+kindsNamed Exact = VOID ∷ BOTTOM ∷ TOP ∷ GAP ∷ ONCE ∷ TWICE ∷ []
+kindsNamed Return = VOID ∷ BOTTOM ∷ []
+kindsNamed Traversal = VOID ∷ BOTTOM ∷ ONCE ∷ []
+kindsNamed Midpoint = VOID ∷ BOTTOM ∷ TOP ∷ GAP ∷ ONCE ∷ []
+kindsNamed Composite = VOID ∷ BOTTOM ∷ TOP ∷ ONCE ∷ []
 
 -- the passages that a policy names
+abbrev pub passagesNamed : Policy → List Passage
+passagesNamed Exact = P00 ∷ P02 ∷ P11 ∷ P20 ∷ P22 ∷ []
+passagesNamed Return = P00 ∷ P02 ∷ []
+passagesNamed Traversal = P00 ∷ P02 ∷ P11 ∷ []
+passagesNamed Midpoint = P00 ∷ P02 ∷ P11 ∷ []
+passagesNamed Composite = P00 ∷ P02 ∷ P11 ∷ P20 ∷ []
+
+-- the action is of a kind that the policy names
+abbrev pub actionNamed : Policy → Action → Bool
+actionNamed policy a = anyOf (λ k. eqb (kindRank k) (kindRank (kindOf a))) (kindsNamed policy)
+
+-- the passage is one that the policy names: it has the same two digits
 abbrev pub passageNamed : Policy → Passage → Bool
-passageNamed Exact = isOneOf true true true true true
-passageNamed Return = isOneOf true true false false false
-passageNamed Traversal = isOneOf true true true false false
-passageNamed Midpoint = isOneOf true true true false false
-passageNamed Composite = isOneOf true true true true false
+passageNamed policy p =
+    anyOf (λ q. eqb (backTreads q) (backTreads p) && eqb (frontTreads q) (frontTreads p)) (passagesNamed policy)
 
 -- the number of entered aisles
 unfoldable pub enteredAisles : Plan → ℕ

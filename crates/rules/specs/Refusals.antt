@@ -1,11 +1,12 @@
 -- Document 01, the bounds of "The store" and the table of refusals: the first that applies.
 use Prim.Native.Nat.{ℕ, suc, _+_, _≤_}
 use mathlib.Core.Path.{_≡_}
-use mathlib.Core.List.{List, [], _∷_}
+use mathlib.Core.List.{List, [], _∷_, List·Memᴰ}
 use mathlib.Core.Bool.{Bool, true, false, cond, _&&_, not}
 use mathlib.Core.Option.{Option, none, some}
 use lib.Dec.{ltb, leb, eqb}
 use lib.ListN.{length}
+use Rattle.rules.specs.declared.Layout.{Layout}
 use Rattle.rules.specs.declared.StockRecord.{StockRecord}
 use Rattle.rules.specs.declared.OrderLine.{OrderLine}
 use Rattle.rules.specs.declared.Refusal.{Refusal}
@@ -28,7 +29,7 @@ numberOf TooHeavy = 7
 numberOf ShortOfStock = 8
 numberOf SheetSpace = 9
 
--- at most 384 stock records, each with aisle 1 to m, cell 1 to C, article 1 to 65,535, quantity 1 to 255
+-- a stock record has aisle 1 to m, cell 1 to C, article 1 to 65,535, quantity 1 to 255
 unfoldable pub recordInBounds : Job → StockRecord → Bool
 recordInBounds job r =
     within 1 (job .layout .aisles) (r .aisle)
@@ -36,19 +37,41 @@ recordInBounds job r =
     && within 1 65535 (r .article)
     && within 1 255 (r .quantity)
 
+-- stock records 0 to 384, each within its bounds
 unfoldable pub stockInBounds : Job → Bool
 stockInBounds job = leb (length (job .stock)) 384 && allOf (recordInBounds job) (job .stock)
+
+-- the same bounds, number by number; that the tests say so is proved (proofs/Admission)
+pub record RecordWithin (z : Layout) (r : StockRecord) : Type 0 where
+  pub aisle : (1 ≤ r .aisle) × (r .aisle ≤ z .aisles)
+  pub cell : (1 ≤ r .cell) × (r .cell ≤ z .cells)
+  pub article : (1 ≤ r .article) × (r .article ≤ 65535)
+  pub quantity : (1 ≤ r .quantity) × (r .quantity ≤ 255)
+
+pub record StockWithin (job : Job) : Type 0 where
+  pub count : length (job .stock) ≤ 384
+  pub records : (r : StockRecord) → List·Memᴰ r (job .stock) → RecordWithin (job .layout) r
 
 -- two records of one cell
 unfoldable pub sameCell : StockRecord → StockRecord → Bool
 sameCell r s = eqb (r .aisle) (s .aisle) && eqb (r .cell) (s .cell)
 
--- 1 to 8 order lines, each with article 1 to 65,535 and quantity 1 to 255
+-- an order line has an article, 1 to 65,535, and a quantity 1 to 255
 unfoldable pub lineInBounds : OrderLine → Bool
 lineInBounds l = within 1 65535 (l .article) && within 1 255 (l .quantity)
 
+-- order lines 1 to 8, each within its bounds
 unfoldable pub listInBounds : Job → Bool
 listInBounds job = within 1 8 (length (job .lines)) && allOf lineInBounds (job .lines)
+
+-- the same bounds, number by number
+pub record LineWithin (l : OrderLine) : Type 0 where
+  pub article : (1 ≤ l .article) × (l .article ≤ 65535)
+  pub quantity : (1 ≤ l .quantity) × (l .quantity ≤ 255)
+
+pub record ListWithin (job : Job) : Type 0 where
+  pub count : (1 ≤ length (job .lines)) × (length (job .lines) ≤ 8)
+  pub lines : (l : OrderLine) → List·Memᴰ l (job .lines) → LineWithin l
 
 -- two lines of one article
 unfoldable pub sameArticle : OrderLine → OrderLine → Bool

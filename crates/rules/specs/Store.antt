@@ -8,14 +8,18 @@ use lib.Dec.{ltb, leb, eqb}
 use Rattle.rules.specs.declared.Layout.{Layout}
 use Rattle.rules.specs.Lists.{from, concatOf}
 
--- L: the length of an aisle from its front crossing to its back crossing
+-- how far cell i lies from the front: f + (i − 1)·p
+abbrev pub cellPosition : Layout → ℕ → ℕ
+cellPosition z i = z .front + (i - 1) * z .pitch
+
+-- L: the length of an aisle from its front crossing to its back crossing, b beyond cell C
 unfoldable pub aisleLength : Layout → ℕ
-aisleLength z = z .front + (z .cells - 1) * z .pitch + z .back
+aisleLength z = cellPosition z (z .cells) + z .back
 
 -- the distance of a height from the front: height 0 is the front crossing, 1 to C the cells, C + 1 the back crossing
 unfoldable pub position : Layout → ℕ → ℕ
 position z zero = 0
-position z (suc k) = cond (ltb k (z .cells)) (z .front + k * z .pitch) (aisleLength z)
+position z (suc k) = cond (ltb k (z .cells)) (cellPosition z (suc k)) (aisleLength z)
 
 -- a crossing or a cell: an aisle, 1 to m, and a height in it
 pub record Point : Type 0 where
@@ -75,7 +79,7 @@ edgesOf z =
 unfoldable pub within : ℕ → ℕ → ℕ → Bool
 within a b n = leb a n && leb n b
 
--- the bounds of the layout's numbers
+-- the bounds of the layout's numbers: m 1 to 16; C 1 to 24; f and b 1 to 60; p 1 to 30; w 1 to 400; d 1 to m
 unfoldable pub layoutInBounds : Layout → Bool
 layoutInBounds z =
     within 1 16 (z .aisles)
@@ -85,6 +89,16 @@ layoutInBounds z =
     && within 1 60 (z .back)
     && within 1 400 (z .width)
     && within 1 (z .aisles) (z .depot)
+
+-- the same bounds, number by number; that the test says so is proved (proofs/Admission)
+pub record LayoutWithin (z : Layout) : Type 0 where
+  pub aisles : (1 ≤ z .aisles) × (z .aisles ≤ 16)
+  pub cells : (1 ≤ z .cells) × (z .cells ≤ 24)
+  pub front : (1 ≤ z .front) × (z .front ≤ 60)
+  pub pitch : (1 ≤ z .pitch) × (z .pitch ≤ 30)
+  pub back : (1 ≤ z .back) × (z .back ≤ 60)
+  pub width : (1 ≤ z .width) × (z .width ≤ 400)
+  pub depot : (1 ≤ z .depot) × (z .depot ≤ z .aisles)
 
 -- the same edge, as a test
 unfoldable pub sameEdge : Edge → Edge → Bool

@@ -12,12 +12,12 @@ use lib.Seq.{getD-take}
 use borrow.Author.Tests.{eqb-true, eqb-false, eq-eqb, ne-eqb}
 use Rattle.rules.specs.declared.StockRecord.{StockRecord}
 use Rattle.rules.specs.Lists.{from, concatOf, firstOf}
-use Rattle.rules.specs.Store.{Point}
+use Rattle.rules.specs.Store.{Point, LayoutWithin}
 use Rattle.rules.specs.Jobs.{Job}
 use Rattle.rules.specs.Plans.{Plan, planPasses}
 use Rattle.rules.specs.Picks.{cellsOf, recordAt, found, passedRecords}
 use Rattle.rules.proofs.Lists.{member-from}
-use Rattle.rules.proofs.Admission.{LayoutWithin, StockWithin}
+use Rattle.rules.specs.Refusals.{StockWithin}
 use Rattle.sheets.proofs.Concats.{concat-append, concat-none, concat-agree, concat-map, concat-concat, from-append, concat-shift, concat-wider}
 use Rattle.sheets.specs.Picking.{placeOf, passedBy, numberFrom, NumbersFrom}
 

@@ -13,14 +13,15 @@ use Rattle.rules.specs.declared.Layout.{Layout}
 use Rattle.rules.specs.declared.StockRecord.{StockRecord}
 use Rattle.rules.specs.declared.OrderLine.{OrderLine}
 use Rattle.rules.specs.declared.Pick.{Pick}
-use Rattle.rules.specs.Lists.{from, sumOf}
+use Rattle.rules.specs.Lists.{from, sumOf, Sorted}
 use Rattle.rules.specs.Jobs.{Job}
 use Rattle.rules.specs.Plans.{Plan, planPasses}
 use Rattle.rules.specs.Serving.{supply, Serves, PlanServes}
 use Rattle.rules.specs.Picks.{lackOf, lessOf, taken, addPick, picksFrom, passedRecords, picksOf}
-use Rattle.rules.specs.Refusals.{Admitted}
-use Rattle.rules.proofs.Lists.{sum-agree, sum-concat, member-from, Sorted, sorted-map}
-use Rattle.rules.proofs.Admission.{LayoutWithin, RecordWithin, StockWithin, layout-within, stock-within, cells-once, articles-once}
+use Rattle.rules.specs.Refusals.{Admitted, RecordWithin, StockWithin}
+use Rattle.rules.proofs.Lists.{sum-agree, sum-concat, member-from, sorted-map}
+use Rattle.rules.specs.Store.{LayoutWithin}
+use Rattle.rules.proofs.Admission.{layout-within, stock-within, cells-once, articles-once}
 use Rattle.sheets.specs.Picking.{placeOf, passedBy, numberFrom, pickedOf, takenAt, stockAt}
 use Rattle.sheets.proofs.PassedPlaces.{numbered, by-place, drop-starts, no-number}
 use Rattle.sheets.proofs.PickSteps.{lessLine}

@@ -17,7 +17,9 @@ use Rattle.rules.specs.Lists.{nth}
 use Rattle.rules.specs.Plans.{planPasses, passesCell, actionAt}
 use Rattle.rules.specs.Picks.{lackOf, lessOf}
 use Rattle.rules.proofs.Lists.{sum-append}
-use Rattle.rules.proofs.Admission.{LayoutWithin, RecordWithin, StockWithin, ListWithin, layout-within, stock-within, list-within}
+use Rattle.rules.specs.Store.{LayoutWithin}
+use Rattle.rules.specs.Refusals.{RecordWithin, StockWithin, ListWithin}
+use Rattle.rules.proofs.Admission.{layout-within, stock-within, list-within}
 use Rattle.values.specs.declared.JobValue.{JobValue}
 use Rattle.values.specs.declared.Stage.{Stage}
 use Rattle.values.specs.declared.PlanValue.{PlanValue}

@@ -78,7 +78,10 @@ up-to-left j left right x l = rw (le-leb (x .aisle) j l)
 up-to-right : (j : ℕ) (left right : Point → Bool) (x : Point) → j < x .aisle → upTo j left right x ≡ right x
 up-to-right j left right x l = rw (lt-leb (x .aisle) j l)
 
-module _ {z : Layout} {plan : Plan} (wf : WellFormed z plan) (law : Lawful z plan) where
+module _ {z : Layout} {plan : Plan} (law : Lawful z plan) where
+  wf : WellFormed z plan
+  wf = law .well-formed
+
   -- two touched points are on one side of a set that no trodden edge leaves
   one-side : (inside : Point → Bool)
       → ((e : Edge) → Trodden z (multiplicity plan) e → inside (startOf z e) ≡ inside (endOf z e))

@@ -30,6 +30,7 @@ pub closed-lawful : {z : Layout} {plan : Plan} → WellFormed z plan → 1 ≤ z
     → lawfulState (z .depot) plan (z .aisles) ≡ closed → Lawful z plan
 closed-lawful {z} {plan} wf d end =
     record {
+      well-formed = wf;
       front-even = front-even;
       back-even = back-even;
       together = accepted-together wf d end;
@@ -47,7 +48,7 @@ closed-lawful {z} {plan} wf d end =
     back-even zero l h = absurd (omega arith)
     back-even (suc i) l h = back-crossing-even (z .depot) plan i (live (suc i) h) z
 
--- the table closes off a plan just when it is lawful
+-- the table closes off a plan of the store just when it is lawful
 pub closed-iff-lawful : {z : Layout} {plan : Plan} → WellFormed z plan → 1 ≤ z .depot
     → (lawfulState (z .depot) plan (z .aisles) ≡ closed) ↔ Lawful z plan
-closed-iff-lawful wf d = (closed-lawful wf d, lawful-closed wf)
+closed-iff-lawful wf d = (closed-lawful wf d, lawful-closed)

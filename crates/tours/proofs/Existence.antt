@@ -19,16 +19,16 @@ use Rattle.rules.specs.declared.Passage.{Passage}
 use Rattle.rules.specs.declared.Passage.the-variants.{P00, P02, P11}
 use Rattle.rules.specs.declared.StockRecord.{StockRecord}
 use Rattle.rules.specs.declared.OrderLine.{OrderLine}
-use Rattle.rules.specs.Store.{position, aisleLength}
+use Rattle.rules.specs.Store.{position, aisleLength, LayoutWithin}
 use Rattle.rules.specs.Lists.{from, nth, sumOf, anyOf}
 use Rattle.rules.specs.Jobs.{Job, listed, holdsListed}
 use Rattle.rules.specs.Plans.{Plan, WellFormed, Fits, actionAt, passesCell, planPasses}
 use Rattle.rules.specs.Policies.{Allowed, actionNamed, passageNamed, inFrontHalf, inBackHalf}
 use Rattle.rules.specs.Serving.{supply, Serves, PlanServes}
-use Rattle.rules.specs.Refusals.{Admitted, allStock}
+use Rattle.rules.specs.Refusals.{Admitted, allStock, RecordWithin}
 use Rattle.rules.specs.Machine.{State, nothing, closed, atFront, odd, joined, ending, dead, lawfulStep, midpointStep, policyStep, crossStep, isVoid, mayEnter, actionPossible, actionStep, passageStep, runFrom, isClosed, accepts}
 use Rattle.rules.proofs.Lists.{any-true, from-member, sum-agree}
-use Rattle.rules.proofs.Admission.{LayoutWithin, RecordWithin, layout-within, stock-within, list-within, lines-in-stock}
+use Rattle.rules.proofs.Admission.{layout-within, stock-within, list-within, lines-in-stock}
 use Rattle.tours.proofs.Basics.{split-at, true-not-false, or-true}
 use Rattle.tours.proofs.Machine.{accepts-allowed}
 
@@ -353,7 +353,7 @@ module _ (job : Job) (a : Admitted job) where
           at-aisle actions p (suc k) low high h = p k (suc k) (omega arith) high h
 
 -- for each policy some allowed plan serves the list
-pub allowed-exists : (job : Job) → Admitted job → (plan : Plan) × WellFormed (job .layout) plan × Allowed job plan × PlanServes job plan
+pub allowed-exists : (job : Job) → Admitted job → (plan : Plan) × Allowed job plan × PlanServes job plan
 allowed-exists job a =
     let t = serving-exists job a in
-    (t .0, t .1, accepts-allowed job (t .0) (layout-within (job .layout) .0 (a .layout) .depot .0) (t .1) .0 (t .2), t .3)
+    (t .0, accepts-allowed job (t .0) (layout-within (job .layout) .0 (a .layout) .depot .0) .0 (t .1, t .2), t .3)

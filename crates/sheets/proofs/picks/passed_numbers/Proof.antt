@@ -5,7 +5,8 @@ use mathlib.Core.Path.{_≡_, refl, sym, ap, _∙_}
 use lib.ListN.{length, getD, length-map, length-set, length-take}
 use Rattle.rules.specs.declared.StockRecord.{StockRecord}
 use Rattle.rules.specs.Plans.{passesCell}
-use Rattle.rules.proofs.Admission.{LayoutWithin, RecordWithin}
+use Rattle.rules.specs.Store.{LayoutWithin}
+use Rattle.rules.specs.Refusals.{RecordWithin}
 use Rattle.values.specs.declared.JobValue.{JobValue}
 use Rattle.values.specs.declared.PlanValue.{PlanValue}
 use Rattle.values.specs.declared.Stage.{Stage}
