@@ -4,3 +4,4 @@ pub mod Demand
 pub mod Shortest
 pub mod Optimum
 pub mod Radix
+pub mod Best

@@ -17,7 +17,7 @@ use Rattle.rules.specs.declared.Refusal.the-variants.{LayoutBounds, Stoc
 use Rattle.rules.specs.Lists.{anyTwo, Sorted}
 use Rattle.rules.specs.Store.{within, layoutInBounds, LayoutWithin}
 use Rattle.rules.specs.Jobs.{Job}
-use Rattle.rules.specs.Refusals.{recordInBounds, stockInBounds, sameCell, lineInBounds, listInBounds, sameArticle, weight, allStock, shortOfStock, numberOf, firstRow, jobRows, jobRefusal, Admitted, RecordWithin, StockWithin, LineWithin, ListWithin}
+use Rattle.rules.specs.Refusals.{recordInBounds, stockInBounds, sameCell, lineInBounds, listInBounds, sameArticle, weight, weightLimit, allStock, shortOfStock, numberOf, firstRow, jobRows, jobRefusal, Admitted, RecordWithin, StockWithin, LineWithin, ListWithin}
 use Rattle.rules.proofs.Lists.{all-true, any-false, any-true, sorted-imply, no-two-alike, alike-members}
 
 -- what tests of numbers say
@@ -145,16 +145,16 @@ pub record OtherwiseAdmitted (job : Job) : Type 0 where
   pub cells-once : anyTwo sameCell (job .stock) ≡ false
   pub list : listInBounds job ≡ true
   pub articles-once : anyTwo sameArticle (job .lines) ≡ false
-  pub light : weight (job .lines) ≤ 256
+  pub light : weight (job .lines) ≤ weightLimit
 
 -- what is left is the row of the stock
 stock-row : (job : Job) (o : Option Refusal) → ((r : Refusal) → numberOf r < 8 → some r ≡ o → ⊥) → (jobRefusal job ≡ o) ↔ (OtherwiseAdmitted job × (firstRow ((shortOfStock job, ShortOfStock) ∷ []) ≡ o))
 unfolding jobRefusal jobRows
 stock-row job o late =
-    let rows : List (Bool × Refusal) = (not (layoutInBounds (job .layout)), LayoutBounds) ∷ (not (stockInBounds job), StockBounds) ∷ (anyTwo sameCell (job .stock), CellTwice) ∷ (not (listInBounds job), ListBounds) ∷ (anyTwo sameArticle (job .lines), ArticleTwice) ∷ (ltb 256 (weight (job .lines)), TooHeavy) ∷ [] in
+    let rows : List (Bool × Refusal) = (not (layoutInBounds (job .layout)), LayoutBounds) ∷ (not (stockInBounds job), StockBounds) ∷ (anyTwo sameCell (job .stock), CellTwice) ∷ (not (listInBounds job), ListBounds) ∷ (anyTwo sameArticle (job .lines), ArticleTwice) ∷ (ltb weightLimit (weight (job .lines)), TooHeavy) ∷ [] in
     let q = passed-rows rows ((shortOfStock job, ShortOfStock) ∷ []) o (omega arith) late in (
-      λ e. (let p = q .0 e in (record { layout = not-false (layoutInBounds (job .layout)) (p .0 .0); stock = not-false (stockInBounds job) (p .0 .1 .0); cells-once = p .0 .1 .1 .0; list = not-false (listInBounds job) (p .0 .1 .1 .1 .0); articles-once = p .0 .1 .1 .1 .1 .0; light = ltb-false 256 (weight (job .lines)) (p .0 .1 .1 .1 .1 .1 .0) }, p .1)),
-      λ p. q .1 ((ap not (p .0 .layout), (ap not (p .0 .stock), (p .0 .cells-once, (ap not (p .0 .list), (p .0 .articles-once, (le-ltb 256 (weight (job .lines)) (p .0 .light), tt)))))), p .1),
+      λ e. (let p = q .0 e in (record { layout = not-false (layoutInBounds (job .layout)) (p .0 .0); stock = not-false (stockInBounds job) (p .0 .1 .0); cells-once = p .0 .1 .1 .0; list = not-false (listInBounds job) (p .0 .1 .1 .1 .0); articles-once = p .0 .1 .1 .1 .1 .0; light = ltb-false weightLimit (weight (job .lines)) (p .0 .1 .1 .1 .1 .1 .0) }, p .1)),
+      λ p. q .1 ((ap not (p .0 .layout), (ap not (p .0 .stock), (p .0 .cells-once, (ap not (p .0 .list), (p .0 .articles-once, (le-ltb weightLimit (weight (job .lines)) (p .0 .light), tt)))))), p .1),
     )
 
 not-short : (b : Bool) → (firstRow ((b, ShortOfStock) ∷ []) ≡ none) ↔ (b ≡ false)

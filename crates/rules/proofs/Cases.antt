@@ -5,22 +5,23 @@ use mathlib.Core.Path.{_≡_, refl, _∙_, ap}
 use mathlib.Core.List.{List, [], _∷_}
 use mathlib.Core.Option.{Option, none, some, Option·getD}
 use Rattle.rules.specs.declared.Action.{Action}
-use Rattle.rules.specs.declared.Action.the-variants.{Bottom}
+use Rattle.rules.specs.declared.Policy.the-variants.{Exact}
+use Rattle.rules.specs.declared.Action.the-variants.{Bottom, Gap, Once}
 use Rattle.rules.specs.declared.Passage.{Passage}
-use Rattle.rules.specs.declared.Passage.the-variants.{P02}
-use Rattle.rules.specs.declared.Refusal.the-variants.{ShortOfStock, ListBounds, TooHeavy}
+use Rattle.rules.specs.declared.Passage.the-variants.{P02, P11}
+use Rattle.rules.specs.declared.Refusal.the-variants.{NotAJobFile, StockBounds, ShortOfStock, ListBounds, TooHeavy}
 use Rattle.rules.specs.Jobs.{Job}
 use Rattle.rules.specs.Plans.{Plan}
 use Rattle.rules.specs.BestPlan.{firstShortest, servingPlans}
-use Rattle.rules.specs.Examples.{tour, walked, HasTour, Meets, AllHold, Holds}
+use Rattle.rules.specs.Examples.{tour, tied, walked, HasTour, IsTour, FileEnds, Meets, AllHold, Holds}
 use Rattle.rules.specs.declared.Run.{Run}
 use Rattle.rules.specs.Sheet.{runsOf}
 use Rattle.rules.proofs.Pruning.{fastServing, fast-serving}
 use Rattle.rules.specs.Answers.{cleared, refused, written, answerChecked, answer, hostAnswer, output}
 use Rattle.rules.specs.BestPlan.{actionsOf, passagesInOrder, single, prepend, shorterOf, emptyPlan, bestPlan}
-use Rattle.rules.specs.Examples.{stocked, _of_, alpha, beta, steps, roundTrip, cases, gamma, topTie, workedJob, workedSheet}
+use Rattle.rules.specs.Examples.{stocked, _⨯_, alpha, beta, steps, roundTrip, cases, midway, frontPart, backPart, nearBack, bothEnds, topTie, gapTie, bothBottom, bothOnce, ownCases, overfull, RefusedWith, workedJob, workedSheet}
 use Rattle.rules.specs.FirstWalk.{without, stepsOf, firstWalk}
-use Rattle.rules.specs.JobFile.{numeral, field, header, sectionText, isDigit, isNumber, readField, readHeader, readPolicyAs, readPolicy, readLayout, readRecord, readLine, readSection, readLayoutSection, readSections, readJob}
+use Rattle.rules.specs.JobFile.{numeral, field, header, sectionText, jobText, layoutText, recordText, lineText, isDigit, isNumber, readField, readHeader, readPolicyAs, readPolicy, readLayout, readRecord, readLine, readSection, readLayoutSection, readSections, readJob}
 use Rattle.rules.specs.Jobs.{listed, holdsListed}
 use Rattle.rules.specs.Machine.{actionPossible, actionStep, passageStep, accepts}
 use Rattle.rules.specs.Picks.{cellsOf, lackOf, lessOf, recordAt, taken, passedRecords, picksOf}
@@ -55,59 +56,37 @@ module _ (job : Job) (n : ℕ) (actions : List Action) (passages : List Passage)
       let m = tour-met found its-length in
       (m .0, m .1, ap (λ p. runsOf (firstWalk (job .layout) p)) (m .1) ∙ its-walk)
 
+  -- and the other plan of a tie is as long
+  tie-met : fastBest job ≡ plan → planLength (job .layout) plan ≡ n → (others : List Action) (gaps : List Passage) → IsTour job plan n → IsTour job (record { actions = others; passages = gaps }) n → Meets job (tied n actions passages others gaps)
+  tie-met found its-length others gaps its-own other = let m = tour-met found its-length in (m .0, m .1, its-own, other)
+
+-- the heaviest case stands apart: a declaration may take only so many steps
+case-7 : Meets (beta Exact) (tour 20 (Once ∷ Gap 1 5 ∷ Once ∷ []) (P11 ∷ P11 ∷ []))
+unfolding actionsOf passagesInOrder single prepend shorterOf emptyPlan bestPlan stocked _⨯_ alpha beta listed holdsListed actionPossible actionStep passageStep accepts actionAt passageAt multiplicity lengthOf planLength planPasses inFrontHalf inBackHalf supply serves aisleLength position backHeight depotPoint distance edgesOf fastBest fastServing recordInBounds stockInBounds sameCell lineInBounds listInBounds sameArticle weight allStock shortOfStock jobRows jobRefusal within layoutInBounds
+case-7 = tour-met _ _ _ _ refl refl refl
+
 -- the table of the cases 1 to 14
 pub cases-hold : AllHold cases
-unfolding cleared refused written answerChecked checkBytes checkJob answer hostAnswer output actionsOf passagesInOrder single prepend shorterOf emptyPlan bestPlan stocked _of_ alpha beta steps roundTrip cases gamma topTie workedJob workedSheet without stepsOf firstWalk numeral field header sectionText isDigit isNumber readField readHeader readPolicyAs readPolicy readLayout readRecord readLine readSection readLayoutSection readSections readJob listed holdsListed actionPossible actionStep passageStep accepts cellsOf lackOf lessOf recordAt taken passedRecords picksOf actionAt passageAt multiplicity lengthOf planLength planPasses inFrontHalf inBackHalf recordInBounds stockInBounds sameCell lineInBounds listInBounds sameArticle weight allStock shortOfStock jobRows jobRefusal supply serves totalText passageText pickText runText sheetOf sheetText aisleLength position backHeight depotPoint distance edgesOf within layoutInBounds sameEdge samePoint isCrossing canStep stepTo stepEdge one fastBest fastServing
-cases-hold = (
-  tour-met _ _ _ _ refl refl refl,
-  (
-    tour-met _ _ _ _ refl refl refl,
-    (
-      tour-met _ _ _ _ refl refl refl,
-      (
-        walk-met _ _ _ _ refl refl refl _ refl,
-        (
-          tour-met _ _ _ _ refl refl refl,
-          (
-            λ policy. (ShortOfStock, refl, refl),
-            (
-              tour-met _ _ _ _ refl refl refl,
-              (
-                tour-met _ _ _ _ refl refl refl,
-                (
-                  tour-met _ _ _ _ refl refl refl,
-                  (
-                    (tour-met _ 26 (Bottom 3 ∷ Bottom 5 ∷ Bottom 3 ∷ []) (P02 ∷ P02 ∷ []) refl refl refl) .0,
-                    (
-                      λ policy. (ShortOfStock, refl, refl),
-                      (
-                        λ policy. (ListBounds, refl, refl),
-                        (
-                          λ policy. (TooHeavy, refl, refl),
-                          (
-                            λ policy. (ListBounds, refl, refl),
-                            tt,
-                          ),
-                        ),
-                      ),
-                    ),
-                  ),
-                ),
-              ),
-            ),
-          ),
-        ),
-      ),
-    ),
-  ),
-)
+unfolding actionsOf passagesInOrder single prepend shorterOf emptyPlan bestPlan stocked _⨯_ alpha beta listed holdsListed actionPossible actionStep passageStep accepts actionAt passageAt multiplicity lengthOf planLength planPasses inFrontHalf inBackHalf supply serves aisleLength position backHeight depotPoint distance edgesOf fastBest fastServing recordInBounds stockInBounds sameCell lineInBounds listInBounds sameArticle weight allStock shortOfStock jobRows jobRefusal within layoutInBounds without stepsOf firstWalk sameEdge samePoint isCrossing canStep stepTo stepEdge one steps roundTrip cases RefusedWith
+cases-hold =
+    (tour-met _ _ _ _ refl refl refl, (tie-met _ _ _ _ refl refl refl (Bottom 1 ∷ Bottom 1 ∷ []) (P02 ∷ []) (record { allowed = refl; serving = refl; length = refl }) (record { allowed = refl; serving = refl; length = refl }), (tour-met _ _ _ _ refl refl refl, (walk-met _ _ _ _ refl refl refl _ refl, (tour-met _ _ _ _ refl refl refl, ((λ policy. (ShortOfStock, refl, refl)), (case-7, (tour-met _ _ _ _ refl refl refl, (tour-met _ _ _ _ refl refl refl, ((tour-met _ 26 (Bottom 3 ∷ Bottom 5 ∷ Bottom 3 ∷ []) (P02 ∷ P02 ∷ []) refl refl refl) .0, ((λ policy. (refl, (ShortOfStock, refl, refl))), ((λ policy. (ListBounds, refl, refl)), ((λ policy. (refl, (TooHeavy, refl, refl))), ((λ policy. (ListBounds, refl, refl)), tt))))))))))))))
 
--- a case of our own
-pub top-tie-holds : Holds topTie
-unfolding cleared refused written answerChecked checkBytes checkJob answer hostAnswer output actionsOf passagesInOrder single prepend shorterOf emptyPlan bestPlan stocked _of_ alpha beta steps roundTrip cases gamma topTie workedJob workedSheet without stepsOf firstWalk numeral field header sectionText isDigit isNumber readField readHeader readPolicyAs readPolicy readLayout readRecord readLine readSection readLayoutSection readSections readJob listed holdsListed actionPossible actionStep passageStep accepts cellsOf lackOf lessOf recordAt taken passedRecords picksOf actionAt passageAt multiplicity lengthOf planLength planPasses inFrontHalf inBackHalf recordInBounds stockInBounds sameCell lineInBounds listInBounds sameArticle weight allStock shortOfStock jobRows jobRefusal supply serves totalText passageText pickText runText sheetOf sheetText aisleLength position backHeight depotPoint distance edgesOf within layoutInBounds sameEdge samePoint isCrossing canStep stepTo stepEdge one fastBest fastServing
-top-tie-holds = tour-met _ _ _ _ refl refl refl
+-- the table of our own cases
+pub own-cases-hold : AllHold ownCases
+unfolding actionsOf passagesInOrder single prepend shorterOf emptyPlan bestPlan stocked _⨯_ alpha beta listed holdsListed actionPossible actionStep passageStep accepts actionAt passageAt multiplicity lengthOf planLength planPasses inFrontHalf inBackHalf supply serves aisleLength position backHeight depotPoint distance edgesOf fastBest fastServing recordInBounds stockInBounds sameCell lineInBounds listInBounds sameArticle weight allStock shortOfStock jobRows jobRefusal within layoutInBounds midway frontPart backPart nearBack bothEnds topTie gapTie bothBottom bothOnce ownCases
+own-cases-hold =
+    (tour-met _ _ _ _ refl refl refl, (tour-met _ _ _ _ refl refl refl, (tour-met _ _ _ _ refl refl refl, (tour-met _ _ _ _ refl refl refl, (tour-met _ _ _ _ refl refl refl, (tour-met _ _ _ _ refl refl refl, ((refl, refl), ((refl, refl), ((refl, refl), ((refl, refl), ((refl, refl), ((refl, refl), ((refl, refl), ((refl, refl), ((refl, refl), tt)))))))))))))))
+
+-- a job file of 16,384 bytes is read to its end: its records are too many; with a byte more it is not a job file
+pub longest-file : FileEnds (overfull 2042 1) 16384 StockBounds
+unfolding numeral field header sectionText isDigit isNumber readField readHeader readPolicyAs readPolicy readLayout readRecord readLine readSection readLayoutSection readSections readJob checkJob checkBytes recordInBounds stockInBounds sameCell lineInBounds listInBounds sameArticle weight allStock shortOfStock jobRows jobRefusal within layoutInBounds stocked _⨯_ alpha overfull jobText layoutText recordText lineText
+longest-file = record { bytes = refl; ends = refl }
+
+pub longer-file : FileEnds (overfull 2041 2) 16385 NotAJobFile
+unfolding numeral field header sectionText isDigit isNumber readField readHeader readPolicyAs readPolicy readLayout readRecord readLine readSection readLayoutSection readSections readJob checkJob checkBytes recordInBounds stockInBounds sameCell lineInBounds listInBounds sameArticle weight allStock shortOfStock jobRows jobRefusal within layoutInBounds stocked _⨯_ alpha overfull jobText layoutText recordText lineText
+longer-file = record { bytes = refl; ends = refl }
 
 -- the worked example, byte for byte
 pub worked-example : output workedJob ≡ workedSheet
-unfolding cleared refused written answerChecked checkBytes checkJob answer hostAnswer output actionsOf passagesInOrder single prepend shorterOf emptyPlan bestPlan stocked _of_ alpha beta steps roundTrip cases gamma topTie workedJob workedSheet without stepsOf firstWalk numeral field header sectionText isDigit isNumber readField readHeader readPolicyAs readPolicy readLayout readRecord readLine readSection readLayoutSection readSections readJob listed holdsListed actionPossible actionStep passageStep accepts cellsOf lackOf lessOf recordAt taken passedRecords picksOf actionAt passageAt multiplicity lengthOf planLength planPasses inFrontHalf inBackHalf recordInBounds stockInBounds sameCell lineInBounds listInBounds sameArticle weight allStock shortOfStock jobRows jobRefusal supply serves totalText passageText pickText runText sheetOf sheetText aisleLength position backHeight depotPoint distance edgesOf within layoutInBounds sameEdge samePoint isCrossing canStep stepTo stepEdge one servingPlans
+unfolding servingPlans cleared refused written answerChecked checkBytes checkJob answer hostAnswer output actionsOf passagesInOrder single prepend shorterOf emptyPlan bestPlan stocked _⨯_ alpha beta steps roundTrip cases midway frontPart backPart nearBack bothEnds topTie gapTie bothBottom bothOnce ownCases overfull RefusedWith workedJob workedSheet without stepsOf firstWalk numeral field header sectionText isDigit isNumber readField readHeader readPolicyAs readPolicy readLayout readRecord readLine readSection readLayoutSection readSections readJob listed holdsListed actionPossible actionStep passageStep accepts cellsOf lackOf lessOf recordAt taken passedRecords picksOf actionAt passageAt multiplicity lengthOf planLength planPasses inFrontHalf inBackHalf recordInBounds stockInBounds sameCell lineInBounds listInBounds sameArticle weight allStock shortOfStock jobRows jobRefusal supply serves totalText passageText pickText runText sheetOf sheetText aisleLength position backHeight depotPoint distance edgesOf within layoutInBounds sameEdge samePoint isCrossing canStep stepTo stepEdge one fastBest fastServing
 worked-example = refl

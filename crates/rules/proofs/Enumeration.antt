@@ -255,26 +255,53 @@ enumeration-ordered cells (suc (suc n)) = go (enumeration-ordered cells (suc n))
         ) (by-passages a)
         ) by-actions
 
--- no rank comes before itself
-rank-irreflexive : (r : ℕ × ℕ × ℕ) → RankBefore r r → ⊥
+-- of two ranks only one comes before the other
+rank-one-way : (r s : ℕ × ℕ × ℕ) → RankBefore r s → RankBefore s r → ⊥
 unfolding RankBefore
-rank-irreflexive r (inl h) = omega arith
-rank-irreflexive r (inr (e, inl h)) = omega arith
-rank-irreflexive r (inr (e, inr h)) = omega arith
+rank-one-way r s (inl h) (inl k) = omega arith
+rank-one-way r s (inl h) (inr (f, k)) = omega arith
+rank-one-way r s (inr (e, h)) (inl k) = omega arith
+rank-one-way r s (inr (e, inl h)) (inr (f, inl k)) = omega arith
+rank-one-way r s (inr (e, inl h)) (inr (f, inr k)) = omega arith
+rank-one-way r s (inr (e, inr h)) (inr (f, inl k)) = omega arith
+rank-one-way r s (inr (e, inr h)) (inr (f, inr k)) = omega arith
 
-before-irreflexive : {cells : ℕ} {xs ys : List Action} {ps qs : List Passage} → Before cells xs ps ys qs → xs ≡ ys → ps ≡ qs → ⊥
-before-irreflexive {cells} (by-action {a} {b} h) e f =
-    let same : a ≡ b = cc in
-    rank-irreflexive (actionRank cells b) (rw same at h)
-before-irreflexive (by-passage {p} {q} h) e f =
-    let same : p ≡ q = cc in
-    omega (arith, ap passageRank same)
-before-irreflexive (further b) e f = before-irreflexive b (cc) (cc)
+-- what differs in rank is not the same
+action-differs : (cells : ℕ) {a b : Action} → RankBefore (actionRank cells a) (actionRank cells b) → a ≡ b → ⊥
+action-differs cells {a} {b} h same =
+    let g : RankBefore (actionRank cells b) (actionRank cells b) = subst (λ u. RankBefore (actionRank cells u) (actionRank cells b)) same h in
+    rank-one-way (actionRank cells b) (actionRank cells b) g g
+
+passage-differs : (p q : Passage) → passageRank p < passageRank q → p ≡ q → ⊥
+passage-differs p q h same = omega (arith, ap passageRank same)
+
+-- the first difference is the same seen from either plan
+before-one-way : {cells : ℕ} {xs ys us vs : List Action} {ps qs rs ss : List Passage} → Before cells xs ps ys qs → Before cells us rs vs ss → xs ≡ vs → ys ≡ us → ps ≡ ss → qs ≡ rs → ⊥
+before-one-way {cells} (by-action {a} {b} h) (by-action {a = c} {b = d} k) x y p q =
+    let left : d ≡ a = cc in
+    let right : c ≡ b = cc in
+    rank-one-way (actionRank cells a) (actionRank cells b) h
+    (subst₂ (λ u v. RankBefore (actionRank cells u) (actionRank cells v)) right left k)
+before-one-way {cells} (by-action h) (by-passage k) x y p q = action-differs cells h cc
+before-one-way {cells} (by-action h) (further k) x y p q = action-differs cells h cc
+before-one-way {cells} (by-passage h) (by-action k) x y p q = action-differs cells k cc
+before-one-way {cells} (further h) (by-action k) x y p q = action-differs cells k cc
+before-one-way (by-passage {p} {q} h) (by-passage {p = r} {q = s} k) e f g i =
+    let left : p ≡ s = cc in
+    let right : q ≡ r = cc in
+    omega (arith, ap passageRank left, ap passageRank right)
+before-one-way (by-passage {p = r} {q = s} h) (further k) x y p q = passage-differs r s h cc
+before-one-way (further h) (by-passage {p = r} {q = s} k) x y p q = passage-differs r s k cc
+before-one-way (further h) (further k) x y p q = before-one-way h k (cc) (cc) (cc) (cc)
+
+-- of two plans only one comes before the other
+pub plan-before-one-way : (cells : ℕ) (plan other : Plan) → PlanBefore cells plan other → PlanBefore cells other plan → ⊥
+unfolding PlanBefore
+plan-before-one-way cells plan other h k = before-one-way h k refl refl refl refl
 
 -- no plan comes before itself, so that none is listed twice
 pub plan-not-before-itself : (cells : ℕ) (plan : Plan) → PlanBefore cells plan plan → ⊥
-unfolding PlanBefore
-plan-not-before-itself cells plan b = before-irreflexive b refl refl
+plan-not-before-itself cells plan b = plan-before-one-way cells plan plan b b
 
 -- a list has x as the first of its shortest elements: those in front of x are longer, those behind it no shorter
 pub record FirstShortest {A : Type 0} (len : A → ℕ) (xs : List A) (x : A) : Type 0 where

@@ -1,7 +1,9 @@
 -- Document 01, "Walked examples": the cases 1 to 14 and the job and sheet of "Sheet", byte for byte.
 use Prim.Native.Nat.{ℕ}
 use mathlib.Core.Path.{_≡_}
-use mathlib.Core.List.{List, [], _∷_, map}
+use mathlib.Core.List.{List, [], _∷_, _++_}
+use mathlib.Core.Bool.{Bool, true, false}
+use lib.ListN.{length, replicate}
 use mathlib.Core.Option.{Option, none, some}
 use Rattle.rules.specs.declared.Policy.{Policy}
 use Rattle.rules.specs.declared.Policy.the-variants.{Exact, Return, Traversal, Midpoint, Composite}
@@ -16,8 +18,11 @@ use Rattle.rules.specs.declared.Direction.the-variants.{Back, Front, Lef
 use Rattle.rules.specs.declared.Refusal.{Refusal}
 use Rattle.rules.specs.declared.Run.{Run}
 use Rattle.rules.specs.Jobs.{Job}
-use Rattle.rules.specs.Refusals.{jobRefusal, numberOf}
-use Rattle.rules.specs.Plans.{Plan, planLength}
+use Rattle.rules.specs.JobFile.{jobText}
+use Rattle.rules.specs.Refusals.{weight, jobRefusal, numberOf, bad, checkBytes}
+use Rattle.rules.specs.Plans.{Plan, planLength, planPasses}
+use Rattle.rules.specs.Serving.{serves}
+use Rattle.rules.specs.Machine.{accepts}
 use Rattle.rules.specs.BestPlan.{bestPlan}
 use Rattle.rules.specs.FirstWalk.{firstWalk}
 use Rattle.rules.specs.Sheet.{runsOf}
@@ -26,10 +31,10 @@ use Rattle.rules.specs.Sheet.{runsOf}
 unfoldable pub stocked : ℕ → ℕ → ℕ → ℕ → StockRecord
 stocked j c a q = record { aisle = j; cell = c; article = a; quantity = q }
 
-infixl 60 _of_
--- an order line: so many of an article
-unfoldable pub _of_ : ℕ → ℕ → OrderLine
-q of a = record { article = a; quantity = q }
+infixl 60 _⨯_
+-- an order line: an article and how much of it, as document 01 writes 7×2
+unfoldable pub _⨯_ : ℕ → ℕ → OrderLine
+a ⨯ q = record { article = a; quantity = q }
 
 -- store α with a list
 unfoldable pub alpha : List OrderLine → Policy → Job
@@ -48,28 +53,49 @@ beta policy =
       layout = record { aisles = 3; cells = 5; front = 1; pitch = 1; back = 1; width = 1; depot = 1 };
       policy = policy;
       stock = stocked 1 3 3 1 ∷ stocked 2 1 1 1 ∷ stocked 2 5 2 1 ∷ stocked 3 3 4 1 ∷ [];
-      lines = (1 of 1) ∷ (1 of 2) ∷ (1 of 3) ∷ (1 of 4) ∷ [];
+      lines = (1 ⨯ 1) ∷ (2 ⨯ 1) ∷ (3 ⨯ 1) ∷ (4 ⨯ 1) ∷ [];
     }
 
 -- what is expected of a job
 pub data Expected : Type 0 where
   tour : ℕ → List Action → List Passage → Expected  -- the length and the plan
+  tied : ℕ → List Action → List Passage → List Action → List Passage → Expected  -- and another plan that is as long
   walked : ℕ → List Action → List Passage → List Run → Expected  -- and the walk
   long : ℕ → Expected  -- the length alone
   refusal : ℕ → Expected  -- the refusal's number
+  weighing : ℕ → ℕ → Expected  -- the list's weight and the refusal's number
+  allowing : Bool → List Action → List Passage → Expected  -- a plan that serves the list, and whether the policy allows it
 
 -- a job is served with a tour of that length
 pub record HasTour (job : Job) (n : ℕ) : Type 0 where
   pub admitted : jobRefusal job ≡ none
   pub length : planLength (job .layout) (bestPlan job) ≡ n
 
+-- a plan that the policy allows and that serves the list, of that length
+pub record IsTour (job : Job) (plan : Plan) (n : ℕ) : Type 0 where
+  pub allowed : accepts job plan ≡ true
+  pub serving : serves job (planPasses plan) ≡ true
+  pub length : planLength (job .layout) plan ≡ n
+
+-- a job is refused with that number
+unfoldable pub RefusedWith : Job → ℕ → Type 0
+RefusedWith job n = (r : Refusal) × (jobRefusal job ≡ some r) × (numberOf r ≡ n)
+
 -- a job is answered as expected
 abbrev pub Meets : Job → Expected → Type 0
 Meets job (tour n actions passages) = HasTour job n × (bestPlan job ≡ record { actions = actions; passages = passages })
+Meets job (tied n actions passages others gaps) =
+    HasTour job n × (bestPlan job ≡ record { actions = actions; passages = passages })
+    × IsTour job (record { actions = actions; passages = passages }) n
+    × IsTour job (record { actions = others; passages = gaps }) n
 Meets job (walked n actions passages runs) =
     HasTour job n × (bestPlan job ≡ record { actions = actions; passages = passages }) × (runsOf (firstWalk (job .layout) (bestPlan job)) ≡ runs)
 Meets job (long n) = HasTour job n
-Meets job (refusal n) = (r : Refusal) × (jobRefusal job ≡ some r) × (numberOf r ≡ n)
+Meets job (refusal n) = RefusedWith job n
+Meets job (weighing w n) = (weight (job .lines) ≡ w) × RefusedWith job n
+Meets job (allowing b actions passages) =
+    (serves job (planPasses (record { actions = actions; passages = passages })) ≡ true)
+    × (accepts job (record { actions = actions; passages = passages }) ≡ b)
 
 -- a row of the table: a job under one policy, or under every policy
 pub data Case : Type 0 where
@@ -91,35 +117,122 @@ roundTrip = steps Back 4 ∷ steps Right 1 ∷ steps Front 4 ∷ steps Left 1 �
 -- the cases 1 to 14
 unfoldable pub cases : List Case
 cases =
-    under Exact (alpha ((1 of 9) ∷ [])) (tour 14 (Void ∷ Bottom 1 ∷ []) (P02 ∷ []))
-    ∷ under Exact (alpha ((1 of 7) ∷ (1 of 9) ∷ [])) (tour 18 (Void ∷ Bottom 3 ∷ []) (P02 ∷ []))
-    ∷ under Exact (alpha ((2 of 7) ∷ [])) (tour 22 (Bottom 1 ∷ Bottom 3 ∷ []) (P02 ∷ []))
-    ∷ under Traversal (alpha ((2 of 7) ∷ [])) (walked 22 (Once ∷ Once ∷ []) (P11 ∷ []) roundTrip)
-    ∷ under Midpoint (alpha ((2 of 7) ∷ [])) (tour 22 (Once ∷ Once ∷ []) (P11 ∷ []))
-    ∷ underEvery (alpha ((3 of 7) ∷ [])) (refusal 8)
-    ∷ under Exact beta (tour 20 (Once ∷ Gap 1 5 ∷ Once ∷ []) (P11 ∷ P11 ∷ []))
-    ∷ under Composite beta (tour 22 (Bottom 3 ∷ Once ∷ Once ∷ []) (P02 ∷ P11 ∷ []))
-    ∷ under Traversal beta (tour 22 (Once ∷ Once ∷ Bottom 3 ∷ []) (P11 ∷ P02 ∷ []))
-    ∷ under Return beta (long 26)
-    ∷ underEvery (alpha ((255 of 9) ∷ [])) (refusal 8)
-    ∷ underEvery (alpha ((256 of 9) ∷ [])) (refusal 5)
-    ∷ underEvery (alpha ((255 of 9) ∷ (1 of 7) ∷ [])) (refusal 7)
-    ∷ underEvery (alpha []) (refusal 5)
+    under Exact (alpha ((9 ⨯ 1) ∷ [])) (tour 14 (Void ∷ Bottom 1 ∷ []) (P02 ∷ []))  -- 1
+    ∷ under Exact (alpha ((7 ⨯ 1) ∷ (9 ⨯ 1) ∷ [])) (tied 18 (Void ∷ Bottom 3 ∷ []) (P02 ∷ []) (Bottom 1 ∷ Bottom 1 ∷ []) (P02 ∷ []))  -- 2
+    ∷ under Exact (alpha ((7 ⨯ 2) ∷ [])) (tour 22 (Bottom 1 ∷ Bottom 3 ∷ []) (P02 ∷ []))  -- 3
+    ∷ under Traversal (alpha ((7 ⨯ 2) ∷ [])) (walked 22 (Once ∷ Once ∷ []) (P11 ∷ []) roundTrip)  -- 4
+    ∷ under Midpoint (alpha ((7 ⨯ 2) ∷ [])) (tour 22 (Once ∷ Once ∷ []) (P11 ∷ []))  -- 5
+    ∷ underEvery (alpha ((7 ⨯ 3) ∷ [])) (refusal 8)  -- 6
+    ∷ under Exact beta (tour 20 (Once ∷ Gap 1 5 ∷ Once ∷ []) (P11 ∷ P11 ∷ []))  -- 7
+    ∷ under Composite beta (tour 22 (Bottom 3 ∷ Once ∷ Once ∷ []) (P02 ∷ P11 ∷ []))  -- 8
+    ∷ under Traversal beta (tour 22 (Once ∷ Once ∷ Bottom 3 ∷ []) (P11 ∷ P02 ∷ []))  -- 9
+    ∷ under Return beta (long 26)  -- 10
+    ∷ underEvery (alpha ((9 ⨯ 255) ∷ [])) (weighing 256 8)  -- 11
+    ∷ underEvery (alpha ((9 ⨯ 256) ∷ [])) (refusal 5)  -- 12
+    ∷ underEvery (alpha ((9 ⨯ 255) ∷ (7 ⨯ 1) ∷ [])) (weighing 512 7)  -- 13
+    ∷ underEvery (alpha []) (refusal 5)  -- 14
     ∷ []
 
--- a store of our own in which two plans of TOP are equally short
-unfoldable pub gamma : Policy → Job
-gamma policy =
+-- a store of three aisles of three cells, one cell midway: the turn in aisle 2 is at cell 2
+unfoldable pub midway : List StockRecord → Policy → Job
+midway stock policy =
+    record {
+      layout = record { aisles = 3; cells = 3; front = 1; pitch = 1; back = 1; width = 1; depot = 1 };
+      policy = policy;
+      stock = stock;
+      lines = (1 ⨯ 1) ∷ (2 ⨯ 1) ∷ (3 ⨯ 1) ∷ (4 ⨯ 1) ∷ [];
+    }
+
+-- the part of aisle 2 at the front is wanted, or that at the back
+unfoldable pub frontPart : List StockRecord
+frontPart = stocked 1 2 1 1 ∷ stocked 2 1 2 1 ∷ stocked 2 2 3 1 ∷ stocked 3 2 4 1 ∷ []
+
+unfoldable pub backPart : List StockRecord
+backPart = stocked 1 2 1 1 ∷ stocked 2 3 2 1 ∷ stocked 2 2 3 1 ∷ stocked 3 2 4 1 ∷ []
+
+-- a store in which the way along the back to a cell near the back crossing is worth walking twice
+unfoldable pub nearBack : Policy → Job
+nearBack policy =
+    record {
+      layout = record { aisles = 3; cells = 2; front = 5; pitch = 4; back = 1; width = 1; depot = 1 };
+      policy = policy;
+      stock = stocked 1 1 1 1 ∷ stocked 1 2 1 1 ∷ stocked 2 1 1 1 ∷ stocked 2 2 1 1 ∷ stocked 3 2 1 1 ∷ [];
+      lines = (1 ⨯ 5) ∷ [];
+    }
+
+-- a store with its depot in the middle in which both cross-aisles are walked twice, to the two ends of an aisle
+unfoldable pub bothEnds : Policy → Job
+bothEnds policy =
+    record {
+      layout = record { aisles = 3; cells = 3; front = 1; pitch = 6; back = 1; width = 1; depot = 2 };
+      policy = policy;
+      stock = stocked 1 2 1 1 ∷ stocked 2 1 1 1 ∷ stocked 2 2 1 1 ∷ stocked 3 1 1 1 ∷ stocked 3 3 1 1 ∷ [];
+      lines = (1 ⨯ 5) ∷ [];
+    }
+
+-- a store in which two plans of TOP are equally short
+unfoldable pub topTie : Policy → Job
+topTie policy =
     record {
       layout = record { aisles = 4; cells = 2; front = 20; pitch = 1; back = 1; width = 1; depot = 1 };
       policy = policy;
       stock = stocked 1 1 1 1 ∷ stocked 2 2 2 1 ∷ stocked 2 1 5 1 ∷ stocked 3 2 3 1 ∷ stocked 3 1 5 1 ∷ stocked 4 1 4 1 ∷ [];
-      lines = (1 of 1) ∷ (1 of 2) ∷ (1 of 3) ∷ (1 of 4) ∷ (1 of 5) ∷ [];
+      lines = (1 ⨯ 1) ∷ (2 ⨯ 1) ∷ (3 ⨯ 1) ∷ (4 ⨯ 1) ∷ (5 ⨯ 1) ∷ [];
     }
 
--- a case of our own: TOP ranks large cells first
-unfoldable pub topTie : Case
-topTie = under Composite gamma (tour 56 (Once ∷ Top 2 ∷ Top 1 ∷ Once ∷ []) (P11 ∷ P11 ∷ P11 ∷ []))
+-- a store in which two plans of GAP are equally short: GAP 1 6 and GAP 3 6, or GAP 2 5 and GAP 1 6
+unfoldable pub gapTie : Policy → Job
+gapTie policy =
+    record {
+      layout = record { aisles = 4; cells = 6; front = 1; pitch = 1; back = 1; width = 1; depot = 1 };
+      policy = policy;
+      stock =
+        stocked 1 3 1 1 ∷ stocked 2 1 1 1 ∷ stocked 2 6 1 1 ∷ stocked 3 1 1 1 ∷ stocked 3 6 1 1 ∷ stocked 4 3 1 1
+        ∷ stocked 2 2 2 1 ∷ stocked 2 5 2 1 ∷ stocked 3 3 2 2 ∷ [];
+      lines = (1 ⨯ 6) ∷ (2 ⨯ 2) ∷ [];
+    }
+
+-- plans that enter aisle 1 of store α, which holds article 7 alone
+unfoldable pub bothBottom : Bool → Expected
+bothBottom b = allowing b (Bottom 1 ∷ Bottom 1 ∷ []) (P02 ∷ [])
+
+unfoldable pub bothOnce : Bool → Expected
+bothOnce b = allowing b (Once ∷ Once ∷ []) (P11 ∷ [])
+
+-- cases of our own: each pins what none of the fourteen does
+unfoldable pub ownCases : List Case
+ownCases =
+    under Midpoint (midway frontPart) (tour 16 (Once ∷ Bottom 2 ∷ Once ∷ []) (P11 ∷ P11 ∷ []))  -- a cell midway serves the front part
+    ∷ under Midpoint (midway backPart) (tour 16 (Once ∷ Top 2 ∷ Once ∷ []) (P11 ∷ P11 ∷ []))  -- and the back part
+    ∷ under Composite nearBack (tour 26 (Once ∷ Once ∷ Top 2 ∷ []) (P11 ∷ P20 ∷ []))  -- COMPOSITE has 20
+    ∷ under Exact bothEnds (tour 38 (Once ∷ Once ∷ Gap 1 3 ∷ []) (P11 ∷ P22 ∷ []))  -- EXACT has 22
+    ∷ under Composite topTie (tour 56 (Once ∷ Top 2 ∷ Top 1 ∷ Once ∷ []) (P11 ∷ P11 ∷ P11 ∷ []))  -- TOP: large i first
+    ∷ under Midpoint gapTie (tour 32 (Once ∷ Gap 1 6 ∷ Gap 3 6 ∷ Once ∷ []) (P11 ∷ P11 ∷ P11 ∷ []))  -- GAP: small h first
+    ∷ under Exact (alpha ((9 ⨯ 1) ∷ [])) (bothBottom true)  -- EXACT may enter an aisle that holds no article of the list
+    ∷ under Return (alpha ((9 ⨯ 1) ∷ [])) (bothBottom false)  -- the others may not
+    ∷ under Traversal (alpha ((9 ⨯ 1) ∷ [])) (bothBottom false)
+    ∷ under Midpoint (alpha ((9 ⨯ 1) ∷ [])) (bothBottom false)
+    ∷ under Composite (alpha ((9 ⨯ 1) ∷ [])) (bothBottom false)
+    ∷ under Exact (alpha ((9 ⨯ 1) ∷ [])) (bothOnce true)
+    ∷ under Traversal (alpha ((9 ⨯ 1) ∷ [])) (bothOnce false)
+    ∷ under Midpoint (alpha ((9 ⨯ 1) ∷ [])) (bothOnce false)
+    ∷ under Composite (alpha ((9 ⨯ 1) ∷ [])) (bothOnce false)
+    ∷ []
+
+-- store α with far too many stock records: so many whose lines have 8 bytes and so many with 9
+unfoldable pub overfull : ℕ → ℕ → Job
+overfull few more =
+    record {
+      layout = alpha [] Exact .layout;
+      policy = Exact;
+      stock = replicate few (stocked 1 1 1 1) ++ replicate more (stocked 1 1 10 1);
+      lines = (9 ⨯ 1) ∷ [];
+    }
+
+-- the text of a job has so many bytes, and reading it ends with that refusal
+pub record FileEnds (job : Job) (n : ℕ) (r : Refusal) : Type 0 where
+  pub bytes : length (jobText job) ≡ n
+  pub ends : checkBytes (jobText job) ≡ bad r
 
 -- every row of a table holds
 abbrev pub AllHold : List Case → Type 0

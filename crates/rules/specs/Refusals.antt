@@ -81,6 +81,10 @@ sameArticle k l = eqb (k .article) (l .article)
 unfoldable pub weight : List OrderLine → ℕ
 weight lines = productOf (λ (l : OrderLine). l .quantity + 1) lines
 
+-- the most that a list may weigh
+abbrev pub weightLimit : ℕ
+weightLimit = 256
+
 -- all the stock of an article: the sum of the quantities in its records
 unfoldable pub allStock : Job → ℕ → ℕ
 allStock job a = sumOf (λ (r : StockRecord). cond (eqb (r .article) a) (r .quantity) 0) (job .stock)
@@ -103,7 +107,7 @@ jobRows job =
     ∷ (anyTwo sameCell (job .stock), CellTwice)
     ∷ (not (listInBounds job), ListBounds)
     ∷ (anyTwo sameArticle (job .lines), ArticleTwice)
-    ∷ (ltb 256 (weight (job .lines)), TooHeavy)
+    ∷ (ltb weightLimit (weight (job .lines)), TooHeavy)
     ∷ (shortOfStock job, ShortOfStock)
     ∷ []
 
@@ -131,5 +135,5 @@ pub record Admitted (job : Job) : Type 0 where
   pub cells-once : anyTwo sameCell (job .stock) ≡ false
   pub list : listInBounds job ≡ true
   pub articles-once : anyTwo sameArticle (job .lines) ≡ false
-  pub light : weight (job .lines) ≤ 256
+  pub light : weight (job .lines) ≤ weightLimit
   pub in-stock : shortOfStock job ≡ false
