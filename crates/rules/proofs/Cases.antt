@@ -3,7 +3,7 @@
 use Prim.Native.Nat.{ℕ}
 use mathlib.Core.Path.{_≡_, refl, _∙_, ap}
 use mathlib.Core.List.{List, [], _∷_}
-use mathlib.Core.Option.{Option, none, some, Option·getD}
+use mathlib.Core.Option.{none}
 use Rattle.rules.specs.declared.Action.{Action}
 use Rattle.rules.specs.declared.Policy.the-variants.{Exact}
 use Rattle.rules.specs.declared.Action.the-variants.{Bottom, Gap, Once}
@@ -12,13 +12,12 @@ use Rattle.rules.specs.declared.Passage.the-variants.{P02, P11}
 use Rattle.rules.specs.declared.Refusal.the-variants.{NotAJobFile, StockBounds, ShortOfStock, ListBounds, TooHeavy}
 use Rattle.rules.specs.Jobs.{Job}
 use Rattle.rules.specs.Plans.{Plan}
-use Rattle.rules.specs.BestPlan.{firstShortest, servingPlans}
 use Rattle.rules.specs.Examples.{tour, tied, walked, HasTour, IsTour, FileEnds, Meets, AllHold, Holds}
 use Rattle.rules.specs.declared.Run.{Run}
 use Rattle.rules.specs.Sheet.{runsOf}
-use Rattle.rules.proofs.Pruning.{fastServing, fast-serving}
+use Rattle.rules.proofs.Pruning.{fastServing, fastBest, fast-best}
 use Rattle.rules.specs.Answers.{cleared, refused, written, answerChecked, answer, hostAnswer, output}
-use Rattle.rules.specs.BestPlan.{actionsOf, passagesInOrder, single, prepend, shorterOf, emptyPlan, bestPlan}
+use Rattle.rules.specs.BestPlan.{actionsOf, passagesInOrder, single, prepend, shorterOf, emptyPlan, servingPlans, bestPlan}
 use Rattle.rules.specs.Examples.{stocked, _⨯_, alpha, beta, steps, roundTrip, cases, midway, frontPart, backPart, nearBack, bothEnds, topTie, gapTie, bothBottom, bothOnce, ownCases, overfull, RefusedWith, workedJob, workedSheet}
 use Rattle.rules.specs.FirstWalk.{without, stepsOf, firstWalk}
 use Rattle.rules.specs.JobFile.{numeral, field, header, sectionText, jobText, layoutText, recordText, lineText, isDigit, isNumber, readField, readHeader, readPolicyAs, readPolicy, readLayout, readRecord, readLine, readSection, readLayoutSection, readSections, readJob}
@@ -32,14 +31,6 @@ use Rattle.rules.specs.Serving.{supply, serves}
 use Rattle.rules.specs.Sheet.{totalText, passageText, pickText, runText, sheetOf, sheetText}
 use Rattle.rules.specs.Store.{aisleLength, position, backHeight, depotPoint, distance, edgesOf, within, layoutInBounds, sameEdge, samePoint}
 use Rattle.rules.specs.Walks.{isCrossing, canStep, stepTo, stepEdge, one}
-
--- the best plan of a job, found the faster way
-fastBest : Job → Plan
-fastBest job = Option·getD (firstShortest (planLength (job .layout)) (fastServing job)) (emptyPlan (job .layout))
-
-fast-best : (job : Job) → bestPlan job ≡ fastBest job
-unfolding bestPlan fastBest
-fast-best job = ap (λ plans. Option·getD (firstShortest (planLength (job .layout)) plans) (emptyPlan (job .layout))) (fast-serving job)
 
 module _ (job : Job) (n : ℕ) (actions : List Action) (passages : List Passage) (admitted : jobRefusal job ≡ none) where
   abbrev plan : Plan

@@ -1,9 +1,11 @@
--- A faster way to the serving plans of a job: the enumeration leaves a branch as soon as the machine is dead.
--- It gives the same list, so that the worked examples can be computed. Assumes nothing.
+-- A faster way to the best plan of a job: the accepted rests of an aisle are listed once for each state, a dead state has none,
+-- and each length is computed once. It gives the same plan, so that the worked examples can be computed.
 use Prim.Native.Nat.{ℕ, zero, suc}
-use mathlib.Core.Path.{_≡_, refl, sym, _∙_, ap, ap₂}
+use mathlib.Core.Path.{_≡_, refl, sym, _∙_, ap, subst}
 use mathlib.Core.List.{List, [], _∷_, _++_, map, tail}
 use mathlib.Core.Bool.{Bool, true, false, cond, _&&_}
+use mathlib.Core.Option.{Option, none, some, Option·getD}
+use lib.Dec.{leb}
 use Rattle.rules.specs.declared.Policy.{Policy}
 use Rattle.rules.specs.declared.Policy.the-variants.{Exact, Return, Traversal, Midpoint, Composite}
 use Rattle.rules.specs.declared.Layout.{Layout}
@@ -13,12 +15,12 @@ use Rattle.rules.specs.declared.Passage.{Passage}
 use Rattle.rules.specs.declared.Passage.the-variants.{P00, P02, P11, P20, P22}
 use Rattle.rules.specs.Lists.{headOr, select, concatOf}
 use Rattle.rules.specs.Jobs.{Job}
-use Rattle.rules.specs.Plans.{Plan, planPasses}
+use Rattle.rules.specs.Plans.{Plan, planLength, planPasses}
 use Rattle.rules.specs.Policies.{passageNamed}
 use Rattle.rules.specs.Machine.{State, nothing, closed, atFront, atBack, odd, joined, split, ending, dead, lawfulStep, traversalStep, midpointStep, policyStep, actionPossible, actionStep, crossStep, passageStep, runFrom, isClosed, accepts}
 use Rattle.rules.specs.Serving.{serves}
 use Rattle.rules.proofs.Lists.{select-none, select-both, select-concat, select-map, concat-cong, concat-none}
-use Rattle.rules.specs.BestPlan.{actionsOf, passagesInOrder, single, prepend, plansOf, servingPlans}
+use Rattle.rules.specs.BestPlan.{actionsOf, passagesInOrder, single, prepend, plansOf, shorterOf, firstShortest, servingPlans, emptyPlan, bestPlan}
 
 -- the machine stays dead
 lawful-dead : (a : Action) → lawfulStep a dead ≡ dead
@@ -90,19 +92,9 @@ alive dead = false
 acceptsFrom : Job → ℕ → State → Plan → Bool
 acceptsFrom job j s plan = isClosed (runFrom job j s (plan .actions) (plan .passages))
 
--- the accepted plans of n aisles from aisle j on, leaving out what follows a dead state
+-- what follows a state, unless it is dead
 abbrev branches : {A : Type 0} → State → (State → List A) → List A
 branches s rest = elim (alive s) [ true ↦ rest s | false ↦ [] ]
-
-abbrev acceptedFrom : Job → ℕ → ℕ → State → List Plan
-acceptedFrom job zero j s = []
-acceptedFrom job (suc zero) j s = select (acceptsFrom job j s) (map single (actionsOf (job .layout .cells)))
-acceptedFrom job (suc (suc n)) j s =
-    concatOf
-    (λ a.
-    branches (actionStep job j a s)
-    (λ s₁. concatOf (λ p. branches (passageStep job j p s₁) (λ s₂. map (prepend a p) (acceptedFrom job (suc n) (suc j) s₂))) passagesInOrder))
-    (actionsOf (job .layout .cells))
 
 branches-all : {A : Type 0} (s : State) (rest : State → List A) → rest dead ≡ [] → rest s ≡ branches s rest
 branches-all nothing rest e = refl
@@ -115,6 +107,66 @@ branches-all split rest e = refl
 branches-all ending rest e = refl
 branches-all dead rest e = e
 
+-- the accepted rests from an aisle on, for each state in front of it: each is computed once
+record Layer : Type 0 where
+  if-nothing : List Plan
+  if-closed : List Plan
+  if-front : List Plan
+  if-back : List Plan
+  if-odd : List Plan
+  if-joined : List Plan
+  if-split : List Plan
+  if-ending : List Plan
+
+abbrev tabulate : (State → List Plan) → Layer
+tabulate f =
+    record {
+      if-nothing = f nothing;
+      if-closed = f closed;
+      if-front = f atFront;
+      if-back = f atBack;
+      if-odd = f odd;
+      if-joined = f joined;
+      if-split = f split;
+      if-ending = f ending;
+    }
+
+abbrev restsAt : Layer → State → List Plan
+restsAt l nothing = l .if-nothing
+restsAt l closed = l .if-closed
+restsAt l atFront = l .if-front
+restsAt l atBack = l .if-back
+restsAt l odd = l .if-odd
+restsAt l joined = l .if-joined
+restsAt l split = l .if-split
+restsAt l ending = l .if-ending
+restsAt l dead = []
+
+at-tabulate : (f : State → List Plan) → f dead ≡ [] → (s : State) → f s ≡ restsAt (tabulate f) s
+at-tabulate f e nothing = refl
+at-tabulate f e closed = refl
+at-tabulate f e atFront = refl
+at-tabulate f e atBack = refl
+at-tabulate f e odd = refl
+at-tabulate f e joined = refl
+at-tabulate f e split = refl
+at-tabulate f e ending = refl
+at-tabulate f e dead = e
+
+-- what follows an action, for each passage
+abbrev passed : Job → ℕ → Layer → Action → State → List Plan
+passed job j next a s = concatOf (λ p. map (prepend a p) (restsAt next (passageStep job j p s))) passagesInOrder
+
+-- what follows a state, for each action
+abbrev entered : Job → ℕ → Layer → State → List Plan
+entered job j next s = concatOf (λ a. branches (actionStep job j a s) (passed job j next a)) (actionsOf (job .layout .cells))
+
+-- the accepted rests of n aisles from aisle j on
+abbrev layerFrom : Job → ℕ → ℕ → Layer
+layerFrom job zero j = tabulate (λ s. [])
+layerFrom job (suc zero) j = tabulate (λ s. select (acceptsFrom job j s) (map single (actionsOf (job .layout .cells))))
+layerFrom job (suc (suc n)) j = let next = layerFrom job (suc n) (suc j) in tabulate (entered job j next)
+
 accepts-none : (job : Job) (j : ℕ) (plans : List Plan) → select (acceptsFrom job j dead) plans ≡ []
 unfolding acceptsFrom
 accepts-none job j plans = select-none _ (λ plan. ap isClosed (run-dead job (plan .actions) j (plan .passages))) plans
@@ -124,44 +176,102 @@ accepts-prepend : (job : Job) (j : ℕ) (s : State) (a : Action) (p : Passage) (
 unfolding acceptsFrom prepend
 accepts-prepend job j s a p plans = select-map (acceptsFrom job j s) (prepend a p) plans
 
--- what follows an action, for each passage
-abbrev passed : Job → ℕ → ℕ → Action → State → List Plan
-passed job j n a s = concatOf (λ p. branches (passageStep job j p s) (λ s₂. map (prepend a p) (acceptedFrom job (suc n) (suc j) s₂))) passagesInOrder
-
-passed-dead : (job : Job) (j n : ℕ) (a : Action) → passed job j n a dead ≡ []
-passed-dead job j n a = concat-none _ (λ p. ap (λ s. branches s (λ s₂. map (prepend a p) (acceptedFrom job (suc n) (suc j) s₂))) (passage-dead job j p)) passagesInOrder
-
 abbrev Same : Job → ℕ → ℕ → Type 0
-Same job n j = (s : State) → select (acceptsFrom job j s) (plansOf (job .layout .cells) n) ≡ acceptedFrom job n j s
+Same job n j = (s : State) → select (acceptsFrom job j s) (plansOf (job .layout .cells) n) ≡ restsAt (layerFrom job n j) s
 
-module _ (job : Job) (j n : ℕ) (rest : Same job (suc n) (suc j)) (s : State) where
-  after-passage : (a : Action) (p : Passage) → select (acceptsFrom job j s) (map (prepend a p) (plansOf (job .layout .cells) (suc n))) ≡ branches (passageStep job j p (actionStep job j a s)) (λ s₂. map (prepend a p) (acceptedFrom job (suc n) (suc j) s₂))
-  after-passage a p =
-      accepts-prepend job j s a p (plansOf (job .layout .cells) (suc n))
-      ∙ ap (map (prepend a p)) (rest (passageStep job j p (actionStep job j a s)))
-      ∙ branches-all (passageStep job j p (actionStep job j a s)) (λ s₂. map (prepend a p) (acceptedFrom job (suc n) (suc j) s₂)) (ap (map (prepend a p)) (sym (rest dead) ∙ accepts-none job (suc j) (plansOf (job .layout .cells) (suc n))))
+module _ (job : Job) (j n : ℕ) (rest : Same job (suc n) (suc j)) where
+  abbrev next : Layer
+  next = layerFrom job (suc n) (suc j)
 
-  after-action : (a : Action) → select (acceptsFrom job j s) (concatOf (λ p. map (prepend a p) (plansOf (job .layout .cells) (suc n))) passagesInOrder) ≡ branches (actionStep job j a s) (passed job j n a)
-  after-action a =
+  abbrev plans : List Plan
+  plans = plansOf (job .layout .cells) (suc n)
+
+  passed-dead : (a : Action) → passed job j next a dead ≡ []
+  passed-dead a = concat-none _ (λ p. ap (λ s. map (prepend a p) (restsAt next s)) (passage-dead job j p)) passagesInOrder
+
+  after-action : (s : State) (a : Action) → select (acceptsFrom job j s) (concatOf (λ p. map (prepend a p) plans) passagesInOrder) ≡ branches (actionStep job j a s) (passed job j next a)
+  after-action s a =
       select-concat (acceptsFrom job j s) _ passagesInOrder
-      ∙ concat-cong _ _ (after-passage a) passagesInOrder
-      ∙ branches-all (actionStep job j a s) (passed job j n a) (passed-dead job j n a)
+      ∙ concat-cong _ _ (λ p. accepts-prepend job j s a p plans ∙ ap (map (prepend a p)) (rest (passageStep job j p (actionStep job j a s)))) passagesInOrder
+      ∙ branches-all (actionStep job j a s) (passed job j next a) (passed-dead a)
 
-  one-more : select (acceptsFrom job j s) (plansOf (job .layout .cells) (suc (suc n))) ≡ acceptedFrom job (suc (suc n)) j s
-  one-more = select-concat (acceptsFrom job j s) _ (actionsOf (job .layout .cells)) ∙ concat-cong _ _ after-action (actionsOf (job .layout .cells))
+  one-more : (s : State) → select (acceptsFrom job j s) (plansOf (job .layout .cells) (suc (suc n))) ≡ entered job j next s
+  one-more s = select-concat (acceptsFrom job j s) _ (actionsOf (job .layout .cells)) ∙ concat-cong _ _ (after-action s) (actionsOf (job .layout .cells))
+
+  -- from a dead state no action leads on
+  entered-dead : entered job j next dead ≡ []
+  entered-dead = concat-none _ (λ a. ap (λ s. branches s (passed job j next a)) (action-dead job j a)) (actionsOf (job .layout .cells))
 
 accepted-from : (job : Job) (n j : ℕ) → Same job n j
-accepted-from job zero j s = refl
-accepted-from job (suc zero) j s = refl
-accepted-from job (suc (suc n)) j s = one-more job j n (accepted-from job (suc n) (suc j)) s
+accepted-from job zero j s = at-tabulate (λ s. []) refl s
+accepted-from job (suc zero) j s =
+    at-tabulate (λ s. select (acceptsFrom job j s) (map single (actionsOf (job .layout .cells)))) (accepts-none job j (map single (actionsOf (job .layout .cells)))) s
+accepted-from job (suc (suc n)) j s =
+    let rest = accepted-from job (suc n) (suc j) in
+    one-more job j n rest s ∙ at-tabulate (entered job j (layerFrom job (suc n) (suc j))) (entered-dead job j n rest) s
 
 -- the serving plans of a job, found the faster way
 unfoldable pub fastServing : Job → List Plan
 unfolding acceptsFrom
-fastServing job = select (λ plan. serves job (planPasses plan)) (acceptedFrom job (job .layout .aisles) 1 nothing)
+fastServing job = select (λ plan. serves job (planPasses plan)) (restsAt (layerFrom job (job .layout .aisles) 1) nothing)
 
 pub fast-serving : (job : Job) → servingPlans job ≡ fastServing job
 unfolding servingPlans accepts acceptsFrom fastServing
 fast-serving job =
     select-both (accepts job) (λ plan. serves job (planPasses plan)) (plansOf (job .layout .cells) (job .layout .aisles))
     ∙ ap (select (λ plan. serves job (planPasses plan))) (accepted-from job (job .layout .aisles) 1 nothing)
+
+module _ {A : Type 0} (len : A → ℕ) where
+  -- the first of two with their lengths, unless the second is shorter
+  abbrev shorterPair : ℕ × A → Option (ℕ × A) → ℕ × A
+  shorterPair x none = x
+  shorterPair x (some y) = cond (leb (x .0) (y .0)) x y
+
+  -- the first of the shortest, each length computed once
+  abbrev quickest : List A → Option (ℕ × A)
+  quickest [] = none
+  quickest (x ∷ xs) = let n = len x in some (shorterPair (n, x) (quickest xs))
+
+  -- the length beside an element is its own
+  abbrev Own : Option (ℕ × A) → Option A → Type 0
+  Own none none = Unit {0}
+  Own none (some y) = ⊥
+  Own (some x) none = ⊥
+  Own (some x) (some y) = (x .0 ≡ len y) × (x .1 ≡ y)
+
+  quickest-own : (xs : List A) → Own (quickest xs) (firstShortest len xs)
+  unfolding shorterOf
+  quickest-own [] = tt
+  quickest-own (x ∷ xs) = go (quickest xs) (firstShortest len xs) (quickest-own xs)
+    where
+      go : (o : Option (ℕ × A)) (q : Option A) → Own o q → Own (some (shorterPair (len x, x) o)) (some (shorterOf len x q))
+      go none none h = (refl, refl)
+      go none (some y) h = absurd h
+      go (some o) none h = absurd h
+      go (some o) (some y) h =
+          subst (λ k. Own (some (cond (leb (len x) k) (len x, x) o)) (some (shorterOf len x (some y)))) (sym (h .0)) (pick (leb (len x) (len y)))
+        where
+          pick : (b : Bool) → Own (some (cond b (len x, x) o)) (some (cond b x y))
+          pick true = (refl, refl)
+          pick false = h
+
+  abbrev second : Option (ℕ × A) → Option A
+  second none = none
+  second (some x) = some (x .1)
+
+  second-own : (o : Option (ℕ × A)) (q : Option A) → Own o q → q ≡ second o
+  second-own none none h = refl
+  second-own none (some y) h = absurd h
+  second-own (some x) none h = absurd h
+  second-own (some x) (some y) h = ap some (sym (h .1))
+
+-- the best plan of a job, found the faster way
+unfoldable pub fastBest : Job → Plan
+fastBest job = Option·getD (second (planLength (job .layout)) (quickest (planLength (job .layout)) (fastServing job))) (emptyPlan (job .layout))
+
+pub fast-best : (job : Job) → bestPlan job ≡ fastBest job
+unfolding bestPlan fastBest
+fast-best job =
+    let len = planLength (job .layout) in
+    ap (λ plans. Option·getD (firstShortest len plans) (emptyPlan (job .layout))) (fast-serving job)
+    ∙ ap (λ (o : Option Plan). Option·getD o (emptyPlan (job .layout))) (second-own len (quickest len (fastServing job)) (firstShortest len (fastServing job)) (quickest-own len (fastServing job)))

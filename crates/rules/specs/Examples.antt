@@ -187,8 +187,8 @@ gapTie policy =
       layout = record { aisles = 4; cells = 6; front = 1; pitch = 1; back = 1; width = 1; depot = 1 };
       policy = policy;
       stock =
-        stocked 1 3 1 1 ∷ stocked 2 1 1 1 ∷ stocked 2 6 1 1 ∷ stocked 3 1 1 1 ∷ stocked 3 6 1 1 ∷ stocked 4 3 1 1
-        ∷ stocked 2 2 2 1 ∷ stocked 2 5 2 1 ∷ stocked 3 3 2 2 ∷ [];
+          stocked 1 3 1 1 ∷ stocked 2 1 1 1 ∷ stocked 2 6 1 1 ∷ stocked 3 1 1 1 ∷ stocked 3 6 1 1 ∷ stocked 4 3 1 1
+          ∷ stocked 2 2 2 1 ∷ stocked 2 5 2 1 ∷ stocked 3 3 2 2 ∷ [];
       lines = (1 ⨯ 6) ∷ (2 ⨯ 2) ∷ [];
     }
 
