@@ -1,4 +1,4 @@
--- Document 01, "Wrong turnings on the floor": two plans with even crossings that are not lawful. Assumes nothing.
+-- Document 01, "Wrong turnings on the floor": plans with even crossings that are not lawful.
 use Prim.Native.Nat.{ℕ, zero, suc, _≤_, _<_}
 use native.Mathlib.Omega.{arith}
 use mathlib.Core.Path.{_≡_, refl, sym, ap, subst}
@@ -6,7 +6,7 @@ use mathlib.Core.Logic.{_⊎_, inl, inr}
 use mathlib.Core.List.{List, [], _∷_}
 use Rattle.rules.specs.declared.Layout.{Layout}
 use Rattle.rules.specs.declared.Action.the-variants.{Void, Bottom, Gap}
-use Rattle.rules.specs.declared.Passage.the-variants.{P00}
+use Rattle.rules.specs.declared.Passage.the-variants.{P00, P02}
 use Rattle.rules.specs.Store.{Point, Edge, along, front, back, startOf, endOf, backHeight, Joins, InStore, depotPoint}
 use Rattle.rules.specs.Plans.{Plan, actionAt, passageAt, aisleTreads, multiplicity}
 use Rattle.rules.specs.Lawful.{Trodden, Touched, Linked, here, step, Lawful}
@@ -81,3 +81,12 @@ unfolding Touched Trodden InStore multiplicity actionAt oneAisle twoLoops startO
 loops-apart lawful =
     let apart : 3 ≤ 0 = behind (record { aisle = 1; height = 4 }) (omega arith) (lawful .together (record { aisle = 1; height = 0 }) (record { aisle = 1; height = 4 }) (along 1 0, ((omega arith, omega arith, omega arith), omega arith), inl refl) (along 1 3, ((omega arith, omega arith, omega arith), omega arith), inr refl)) in
     omega arith
+
+-- VOID 02 BOTTOM 99: there is no such cell
+unfoldable pub beyondCells : Plan
+beyondCells = record { actions = Void ∷ Bottom 99 ∷ []; passages = P02 ∷ [] }
+
+-- so it is no plan of the store, and not lawful
+pub no-such-cell : Lawful twoAisles beyondCells → ⊥
+unfolding twoAisles beyondCells actionAt
+no-such-cell lawful = let reached : 99 ≤ 3 = lawful .well-formed .fits 2 .1 in omega arith
