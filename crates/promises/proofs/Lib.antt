@@ -4,5 +4,6 @@ pub mod Taken
 pub mod Texts
 pub mod Best
 pub mod Shown
+pub mod Varied
 pub mod Demands
 pub mod Theory
