@@ -5,5 +5,7 @@ pub mod Texts
 pub mod Best
 pub mod Shown
 pub mod Varied
+pub mod Host
+pub mod Program
 pub mod Demands
 pub mod Theory
