@@ -17,7 +17,8 @@ use Rattle.rules.specs.JobFile.{lineFeed, header, field, jobFileLimit}
 use Rattle.rules.specs.Plans.{Plan}
 use Rattle.rules.specs.Lawful.{Lawful}
 use Rattle.rules.specs.Walks.{Walk, ClosedWalk, walkTreads}
-use Rattle.rules.specs.Refusals.{numberOf}
+use Rattle.rules.specs.Picks.{picksOf}
+use Rattle.rules.specs.Refusals.{numberOf, Admitted}
 use Rattle.rules.specs.Answers.{answer, hostAnswer, sheetLimit, letterR, output}
 use Rattle.rules.specs.Examples.{AllHold, cases}
 use Rattle.rules.proofs.Cases as Cases
@@ -27,6 +28,7 @@ use Rattle.promises.specs.Contents.{Content}
 use Rattle.promises.specs.Calls.{RefusedCall, ServedCall, Shows, Obeys, Shortest, TreadsAs, hostWork, hostGets, HostCall, PrintsSheet, PrintsRefusal}
 use Rattle.promises.proofs.Table.{job-file-read, refused-for, refused-by, served-for, served-by}
 use Rattle.promises.proofs.Shown.{refused-call, served-call, best, best-obeys, best-shortest, shown, shown-best}
+use Rattle.promises.proofs.PickRule
 use Rattle.promises.proofs.Varied
 use Rattle.promises.proofs.Host
 use Rattle.promises.proofs.Program
@@ -71,6 +73,11 @@ demand-2 bytes sheet work =
           );
       obeys = λ job c s. (let t = shown-best bytes sheet work job c s in subst (Obeys job) (t .1) (best-obeys job (t .0)));
     }
+
+-- "Picks: through aisles, then cells, upwards; from each passed cell take what its line still lacks, as far as stock goes."
+-- That is `picks-upwards` and `picks-rule` of `Obeys`; no other picks obey
+pub picks-determined : (job : Job) → Admitted job → (c : Content) → Obeys job c → c .picks ≡ picksOf job (c .plan)
+picks-determined = PickRule.picks-determined
 
 -- "Conversely, every non-empty closed walk from the depot that treads no stretch more than twice reads as one plan, and a lawful one."
 pub demand-2-conversely : (z : Layout) → 1 ≤ z .depot → z .depot ≤ z .aisles

@@ -15,7 +15,7 @@ use Rattle.rules.specs.Sheet.{sheetText}
 use Rattle.rules.specs.Answers.{replyLength, workLimit, sheetLimit, answer, hostAnswer, hostNumber}
 use Rattle.planner.proofs.Space.{sheet-suffices, served-length}
 use Rattle.promises.specs.Causes.{OfJob, FirstCause}
-use Rattle.promises.specs.Calls.{RefusedCall, ServedCall, hostWork, hostGets, HostCall}
+use Rattle.promises.specs.Calls.{ServedCall, hostWork, hostGets, HostCall}
 use Rattle.promises.proofs.Table.{job-file-read, NoCause, refused-for, refused-by, served-for, served-by, above-admitted}
 use Rattle.promises.proofs.Shown.{refused-call, served-call}
 

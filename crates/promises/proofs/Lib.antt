@@ -1,6 +1,7 @@
 pub mod Table
 pub mod Picks
 pub mod Taken
+pub mod PickRule
 pub mod Texts
 pub mod Best
 pub mod Shown

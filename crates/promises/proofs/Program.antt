@@ -12,17 +12,15 @@ use lib.Dec.{ltb, leb}
 use lib.ListN.{length, take, length-take, length-replicate}
 use lib.Seq.{take-all}
 use Rattle.rules.specs.declared.Refusal.{Refusal}
-use Rattle.rules.specs.declared.Refusal.the-variants.{WorkArea, NotAJobFile, SheetSpace}
+use Rattle.rules.specs.declared.Refusal.the-variants.{NotAJobFile}
 use Rattle.rules.specs.declared.Reply.{Reply}
 use Rattle.rules.specs.declared.Reply.the-variants.{Served, Refused}
 use Rattle.rules.specs.Jobs.{Job}
 use Rattle.rules.specs.JobFile.{lineFeed, header, field, jobFileLimit, readJob}
-use Rattle.rules.specs.Refusals.{numberOf, checkBytes}
-use Rattle.rules.specs.Sheet.{sheetText}
-use Rattle.rules.specs.Answers.{Answer, replyLength, workLimit, sheetLimit, refused, answerChecked, answer, hostAnswer, letterR, printed, output}
-use Rattle.promises.specs.Causes.{Cause}
+use Rattle.rules.specs.Refusals.{checkBytes}
+use Rattle.rules.specs.Answers.{replyLength, workLimit, sheetLimit, refused, answerChecked, answer, hostAnswer, letterR, printed, output}
 use Rattle.promises.specs.Calls.{hostWork, programSheet, PrintsSheet, PrintsRefusal}
-use Rattle.promises.proofs.Table.{refused-by, refused-for, served-by}
+use Rattle.promises.proofs.Table.{refused-by, served-by}
 use Rattle.promises.proofs.Shown.{served-call}
 use Rattle.promises.proofs.Host.{space-suffices, work-suffices}
 

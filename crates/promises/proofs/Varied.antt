@@ -13,7 +13,7 @@ use Rattle.rules.specs.JobFile.{numeral, field, header, layoutText, recordText,
 use Rattle.rules.specs.JobFile.{isDigit, isNumber, readField, readHeader, readPolicyAs, readPolicy, readLayout, readRecord, readLine, readSection, readLayoutSection, readSections, readJob}
 use Rattle.rules.specs.Refusals.{jobRefusal}
 use Rattle.rules.specs.Answers.{workLimit, sheetLimit, answer}
-use Rattle.rules.specs.Examples.{stocked, _of_, alpha, roundTrip, cases}
+use Rattle.rules.specs.Examples.{stocked, _of_, alpha, cases}
 use Rattle.rules.proofs.Admission.{admitted}
 use Rattle.rules.proofs.Cases.{cases-hold}
 use Rattle.planner.proofs.Space.{sheet-suffices}

@@ -1,8 +1,9 @@
 -- What a refused call gives, what a served call gives, and what its sheet must say.
-use Prim.Native.Nat.{ℕ, _+_, _≤_, _<_}
+use Prim.Native.Nat.{ℕ, _+_, _-_, min, _≤_, _<_}
 use mathlib.Core.Path.{_≡_}
 use mathlib.Core.Logic.{_⊎_, _↔_}
 use mathlib.Core.List.{List, _++_, List·Memᴰ}
+use mathlib.Core.Bool.{true}
 use lib.ListN.{length, take, drop, replicate}
 use Rattle.rules.specs.declared.Layout.{Layout}
 use Rattle.rules.specs.declared.StockRecord.{StockRecord}
@@ -15,7 +16,7 @@ use Rattle.rules.specs.declared.Reply.the-variants.{Served}
 use Rattle.rules.specs.Store.{Edge, InStore}
 use Rattle.rules.specs.Jobs.{Job}
 use Rattle.rules.specs.JobFile.{lineFeed, header, field}
-use Rattle.rules.specs.Plans.{Plan, WellFormed, multiplicity, lengthOf, planLength}
+use Rattle.rules.specs.Plans.{Plan, WellFormed, multiplicity, lengthOf, planLength, planPasses}
 use Rattle.rules.specs.Policies.{Allowed}
 use Rattle.rules.specs.Serving.{PlanServes, WalkServes}
 use Rattle.rules.specs.Walks.{Walk, ClosedWalk, NotAfter, walkTreads, walkLength}
@@ -26,7 +27,7 @@ use Rattle.rules.specs.Sheet.{sheetText}
 use Rattle.rules.specs.Answers.{Answer, answer, replyNumber, replyLength, workLimit, cleared, hostAnswer, hostNumber, sheetLimit, letterR, output}
 use Rattle.rules.proofs.Lists.{Sorted}
 use Rattle.promises.specs.Causes.{JobFileOf, OfJob, Cause, FirstCause, workAfter}
-use Rattle.promises.specs.Contents.{Content, contentText, picked, TakenFrom, PickBefore}
+use Rattle.promises.specs.Contents.{Content, contentText, picked, TakenFrom, PickBefore, pickedFrom, pickedBefore}
 
 -- a refused call: the table's number, length 0, the sheet as it was, the work area as the table says
 pub record RefusedCall (r : Refusal) (sheet work : List ℕ) (a : Answer) : Type 0 where
@@ -52,7 +53,8 @@ pub record Shows (bytes sheet work : List ℕ) (job : Job) (c : Content) : Type 
   pub text : take (length (contentText c)) (answer bytes sheet work .sheet) ≡ contentText c
 
 -- the policy is the job's and allows the plan; the length is the sum over the edges; the picks add up to each line's quantity,
--- nothing else is picked, and all of it from passed cells; the walk is closed, from the depot, treads each edge as the plan says,
+-- nothing else is picked, and all of it from passed cells, upwards; from each passed cell is taken what its line still lacks after
+-- the cells before it, as far as stock goes; the walk is closed, from the depot, treads each edge as the plan says,
 -- and no other such walk comes before it in the alphabet
 pub record Obeys (job : Job) (c : Content) : Type 0 where
   pub policy : c .policy ≡ job .policy
@@ -63,6 +65,8 @@ pub record Obeys (job : Job) (c : Content) : Type 0 where
   pub picks-listed : (x : Pick) → List·Memᴰ x (c .picks) → (l : OrderLine) × List·Memᴰ l (job .lines) × (x .article ≡ l .article)
   pub picks-taken : (x : Pick) → List·Memᴰ x (c .picks) → (r : StockRecord) × TakenFrom job (c .plan) x r
   pub picks-upwards : Sorted PickBefore (c .picks)
+  pub picks-rule : (r : StockRecord) → List·Memᴰ r (job .stock) → planPasses (c .plan) (r .aisle) (r .cell) ≡ true → (l : OrderLine) → List·Memᴰ l (job .lines) → l .article ≡ r .article
+      → pickedFrom (c .picks) (r .aisle) (r .cell) ≡ min (l .quantity - pickedBefore (c .picks) (r .article) (r .aisle) (r .cell)) (r .quantity)
   pub walk-of-plan : WalkOf (job .layout) (c .plan) (c .walk)
   pub walk-first : (walk : Walk) → WalkOf (job .layout) (c .plan) walk → NotAfter (c .walk) walk
 
