@@ -144,6 +144,7 @@ pub refusal-number-tells : (q r : Refusal) → numberOf q ≡ numberOf r → q �
 refusal-number-tells = Host.refusal-number-tells
 
 -- "The program reads a job from standard input and prints the sheet, or `R 1` and a line with the refusal number."
+-- The number is never 9 or 10
 pub program-prints : (bytes : List ℕ) → ((job : Job) × PrintsSheet bytes job) ⊎ ((r : Refusal) × PrintsRefusal bytes r)
 program-prints = Program.prints
 

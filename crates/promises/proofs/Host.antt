@@ -65,7 +65,10 @@ module _ (bytes sheet work : List ℕ) where
       go (Refused r) h = absurd (omega arith)
 
   pub count-number : (number < 65536) ↔ NoCause bytes sheet work
-  count-number = (λ l. served-by bytes sheet work number (count-told l), λ n. below (answer bytes sheet work .reply) (served-length bytes sheet work) (ap (λ a. a .reply) (served-for bytes sheet work n .2)))
+  count-number = (
+    λ l. served-by bytes sheet work number (count-told l),
+    λ n. below (answer bytes sheet work .reply) (served-length bytes sheet work) (ap (λ a. a .reply) (served-for bytes sheet work n .2)),
+  )
     where
       below : {n : ℕ} (q : Reply) → replyLength q ≤ sheetLimit → q ≡ Served n → hostNumber q < 65536
       below (Served m) h e = omega arith

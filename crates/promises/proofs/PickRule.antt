@@ -4,7 +4,7 @@ use native.Mathlib.Omega.{arith}
 use mathlib.Core.Path.{_≡_, refl, sym, _∙_, ap, subst}
 use mathlib.Core.Logic.{_⊎_, inl, inr, _↔_}
 use mathlib.Core.List.{List, [], _∷_, List·Memᴰ, List·Memᴰ·head, List·Memᴰ·tail, List·Memᴰ·not-nil}
-use mathlib.Core.Bool.{Bool, true, false, cond, _&&_, _||_, and-eq-true-iff, false≢true}
+use mathlib.Core.Bool.{Bool, true, false, cond, _&&_, _||_, and-eq-true-iff}
 use borrow.Author.Tests.{ltb-true, lt-ltb, le-ltb, eqb-true, eq-eqb}
 use lib.Dec.{ltb, eqb}
 use Rattle.rules.specs.declared.StockRecord.{StockRecord}
@@ -19,7 +19,7 @@ use Rattle.rules.proofs.Admission.{list-within, articles-once, one-record-per-c
 use Rattle.promises.specs.Contents.{Content, pickedBy, CellBefore, PickBefore, cellBefore, pickedFrom, pickedBefore}
 use Rattle.promises.specs.Calls.{Obeys}
 use Rattle.promises.proofs.Table.{untrue}
-use Rattle.promises.proofs.Picks.{Apart, lack-listed, lack-line, lack-less, less-apart, add-pick}
+use Rattle.promises.proofs.Picks.{Apart, lack-listed, lack-line, lack-less, less-apart, pickOf, add-pick}
 use Rattle.promises.proofs.Taken.{FromRecord, pick-record, RecordBefore, pick-behind, passed-sorted, passed-record, passed-member}
 
 -- the order of cells and its test
@@ -55,77 +55,94 @@ cells-chain i b j c k d (inl l) (inr m) = inl (omega arith)
 cells-chain i b j c k d (inr l) (inl m) = inl (omega arith)
 cells-chain i b j c k d (inr l) (inr m) = inr (omega arith, omega arith)
 
--- the tests by which picks are counted, at a cell that comes before or behind
-at-cell : (i b j c : ℕ) → eqb i j && eqb b c ≡ true → (i ≡ j) × (b ≡ c)
-at-cell i b j c h = let t = and-eq-true-iff (eqb i j) (eqb b c) .0 h in (eqb-true i j (t .0), eqb-true b c (t .1))
+-- how much is picked at a record, and how much of its article before it
+abbrev here : List Pick → StockRecord → ℕ
+here picks r = pickedFrom picks (r .aisle) (r .cell)
+
+abbrev before : List Pick → StockRecord → ℕ
+before picks r = pickedBefore picks (r .article) (r .aisle) (r .cell)
+
+-- the rule at a record
+abbrev Rule : List OrderLine → List Pick → StockRecord → Type 0
+Rule ls picks r = here picks r ≡ min (lackOf ls (r .article) - before picks r) (r .quantity)
+
+-- the tests by which picks are counted there
+abbrev isAt : StockRecord → Pick → Bool
+isAt r x = eqb (x .aisle) (r .aisle) && eqb (x .cell) (r .cell)
+
+abbrev isBefore : StockRecord → Pick → Bool
+isBefore r x = eqb (x .article) (r .article) && cellBefore (x .aisle) (x .cell) (r .aisle) (r .cell)
+
+at-true : (r : StockRecord) (x : Pick) → isAt r x ≡ true → (x .aisle ≡ r .aisle) × (x .cell ≡ r .cell)
+at-true r x h =
+    let t = and-eq-true-iff (eqb (x .aisle) (r .aisle)) (eqb (x .cell) (r .cell)) .0 h in
+    (eqb-true (x .aisle) (r .aisle) (t .0), eqb-true (x .cell) (r .cell) (t .1))
+
+before-true : (r : StockRecord) (x : Pick) → isBefore r x ≡ true → CellBefore (x .aisle) (x .cell) (r .aisle) (r .cell)
+before-true r x h =
+    let t = and-eq-true-iff (eqb (x .article) (r .article)) (cellBefore (x .aisle) (x .cell) (r .aisle) (r .cell)) .0 h in
+    cell-before (x .aisle) (x .cell) (r .aisle) (r .cell) .0 (t .1)
 
 picked-none : (t : Pick → Bool) (picks : List Pick) → ((x : Pick) → List·Memᴰ x picks → t x ≡ true → ⊥) → pickedBy t picks ≡ 0
 picked-none t [] h = refl
 picked-none t (x ∷ xs) h = rw (untrue (t x) (h x (List·Memᴰ·head refl))) (omega (arith, picked-none t xs (λ y m. h y (List·Memᴰ·tail m))))
 
-from-none : (j c : ℕ) (picks : List Pick) → ((x : Pick) → List·Memᴰ x picks → (x .aisle ≡ j) × (x .cell ≡ c) → ⊥) → pickedFrom picks j c ≡ 0
+here-none : (r : StockRecord) (picks : List Pick) → ((x : Pick) → List·Memᴰ x picks → (x .aisle ≡ r .aisle) × (x .cell ≡ r .cell) → ⊥) → here picks r ≡ 0
 unfolding pickedFrom
-from-none j c picks h = picked-none _ picks (λ x m e. h x m (at-cell (x .aisle) (x .cell) j c e))
+here-none r picks h = picked-none (isAt r) picks (λ x m e. h x m (at-true r x e))
 
--- picks behind a cell
-abbrev Behind : ℕ → ℕ → List Pick → Type 0
-Behind j c picks = (x : Pick) → List·Memᴰ x picks → CellBefore j c (x .aisle) (x .cell)
+-- picks behind a record's cell: nothing is picked there or before
+abbrev Behind : StockRecord → List Pick → Type 0
+Behind r picks = (x : Pick) → List·Memᴰ x picks → CellBefore (r .aisle) (r .cell) (x .aisle) (x .cell)
 
-behind-from : (j c : ℕ) (picks : List Pick) → Behind j c picks → pickedFrom picks j c ≡ 0
-behind-from j c picks h = from-none j c picks (λ x m e. cells-apart (h x m) (sym (e .0), sym (e .1)))
+behind-here : (r : StockRecord) (picks : List Pick) → Behind r picks → here picks r ≡ 0
+behind-here r picks h = here-none r picks (λ x m e. cells-apart (h x m) (sym (e .0), sym (e .1)))
 
-behind-before : (a j c : ℕ) (picks : List Pick) → Behind j c picks → pickedBefore picks a j c ≡ 0
+behind-before : (r : StockRecord) (picks : List Pick) → Behind r picks → before picks r ≡ 0
 unfolding pickedBefore
-behind-before a j c picks h =
-    picked-none _ picks (λ x m e. cells-ordered j c (x .aisle) (x .cell) (h x m) (cell-before (x .aisle) (x .cell) j c .0 (and-eq-true-iff (eqb (x .article) a) (cellBefore (x .aisle) (x .cell) j c) .0 e .1)))
-
--- the rule at a record
-abbrev Rule : List OrderLine → List Pick → StockRecord → Type 0
-Rule ls picks r = pickedFrom picks (r .aisle) (r .cell) ≡ min (lackOf ls (r .article) - pickedBefore picks (r .article) (r .aisle) (r .cell)) (r .quantity)
+behind-before r picks h = picked-none (isBefore r) picks (λ x m e. cells-ordered (r .aisle) (r .cell) (x .aisle) (x .cell) (h x m) (before-true r x e))
 
 module _ (q : StockRecord) (n : ℕ) (picks : List Pick) where
-  -- a pick in front counts at its own cell, and for the cells behind
-  add-from : (j c : ℕ) → pickedFrom (addPick q n picks) j c ≡ cond (eqb (q .aisle) j && eqb (q .cell) c) n 0 + pickedFrom picks j c
+  -- a pick in front counts at its own cell
+  own-here : Behind q picks → here (addPick q n picks) q ≡ n
   unfolding pickedFrom
-  add-from j c = add-pick (λ x. eqb (x .aisle) j && eqb (x .cell) c) q n picks
+  own-here h =
+      let t : isAt q (pickOf q n) ≡ true = rw (eq-eqb (q .aisle) (q .aisle) refl, eq-eqb (q .cell) (q .cell) refl) in
+      let e = add-pick (isAt q) q n picks in
+      omega (arith, rw t at e, behind-here q picks h)
 
-  add-before : (a j c : ℕ) → pickedBefore (addPick q n picks) a j c ≡ cond (eqb (q .article) a && cellBefore (q .aisle) (q .cell) j c) n 0 + pickedBefore picks a j c
+  own-before : Behind q picks → before (addPick q n picks) q ≡ 0
   unfolding pickedBefore
-  add-before a j c = add-pick (λ x. eqb (x .article) a && cellBefore (x .aisle) (x .cell) j c) q n picks
+  own-before h =
+      let t = untrue (isBefore q (pickOf q n)) (λ e. cells-apart (before-true q (pickOf q n) e) (refl, refl)) in
+      let e = add-pick (isBefore q) q n picks in
+      omega (arith, rw t at e, behind-before q picks h)
 
-  own-from : Behind (q .aisle) (q .cell) picks → pickedFrom (addPick q n picks) (q .aisle) (q .cell) ≡ n
-  own-from h =
-      add-from (q .aisle) (q .cell)
-      ∙ rw (eq-eqb (q .aisle) (q .aisle) refl, eq-eqb (q .cell) (q .cell) refl) (omega (arith, behind-from (q .aisle) (q .cell) picks h))
-
-  own-before : (a : ℕ) → Behind (q .aisle) (q .cell) picks → pickedBefore (addPick q n picks) a (q .aisle) (q .cell) ≡ 0
-  own-before a h =
-      add-before a (q .aisle) (q .cell)
-      ∙ rw (untrue (eqb (q .article) a && cellBefore (q .aisle) (q .cell) (q .aisle) (q .cell)) itself) (omega (arith, behind-before a (q .aisle) (q .cell) picks h))
-    where
-      itself : eqb (q .article) a && cellBefore (q .aisle) (q .cell) (q .aisle) (q .cell) ≡ true → ⊥
-      itself e = cells-apart (cell-before (q .aisle) (q .cell) (q .aisle) (q .cell) .0 (and-eq-true-iff (eqb (q .article) a) _ .0 e .1)) (refl, refl)
-
-  later-from : (r : StockRecord) → RecordBefore q r → pickedFrom (addPick q n picks) (r .aisle) (r .cell) ≡ pickedFrom picks (r .aisle) (r .cell)
-  later-from r l =
-      add-from (r .aisle) (r .cell)
-      ∙ rw (untrue (eqb (q .aisle) (r .aisle) && eqb (q .cell) (r .cell)) (λ e. cells-apart l (at-cell (q .aisle) (q .cell) (r .aisle) (r .cell) e))) (omega arith)
+  -- and before the cells behind: their lines lack as much less
+  later-here : (r : StockRecord) → RecordBefore q r → here (addPick q n picks) r ≡ here picks r
+  unfolding pickedFrom
+  later-here r l =
+      let t = untrue (isAt r (pickOf q n)) (λ e. cells-apart l (at-true r (pickOf q n) e)) in
+      let e = add-pick (isAt r) q n picks in
+      omega (arith, rw t at e)
 
   later-lack : (ls : List OrderLine) (r : StockRecord) → Apart ls → RecordBefore q r
-      → lackOf ls (r .article) - pickedBefore (addPick q n picks) (r .article) (r .aisle) (r .cell) ≡ lackOf (lessOf (q .article) n ls) (r .article) - pickedBefore picks (r .article) (r .aisle) (r .cell)
-  later-lack ls r s l = go (eqb (q .article) (r .article)) (cellBefore (q .aisle) (q .cell) (r .aisle) (r .cell)) (cell-before (q .aisle) (q .cell) (r .aisle) (r .cell) .1 l) (add-before (r .article) (r .aisle) (r .cell)) (lack-less (q .article) n (r .article) ls s)
+      → lackOf ls (r .article) - before (addPick q n picks) r ≡ lackOf (lessOf (q .article) n ls) (r .article) - before picks r
+  unfolding pickedBefore
+  later-lack ls r s l =
+      let earlier = cell-before (q .aisle) (q .cell) (r .aisle) (r .cell) .1 l in
+      go (eqb (q .article) (r .article)) (rw earlier at (add-pick (isBefore r) q n picks)) (lack-less (q .article) n (r .article) ls s)
     where
-      go : (w v : Bool) → v ≡ true → pickedBefore (addPick q n picks) (r .article) (r .aisle) (r .cell) ≡ cond (w && v) n 0 + pickedBefore picks (r .article) (r .aisle) (r .cell)
+      go : (w : Bool) → before (addPick q n picks) r ≡ cond (w && true) n 0 + before picks r
           → lackOf (lessOf (q .article) n ls) (r .article) ≡ cond w (lackOf ls (r .article) - n) (lackOf ls (r .article))
-          → lackOf ls (r .article) - pickedBefore (addPick q n picks) (r .article) (r .aisle) (r .cell) ≡ lackOf (lessOf (q .article) n ls) (r .article) - pickedBefore picks (r .article) (r .aisle) (r .cell)
-      go w false t e f = absurd (false≢true t)
-      go true true t e f = omega arith
-      go false true t e f = omega arith
+          → lackOf ls (r .article) - before (addPick q n picks) r ≡ lackOf (lessOf (q .article) n ls) (r .article) - before picks r
+      go true e f = omega arith
+      go false e f = omega arith
 
 -- what is taken from the first record keeps the rule there, where all else is picked behind it
-own-rule : (ls : List OrderLine) (q : StockRecord) (picks : List Pick) → Behind (q .aisle) (q .cell) picks → Rule ls (addPick q (taken ls q) picks) q
+own-rule : (ls : List OrderLine) (q : StockRecord) (picks : List Pick) → Behind q picks → Rule ls (addPick q (taken ls q) picks) q
 unfolding taken
-own-rule ls q picks h = omega (arith, own-from q (taken ls q) picks h, own-before q (taken ls q) picks (q .article) h)
+own-rule ls q picks h = omega (arith, own-here q (taken ls q) picks h, own-before q (taken ls q) picks h)
 
 -- the picks from records that go upwards keep the rule: by induction over the records, the lines lacking less and less
 rule-kept : (ls : List OrderLine) (rs : List StockRecord) → Apart ls → Sorted RecordBefore rs → (r : StockRecord) → List·Memᴰ r rs → Rule ls (picksFrom ls rs) r
@@ -138,12 +155,12 @@ rule-kept ls (q ∷ rs) s o r m = go m (rule-kept (lessOf (q .article) n ls) rs 
     picks : List Pick
     picks = picksFrom (lessOf (q .article) n ls) rs
 
-    behind : Behind (q .aisle) (q .cell) picks
+    behind : Behind q picks
     behind x k = let (p, l, f) = pick-record (lessOf (q .article) n ls) rs x k in pick-behind q x p f (o .0 p l)
 
     go : List·Memᴰ r (q ∷ rs) → (List·Memᴰ r rs → Rule (lessOf (q .article) n ls) picks r) → Rule ls (addPick q n picks) r
     go (List·Memᴰ·head e) rest = subst (Rule ls (addPick q n picks)) (sym e) (own-rule ls q picks behind)
-    go (List·Memᴰ·tail k) rest = omega (arith, rest k, later-from q n picks r (o .0 r k), later-lack q n picks ls r s (o .0 r k))
+    go (List·Memᴰ·tail k) rest = omega (arith, rest k, later-here q n picks r (o .0 r k), later-lack q n picks ls r s (o .0 r k))
 
 -- every pick takes from one of the records
 abbrev FromSome : List StockRecord → List Pick → Type 0
@@ -158,7 +175,7 @@ record Split (q : StockRecord) (n : ℕ) (rs : List StockRecord) (picks : List P
 
 module _ (ls : List OrderLine) (q : StockRecord) (rs : List StockRecord) where
   -- picks behind the first record come from the others
-  behind-others : (picks : List Pick) → Behind (q .aisle) (q .cell) picks → FromSome (q ∷ rs) picks → FromSome rs picks
+  behind-others : (picks : List Pick) → Behind q picks → FromSome (q ∷ rs) picks → FromSome rs picks
   behind-others picks b f x m = go (f x m)
     where
       go : (r : StockRecord) × List·Memᴰ r (q ∷ rs) × FromRecord x r → (r : StockRecord) × List·Memᴰ r rs × FromRecord x r
@@ -166,19 +183,20 @@ module _ (ls : List OrderLine) (q : StockRecord) (rs : List StockRecord) where
       go (r, List·Memᴰ·tail k, t) = (r, k, t)
 
   -- where all is picked behind it, nothing is taken from it
-  all-behind : (picks : List Pick) → Behind (q .aisle) (q .cell) picks → Sorted PickBefore picks → FromSome (q ∷ rs) picks → Rule ls picks q → Split q (taken ls q) rs picks
+  all-behind : (picks : List Pick) → Behind q picks → Sorted PickBefore picks → FromSome (q ∷ rs) picks → Rule ls picks q → Split q (taken ls q) rs picks
   unfolding taken
   all-behind picks b s f h =
-      let nothing : 0 ≡ taken ls q = omega (arith, behind-from (q .aisle) (q .cell) picks b, behind-before (q .article) (q .aisle) (q .cell) picks b) in
+      let nothing : 0 ≡ taken ls q = omega (arith, behind-here q picks b, behind-before q picks b) in
       record { others = picks; whole = ap (λ k. addPick q k picks) nothing; from-others = behind-others picks b f; upwards = s }
 
   -- a pick from it is the pick of what is taken there
-  first-picked : (x : Pick) (picks : List Pick) → FromRecord x q → Sorted PickBefore (x ∷ picks) → FromSome (q ∷ rs) (x ∷ picks) → Rule ls (x ∷ picks) q → Split q (taken ls q) rs (x ∷ picks)
+  first-picked : (x : Pick) (picks : List Pick) → FromRecord x q → Sorted PickBefore (x ∷ picks) → FromSome (q ∷ rs) (x ∷ picks) → Rule ls (x ∷ picks) q
+      → Split q (taken ls q) rs (x ∷ picks)
   unfolding taken PickBefore
   first-picked x picks t s f h =
       let added : x ∷ picks ≡ addPick q (x .quantity) picks = rw (lt-ltb 0 (x .quantity) (t .some), ← t .aisle, ← t .cell, ← t .article) in
       let kept = subst (λ p. Rule ls p q) added h in
-      let all : x .quantity ≡ taken ls q = omega (arith, kept, own-from q (x .quantity) picks behind, own-before q (x .quantity) picks (q .article) behind) in
+      let all : x .quantity ≡ taken ls q = omega (arith, kept, own-here q (x .quantity) picks behind, own-before q (x .quantity) picks behind) in
       record {
         others = picks;
         whole = added ∙ ap (λ k. addPick q k picks) all;
@@ -186,7 +204,7 @@ module _ (ls : List OrderLine) (q : StockRecord) (rs : List StockRecord) where
         upwards = s .1;
       }
     where
-      behind : Behind (q .aisle) (q .cell) picks
+      behind : Behind q picks
       behind y m = rw (← t .aisle, ← t .cell) (s .0 y m)
 
   split : (picks : List Pick) → Sorted RecordBefore (q ∷ rs) → Sorted PickBefore picks → FromSome (q ∷ rs) picks → Rule ls picks q → Split q (taken ls q) rs picks
@@ -194,7 +212,7 @@ module _ (ls : List OrderLine) (q : StockRecord) (rs : List StockRecord) where
   split [] o s f h = all-behind [] (λ x m. absurd (List·Memᴰ·not-nil m)) s f h
   split (x ∷ picks) o s f h = go (f x (List·Memᴰ·head refl))
     where
-      behind : CellBefore (q .aisle) (q .cell) (x .aisle) (x .cell) → Behind (q .aisle) (q .cell) (x ∷ picks)
+      behind : CellBefore (q .aisle) (q .cell) (x .aisle) (x .cell) → Behind q (x ∷ picks)
       behind l y (List·Memᴰ·head e) = subst (λ (z : Pick). CellBefore (q .aisle) (q .cell) (z .aisle) (z .cell)) (sym e) l
       behind l y (List·Memᴰ·tail m) = cells-chain (q .aisle) (q .cell) (x .aisle) (x .cell) (y .aisle) (y .cell) l (s .0 y m)
 
@@ -217,14 +235,15 @@ rule-determines ls (q ∷ rs) picks a o s f h =
     kept others e r m =
         let l = o .0 r m in
         let w = subst (λ p. Rule ls p r) e (h r (List·Memᴰ·tail m)) in
-        omega (arith, w, later-from q (taken ls q) others r l, later-lack q (taken ls q) others ls r a l)
+        omega (arith, w, later-here q (taken ls q) others r l, later-lack q (taken ls q) others ls r a l)
 
 module _ (job : Job) (a : Admitted job) where
   apart : Apart (job .lines)
   apart = articles-once job .0 (a .articles-once)
 
   -- from each passed cell the picks of a plan take what its line still lacks, as far as stock goes
-  pub picks-rule : (plan : Plan) (r : StockRecord) → List·Memᴰ r (job .stock) → planPasses plan (r .aisle) (r .cell) ≡ true → (l : OrderLine) → List·Memᴰ l (job .lines) → l .article ≡ r .article
+  pub picks-rule : (plan : Plan) (r : StockRecord) → List·Memᴰ r (job .stock) → planPasses plan (r .aisle) (r .cell) ≡ true
+      → (l : OrderLine) → List·Memᴰ l (job .lines) → l .article ≡ r .article
       → pickedFrom (picksOf job plan) (r .aisle) (r .cell) ≡ min (l .quantity - pickedBefore (picksOf job plan) (r .article) (r .aisle) (r .cell)) (r .quantity)
   unfolding picksOf
   picks-rule plan r m p l k e =
@@ -235,7 +254,9 @@ module _ (job : Job) (a : Admitted job) where
   -- picks that obey are the picks of the plan
   pub picks-determined : (c : Content) → Obeys job c → c .picks ≡ picksOf job (c .plan)
   unfolding picksOf
-  picks-determined c o = rule-determines (job .lines) (passedRecords job (c .plan)) (c .picks) apart (passed-sorted job (c .plan)) (o .picks-upwards) from-passed (λ r m. rule r m (lackOf (job .lines) (r .article)) refl)
+  picks-determined c o =
+      let kept : (r : StockRecord) → List·Memᴰ r (passedRecords job (c .plan)) → Rule (job .lines) (c .picks) r = λ r m. rule r m (lackOf (job .lines) (r .article)) refl in
+      rule-determines (job .lines) (passedRecords job (c .plan)) (c .picks) apart (passed-sorted job (c .plan)) (o .picks-upwards) from-passed kept
     where
       from-passed : FromSome (passedRecords job (c .plan)) (c .picks)
       from-passed x m =
@@ -244,7 +265,7 @@ module _ (job : Job) (a : Admitted job) where
 
       -- nothing is picked at a record whose article no line lacks
       unlisted : (r : StockRecord) → List·Memᴰ r (job .stock) → lackOf (job .lines) (r .article) ≡ 0 → pickedFrom (c .picks) (r .aisle) (r .cell) ≡ 0
-      unlisted r m e = from-none (r .aisle) (r .cell) (c .picks) (λ x k at. (
+      unlisted r m e = here-none r (c .picks) (λ x k at. (
           let (q, t) = o .picks-taken x k in
           let (l, h, same) = o .picks-listed x k in
           let one = one-record-per-cell job (a .cells-once) q r (t .in-stock) m (sym (t .aisle) ∙ at .0) (sym (t .cell) ∙ at .1) in

@@ -205,4 +205,6 @@ module _ (job : Job) (a : Admitted job) (plan : Plan) where
   pub pick-listed : (x : Pick) → List·Memᴰ x (picksOf job plan) → 1 ≤ x .quantity → (l : OrderLine) × List·Memᴰ l (job .lines) × (x .article ≡ l .article)
   unfolding picksOf picked
   pick-listed x m above =
-      lack-listed (x .article) (job .lines) (omega (arith, picked-member (λ y. eqb (y .article) (x .article)) x (picksOf job plan) m (eq-eqb (x .article) (x .article) refl), picked-least (job .lines) (passedRecords job plan) (x .article) (articles-once job .0 (a .articles-once))))
+      let some-picked = picked-member (λ y. eqb (y .article) (x .article)) x (picksOf job plan) m (eq-eqb (x .article) (x .article) refl) in
+      let least = picked-least (job .lines) (passedRecords job plan) (x .article) (articles-once job .0 (a .articles-once)) in
+      lack-listed (x .article) (job .lines) (omega arith)

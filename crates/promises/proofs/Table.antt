@@ -291,6 +291,10 @@ module _ (bytes sheet work : List ℕ) where
       go none a c = c
       go (some q) a c = let f = ap (λ x. x .reply) a in let z : _≡_ {A = ℕ} 0 1 = cc in absurd (omega arith)
 
+  -- the test of a row whose cause does not apply
+  row-fails : (job : Job) → readJob bytes ≡ some job → (q : Refusal) → (Cause q bytes sheet work → ⊥) → applies q (some job) sheet work ≡ false
+  row-fails job e q n = untrue (applies q (some job) sheet work) (λ h. n (applies-said q bytes sheet work .0 (ap (λ o. applies q o sheet work) e ∙ h)))
+
   -- a job to which no row above the last applies is admitted
   pub above-admitted : ((q : Refusal) → tableRow q < tableRow SheetSpace → Cause q bytes sheet work → ⊥) → (job : Job) → readJob bytes ≡ some job → Admitted job
   above-admitted n job e =
@@ -305,14 +309,11 @@ module _ (bytes sheet work : List ℕ) where
       }
     where
       fails : (q : Refusal) → tableRow q < tableRow SheetSpace → applies q (some job) sheet work ≡ false
-      fails q l = untrue (applies q (some job) sheet work) (λ h. n q l (applies-said q bytes sheet work .0 (ap (λ o. applies q o sheet work) e ∙ h)))
+      fails q l = row-fails job e q (n q l)
 
   -- the job of a call that no cause applies to is admitted, and the sheet has space
   pub served-admitted : NoCause → (job : Job) → readJob bytes ≡ some job → Admitted job × (length (sheetText job) ≤ length sheet)
-  served-admitted n job e = (
-    above-admitted (λ q l. n q) job e,
-    ltb-false (length sheet) (length (sheetText job)) (untrue (applies SheetSpace (some job) sheet work) (λ h. n SheetSpace (applies-said SheetSpace bytes sheet work .0 (ap (λ o. applies SheetSpace o sheet work) e ∙ h)))),
-  )
+  served-admitted n job e = (above-admitted (λ q l. n q) job e, ltb-false (length sheet) (length (sheetText job)) (row-fails job e SheetSpace (n SheetSpace)))
 
   -- and no cause applies where a job is admitted and the lent space suffices
   pub admitted-served : (job : Job) → readJob bytes ≡ some job → Admitted job → workLimit ≤ length work → length (sheetText job) ≤ length sheet → NoCause

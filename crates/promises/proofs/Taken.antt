@@ -147,7 +147,8 @@ module _ (job : Job) (plan : Plan) where
 cell-member : (z : Layout) (j c : ℕ) → (1 ≤ j) × (j ≤ z .aisles) → (1 ≤ c) × (c ≤ z .cells) → List·Memᴰ (record { aisle = j; height = c }) (cellsOf z)
 unfolding cellsOf
 cell-member z j c a b =
-    concat-member (λ k. map (λ d. record { aisle = k; height = d }) (from 1 (z .cells))) (from-member j 1 (z .aisles) (a .0) (omega arith)) (Memᴰ·map (λ d. record { aisle = j; height = d }) (from-member c 1 (z .cells) (b .0) (omega arith)))
+    let in-column = Memᴰ·map {B = Point} (λ d. record { aisle = j; height = d }) (from-member c 1 (z .cells) (b .0) (omega arith)) in
+    concat-member (λ k. map (λ d. record { aisle = k; height = d }) (from 1 (z .cells))) (from-member j 1 (z .aisles) (a .0) (omega arith)) in-column
 
 module _ (job : Job) (plan : Plan) where
   -- the passed records are those of the stock whose cells are passed
@@ -162,14 +163,16 @@ module _ (job : Job) (plan : Plan) where
   unfolding passedRecords recordAt
   passed-member a r m p =
       let w = stock-within job .0 (a .stock) .records r m in
-      concat-member (foundAt job plan) (cell-member (job .layout) (r .aisle) (r .cell) (w .aisle) (w .cell)) (rw (p, its-record (recordAt (job .stock) cell) refl) (List·Memᴰ·head refl))
+      let found-there : List·Memᴰ r (foundAt job plan cell) = rw (p, its-record (recordAt (job .stock) cell) refl) (List·Memᴰ·head refl) in
+      concat-member (foundAt job plan) (cell-member (job .layout) (r .aisle) (r .cell) (w .aisle) (w .cell)) found-there
     where
       cell : Point
       cell = record { aisle = r .aisle; height = r .cell }
 
       its-record : (o : Option StockRecord) → recordAt (job .stock) cell ≡ o → o ≡ some r
       its-record none e =
-          absurd (first-found (λ (q : StockRecord). eqb (q .aisle) (r .aisle) && eqb (q .cell) (r .cell)) r (job .stock) m (rw (eq-eqb (r .aisle) (r .aisle) refl, eq-eqb (r .cell) (r .cell) refl)) e)
+          let itself : eqb (r .aisle) (r .aisle) && eqb (r .cell) (r .cell) ≡ true = rw (eq-eqb (r .aisle) (r .aisle) refl, eq-eqb (r .cell) (r .cell) refl) in
+          absurd (first-found (λ (q : StockRecord). eqb (q .aisle) (r .aisle) && eqb (q .cell) (r .cell)) r (job .stock) m itself e)
       its-record (some q) e = let t = record-there (job .stock) cell q e in ap some (one-record-per-cell job (a .cells-once) q r (t .0) m (t .1) (t .2))
 
   -- each pick takes from a record of a passed cell

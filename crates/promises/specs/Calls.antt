@@ -65,7 +65,8 @@ pub record Obeys (job : Job) (c : Content) : Type 0 where
   pub picks-listed : (x : Pick) → List·Memᴰ x (c .picks) → (l : OrderLine) × List·Memᴰ l (job .lines) × (x .article ≡ l .article)
   pub picks-taken : (x : Pick) → List·Memᴰ x (c .picks) → (r : StockRecord) × TakenFrom job (c .plan) x r
   pub picks-upwards : Sorted PickBefore (c .picks)
-  pub picks-rule : (r : StockRecord) → List·Memᴰ r (job .stock) → planPasses (c .plan) (r .aisle) (r .cell) ≡ true → (l : OrderLine) → List·Memᴰ l (job .lines) → l .article ≡ r .article
+  pub picks-rule : (r : StockRecord) → List·Memᴰ r (job .stock) → planPasses (c .plan) (r .aisle) (r .cell) ≡ true
+      → (l : OrderLine) → List·Memᴰ l (job .lines) → l .article ≡ r .article
       → pickedFrom (c .picks) (r .aisle) (r .cell) ≡ min (l .quantity - pickedBefore (c .picks) (r .article) (r .aisle) (r .cell)) (r .quantity)
   pub walk-of-plan : WalkOf (job .layout) (c .plan) (c .walk)
   pub walk-first : (walk : Walk) → WalkOf (job .layout) (c .plan) walk → NotAfter (c .walk) walk
