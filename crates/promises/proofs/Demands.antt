@@ -3,29 +3,35 @@
 -- lent work area: the reply, and what sheet and work area hold after it. The public contracts are equations with it.
 -- The words of the statements are in specs/: the causes of the table (Causes), what a sheet says (Contents), what calls give (Calls).
 use Prim.Native.Nat.{ℕ, _≤_, _<_}
-use native.Mathlib.Omega.{arith}
 use mathlib.Core.Path.{_≡_, refl, sym, _∙_, ap, subst}
-use mathlib.Core.Logic.{_↔_}
-use mathlib.Core.List.{List, []}
-use lib.ListN.{replicate, length-replicate}
+use mathlib.Core.Logic.{_⊎_, _↔_}
+use mathlib.Core.List.{List, [], _++_}
+use lib.ListN.{length, take}
 use Rattle.rules.specs.declared.Layout.{Layout}
 use Rattle.rules.specs.declared.Refusal.{Refusal}
-use Rattle.rules.specs.declared.Refusal.the-variants.{WorkArea, ShortOfStock}
+use Rattle.rules.specs.declared.Refusal.the-variants.{WorkArea, ShortOfStock, SheetSpace}
 use Rattle.rules.specs.declared.Reply.the-variants.{Served, Refused}
 use Rattle.rules.specs.Store.{Edge, InStore}
 use Rattle.rules.specs.Jobs.{Job}
+use Rattle.rules.specs.JobFile.{lineFeed, header, field, jobFileLimit}
 use Rattle.rules.specs.Plans.{Plan}
 use Rattle.rules.specs.Lawful.{Lawful}
 use Rattle.rules.specs.Walks.{Walk, ClosedWalk, walkTreads}
-use Rattle.rules.specs.Answers.{workLimit, answer, hostAnswer}
+use Rattle.rules.specs.Picks.{picksOf}
+use Rattle.rules.specs.Refusals.{numberOf, Admitted}
+use Rattle.rules.specs.Answers.{answer, hostAnswer, sheetLimit, letterR, output}
 use Rattle.rules.specs.Examples.{AllHold, cases}
 use Rattle.rules.proofs.Cases as Cases
 use Rattle.closedwalks.proofs.Statements.{walk-reads, plan-determined}
 use Rattle.promises.specs.Causes.{LineOutOfStock, OfJob, Cause, tableRow, FirstCause}
 use Rattle.promises.specs.Contents.{Content}
-use Rattle.promises.specs.Calls.{RefusedCall, ServedCall, Shows, Obeys, Shortest, TreadsAs}
+use Rattle.promises.specs.Calls.{RefusedCall, ServedCall, Shows, Obeys, Shortest, TreadsAs, hostWork, hostGets, HostCall, PrintsSheet, PrintsRefusal}
 use Rattle.promises.proofs.Table.{job-file-read, refused-for, refused-by, served-for, served-by}
 use Rattle.promises.proofs.Shown.{refused-call, served-call, best, best-obeys, best-shortest, shown, shown-best}
+use Rattle.promises.proofs.PickRule
+use Rattle.promises.proofs.Varied
+use Rattle.promises.proofs.Host
+use Rattle.promises.proofs.Program
 
 pub record Demand1 (bytes sheet work : List ℕ) : Type 0 where
   -- a call is refused with a refusal exactly if that is the first of the table that applies
@@ -68,6 +74,11 @@ demand-2 bytes sheet work =
       obeys = λ job c s. (let t = shown-best bytes sheet work job c s in subst (Obeys job) (t .1) (best-obeys job (t .0)));
     }
 
+-- "Picks: through aisles, then cells, upwards; from each passed cell take what its line still lacks, as far as stock goes."
+-- That is `picks-upwards` and `picks-rule` of `Obeys`; no other picks obey
+pub picks-determined : (job : Job) → Admitted job → (c : Content) → Obeys job c → c .picks ≡ picksOf job (c .plan)
+picks-determined = PickRule.picks-determined
+
 -- "Conversely, every non-empty closed walk from the depot that treads no stretch more than twice reads as one plan, and a lawful one."
 pub demand-2-conversely : (z : Layout) → 1 ≤ z .depot → z .depot ≤ z .aisles
     → (walk : Walk) → (walk ≡ [] → ⊥) → ClosedWalk z walk → ((e : Edge) → InStore z e → walkTreads z walk e ≤ 2)
@@ -101,16 +112,48 @@ demand-3 bytes sheet work =
       );
     }
 
+-- "one fixed sheet for all jobs": no text is the sheet of every served call
+pub no-fixed-sheet : (text : List ℕ) → ((bytes sheet work : List ℕ) (n : ℕ) → answer bytes sheet work .reply ≡ Served n → take n (answer bytes sheet work .sheet) ≡ text) → ⊥
+no-fixed-sheet = Varied.sheets-vary
+
+-- "16,384 bytes of sheet space always suffice." Refusal 9 does not occur
+pub sheet-space-suffices : (bytes sheet work : List ℕ) → sheetLimit ≤ length sheet → answer bytes sheet work .reply ≡ Refused SheetSpace → ⊥
+sheet-space-suffices = Host.space-suffices
+
 -- "A planning host in C calls an entry that takes only byte buffers and numbers and brings its own work area."
 -- Its call is the library's, so the demands hold of it, and refusal 10 does not occur
-pub host-call : (bytes sheet : List ℕ) → hostAnswer bytes sheet ≡ answer bytes sheet (replicate workLimit 0)
+pub host-call : (bytes sheet : List ℕ) → hostAnswer bytes sheet ≡ answer bytes sheet hostWork
 unfolding hostAnswer
 host-call bytes sheet = refl
 
 pub host-has-space : (bytes sheet : List ℕ) → hostAnswer bytes sheet .reply ≡ Refused WorkArea → ⊥
-unfolding hostAnswer
-host-has-space bytes sheet e =
-    omega (arith, refused-by bytes sheet (replicate workLimit 0) WorkArea e .applies, length-replicate {A = ℕ} workLimit 0)
+host-has-space = Host.host-has-space
+
+pub host-sheet-suffices : (bytes sheet : List ℕ) → sheetLimit ≤ length sheet → hostAnswer bytes sheet .reply ≡ Refused SheetSpace → ⊥
+host-sheet-suffices = Host.host-sheet-suffices
+
+-- "It gets one number: the sheet's byte count for a served job, otherwise 65,536 plus the refusal number."
+pub host-number : (bytes sheet : List ℕ) → HostCall bytes sheet
+host-number = Host.host-number
+
+-- the number tells the reply, and a refusal's number its cause
+pub host-number-tells : (bytes others sheet space : List ℕ) → hostGets bytes sheet ≡ hostGets others space → hostAnswer bytes sheet .reply ≡ hostAnswer others space .reply
+host-number-tells = Host.host-number-tells
+
+pub refusal-number-tells : (q r : Refusal) → numberOf q ≡ numberOf r → q ≡ r
+refusal-number-tells = Host.refusal-number-tells
+
+-- "The program reads a job from standard input and prints the sheet, or `R 1` and a line with the refusal number."
+-- The number is never 9 or 10
+pub program-prints : (bytes : List ℕ) → ((job : Job) × PrintsSheet bytes job) ⊎ ((r : Refusal) × PrintsRefusal bytes r)
+program-prints = Program.prints
+
+-- "ASCII text, at most 16,384 bytes." A longer job is refused with 1, and the program sees that from the first 16,385 bytes
+pub longer-job-refused : (bytes : List ℕ) → jobFileLimit < length bytes → output bytes ≡ header letterR 1 ++ field lineFeed 1
+longer-job-refused = Program.longer-printed
+
+pub output-start : (bytes : List ℕ) → output (take 16385 bytes) ≡ output bytes
+output-start = Program.output-start
 
 -- "Cases 1 to 14 are established as facts about the definitions, gathered into a table that one theorem covers."
 pub cases-hold : AllHold cases

@@ -1,8 +1,12 @@
 pub mod Table
 pub mod Picks
 pub mod Taken
+pub mod PickRule
 pub mod Texts
 pub mod Best
 pub mod Shown
+pub mod Varied
+pub mod Host
+pub mod Program
 pub mod Demands
 pub mod Theory

@@ -21,10 +21,10 @@ use Rattle.rules.specs.Picks.{cellsOf, lackOf, lessOf, recordAt, taken, addPick
 use Rattle.rules.proofs.Lists.{sum-agree, sum-plus, sum-map, sum-concat, sorted-map}
 use Rattle.rules.proofs.Admission.{stock-within, cells-once, articles-once}
 use Rattle.closedwalks.proofs.Sums.{sum-none, sum-from}
-use Rattle.promises.specs.Contents.{picked}
+use Rattle.promises.specs.Contents.{pickedBy, picked}
 
 -- no two lines of one article
-abbrev Apart : List OrderLine → Type 0
+abbrev pub Apart : List OrderLine → Type 0
 Apart = Sorted (λ (k l : OrderLine). k .article ≡ l .article → ⊥)
 
 lack-none : (a : ℕ) (ls : List OrderLine) → ((l : OrderLine) → List·Memᴰ l ls → a ≡ l .article → ⊥) → lackOf ls a ≡ 0
@@ -34,7 +34,7 @@ lack-none a (l ∷ ls) h =
     rw (ne-eqb (l .article) a (λ e. h l (List·Memᴰ·head refl) (sym e))) (omega (arith, lack-none a ls (λ k m. h k (List·Memᴰ·tail m))))
 
 -- what is lacking is on a line
-lack-listed : (a : ℕ) (ls : List OrderLine) → 1 ≤ lackOf ls a → (l : OrderLine) × List·Memᴰ l ls × (a ≡ l .article)
+pub lack-listed : (a : ℕ) (ls : List OrderLine) → 1 ≤ lackOf ls a → (l : OrderLine) × List·Memᴰ l ls × (a ≡ l .article)
 unfolding lackOf
 lack-listed a [] h = absurd (omega arith)
 lack-listed a (l ∷ ls) h = go (eqb (l .article) a) refl h (lack-listed a ls)
@@ -44,7 +44,7 @@ lack-listed a (l ∷ ls) h = go (eqb (l .article) a) refl h (lack-listed a ls)
     go false e h rest = let t = rest (omega arith) in (t .0, List·Memᴰ·tail (t .1), t .2)
 
 -- a line's own article lacks what the line asks for
-lack-line : (ls : List OrderLine) → Apart ls → (l : OrderLine) → List·Memᴰ l ls → lackOf ls (l .article) ≡ l .quantity
+pub lack-line : (ls : List OrderLine) → Apart ls → (l : OrderLine) → List·Memᴰ l ls → lackOf ls (l .article) ≡ l .quantity
 unfolding lackOf
 lack-line ls s l (List·Memᴰ·head {x = k} {xs = ks} e) =
     rw (e, eq-eqb (k .article) (k .article) refl) (omega (arith, lack-none (k .article) ks (s .0)))
@@ -52,7 +52,7 @@ lack-line ls s l (List·Memᴰ·tail {x = k} {xs = ks} m) =
     rw (ne-eqb (k .article) (l .article) (s .0 l m)) (omega (arith, lack-line ks (s .1) l m))
 
 -- what is lacking after n of an article are taken
-lack-less : (b n a : ℕ) (ls : List OrderLine) → Apart ls → lackOf (lessOf b n ls) a ≡ cond (eqb b a) (lackOf ls a - n) (lackOf ls a)
+pub lack-less : (b n a : ℕ) (ls : List OrderLine) → Apart ls → lackOf (lessOf b n ls) a ≡ cond (eqb b a) (lackOf ls a - n) (lackOf ls a)
 unfolding lackOf lessOf
 lack-less b n a [] s = go (eqb b a)
   where
@@ -71,7 +71,7 @@ lack-less b n a (l ∷ ls) s = go (eqb (l .article) a) refl (eqb b a) refl (lack
     go false e true f h = omega arith
     go false e false f h = omega arith
 
-less-apart : (b n : ℕ) (ls : List OrderLine) → Apart ls → Apart (lessOf b n ls)
+pub less-apart : (b n : ℕ) (ls : List OrderLine) → Apart ls → Apart (lessOf b n ls)
 unfolding lessOf
 less-apart b n ls s = sorted-map _ _ _ ls (λ k l h. h) s
 
@@ -79,29 +79,31 @@ less-apart b n ls s = sorted-map _ _ _ ls (λ k l h. h) s
 abbrev stockIn : List StockRecord → ℕ → ℕ
 stockIn rs a = sumOf (λ (r : StockRecord). cond (eqb (r .article) a) (r .quantity) 0) rs
 
-add-pick : (r : StockRecord) (n a : ℕ) (picks : List Pick) → picked (addPick r n picks) a ≡ cond (eqb (r .article) a) n 0 + picked picks a
-unfolding picked
-add-pick r n a picks = go (ltb 0 n) refl
+-- a pick of n from a record
+abbrev pub pickOf : StockRecord → ℕ → Pick
+pickOf r n = record { aisle = r .aisle; cell = r .cell; article = r .article; quantity = n }
+
+pub add-pick : (t : Pick → Bool) (r : StockRecord) (n : ℕ) (picks : List Pick) → pickedBy t (addPick r n picks) ≡ cond (t (pickOf r n)) n 0 + pickedBy t picks
+add-pick t r n picks = go (ltb 0 n) refl
   where
     nothing-of : (c : Bool) → n ≤ 0 → cond c n 0 ≡ 0
     nothing-of true h = omega arith
     nothing-of false h = refl
 
-    go : (b : Bool) → ltb 0 n ≡ b → picked (cond b (record { aisle = r .aisle; cell = r .cell; article = r .article; quantity = n } ∷ picks) picks) a ≡ cond (eqb (r .article) a) n 0 + picked picks a
+    go : (b : Bool) → ltb 0 n ≡ b → pickedBy t (cond b (pickOf r n ∷ picks) picks) ≡ cond (t (pickOf r n)) n 0 + pickedBy t picks
     go true e = refl
-    go false e = omega (arith, nothing-of (eqb (r .article) a) (ltb-false 0 n e))
+    go false e = omega (arith, nothing-of (t (pickOf r n)) (ltb-false 0 n e))
 
-picked-member : (x : Pick) (picks : List Pick) → List·Memᴰ x picks → x .quantity ≤ picked picks (x .article)
-unfolding picked
-picked-member x picks (List·Memᴰ·head {x = y} {xs = ys} e) = rw (e, eq-eqb (y .article) (y .article) refl) (omega arith)
-picked-member x picks (List·Memᴰ·tail {x = y} {xs = ys} m) = omega (arith, picked-member x ys m)
+pub picked-member : (t : Pick → Bool) (x : Pick) (picks : List Pick) → List·Memᴰ x picks → t x ≡ true → x .quantity ≤ pickedBy t picks
+picked-member t x picks (List·Memᴰ·head {x = y} {xs = ys} e) h = let same = sym (ap t e) ∙ h in rw (e, same) (omega arith)
+picked-member t x picks (List·Memᴰ·tail {x = y} {xs = ys} m) h = omega (arith, picked-member t x ys m h)
 
 -- what is picked of an article: what the lines lack, as far as the records have it
 picked-least : (ls : List OrderLine) (rs : List StockRecord) (a : ℕ) → Apart ls → picked (picksFrom ls rs) a ≡ min (lackOf ls a) (stockIn rs a)
 unfolding picked taken
 picked-least ls [] a s = omega arith
 picked-least ls (r ∷ rs) a s =
-    add-pick r n a (picksFrom (lessOf (r .article) n ls) rs)
+    add-pick (λ x. eqb (x .article) a) r n (picksFrom (lessOf (r .article) n ls) rs)
     ∙ go (eqb (r .article) a) refl (picked-least (lessOf (r .article) n ls) rs a (less-apart (r .article) n ls s)) (lack-less (r .article) n a ls s)
   where
     n : ℕ
@@ -201,6 +203,8 @@ module _ (job : Job) (a : Admitted job) (plan : Plan) where
 
   -- whatever is picked is of a line's article
   pub pick-listed : (x : Pick) → List·Memᴰ x (picksOf job plan) → 1 ≤ x .quantity → (l : OrderLine) × List·Memᴰ l (job .lines) × (x .article ≡ l .article)
-  unfolding picksOf
+  unfolding picksOf picked
   pick-listed x m above =
-      lack-listed (x .article) (job .lines) (omega (arith, picked-member x (picksOf job plan) m, picked-least (job .lines) (passedRecords job plan) (x .article) (articles-once job .0 (a .articles-once))))
+      let some-picked = picked-member (λ y. eqb (y .article) (x .article)) x (picksOf job plan) m (eq-eqb (x .article) (x .article) refl) in
+      let least = picked-least (job .lines) (passedRecords job plan) (x .article) (articles-once job .0 (a .articles-once)) in
+      lack-listed (x .article) (job .lines) (omega arith)

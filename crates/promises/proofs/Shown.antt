@@ -23,6 +23,7 @@ use Rattle.promises.specs.Calls.{RefusedCall, ServedCall, Shows, Obeys, 
 use Rattle.promises.proofs.Table.{job-file-read, NoCause, refused-for, refused-by, served-for, served-by, served-admitted}
 use Rattle.promises.proofs.Picks.{picks-meet, pick-listed}
 use Rattle.promises.proofs.Taken.{pick-taken, picks-ordered}
+use Rattle.promises.proofs.PickRule.{picks-rule}
 use Rattle.promises.proofs.Texts.{content-determined}
 use Rattle.promises.proofs.Best.{best-serves, best-least, best-first, best-walk}
 
@@ -45,6 +46,7 @@ best-obeys job a =
       picks-listed = λ x m. pick-listed job a (bestPlan job) x m (pick-taken job (bestPlan job) x m .1 .some);
       picks-taken = pick-taken job (bestPlan job);
       picks-upwards = picks-ordered job (bestPlan job);
+      picks-rule = picks-rule job a (bestPlan job);
       walk-of-plan = w .0;
       walk-first = w .1;
     }

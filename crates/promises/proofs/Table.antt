@@ -6,7 +6,7 @@ use mathlib.Core.Logic.{_↔_}
 use mathlib.Core.List.{List, [], _∷_, _++_, map, List·Memᴰ, List·Memᴰ·head, List·Memᴰ·tail, List·Memᴰ·not-nil}
 use mathlib.Core.Bool.{Bool, true, false, not, _||_, true≢false, false≢true}
 use mathlib.Core.Option.{Option, none, some}
-use borrow.Author.Tests.{ltb-true, lt-ltb, ltb-false, not-false}
+use borrow.Author.Tests.{ltb-true, lt-ltb, le-ltb, ltb-false, not-false}
 use lib.Dec.{ltb}
 use lib.ListN.{length, drop}
 use Rattle.rules.specs.declared.Refusal.{Refusal}
@@ -37,6 +37,10 @@ job-file-read bytes job =
 or-true : (b : Bool) → b || true ≡ true
 or-true true = refl
 or-true false = refl
+
+pub untrue : (b : Bool) → (b ≡ true → ⊥) → b ≡ false
+untrue true n = absurd (n refl)
+untrue false n = refl
 
 not-said : {P : Type 0} (b : Bool) → (b ≡ true) ↔ P → (not b ≡ true) ↔ (P → ⊥)
 not-said true t = (λ e. absurd (false≢true e), λ n. absurd (n (t .0 refl)))
@@ -287,24 +291,42 @@ module _ (bytes sheet work : List ℕ) where
       go none a c = c
       go (some q) a c = let f = ap (λ x. x .reply) a in let z : _≡_ {A = ℕ} 0 1 = cc in absurd (omega arith)
 
-  -- its job is admitted, and the sheet has space
+  -- the test of a row whose cause does not apply
+  row-fails : (job : Job) → readJob bytes ≡ some job → (q : Refusal) → (Cause q bytes sheet work → ⊥) → applies q (some job) sheet work ≡ false
+  row-fails job e q n = untrue (applies q (some job) sheet work) (λ h. n (applies-said q bytes sheet work .0 (ap (λ o. applies q o sheet work) e ∙ h)))
+
+  -- a job to which no row above the last applies is admitted
+  pub above-admitted : ((q : Refusal) → tableRow q < tableRow SheetSpace → Cause q bytes sheet work → ⊥) → (job : Job) → readJob bytes ≡ some job → Admitted job
+  above-admitted n job e =
+      record {
+        layout = not-false (layoutInBounds (job .layout)) (fails LayoutBounds (omega arith));
+        stock = not-false (stockInBounds job) (fails StockBounds (omega arith));
+        cells-once = fails CellTwice (omega arith);
+        list = not-false (listInBounds job) (fails ListBounds (omega arith));
+        articles-once = fails ArticleTwice (omega arith);
+        light = ltb-false 256 (weight (job .lines)) (fails TooHeavy (omega arith));
+        in-stock = fails ShortOfStock (omega arith);
+      }
+    where
+      fails : (q : Refusal) → tableRow q < tableRow SheetSpace → applies q (some job) sheet work ≡ false
+      fails q l = row-fails job e q (n q l)
+
+  -- the job of a call that no cause applies to is admitted, and the sheet has space
   pub served-admitted : NoCause → (job : Job) → readJob bytes ≡ some job → Admitted job × (length (sheetText job) ≤ length sheet)
-  served-admitted n job e = (
-    record {
-      layout = not-false (layoutInBounds (job .layout)) (fails LayoutBounds);
-      stock = not-false (stockInBounds job) (fails StockBounds);
-      cells-once = fails CellTwice;
-      list = not-false (listInBounds job) (fails ListBounds);
-      articles-once = fails ArticleTwice;
-      light = ltb-false 256 (weight (job .lines)) (fails TooHeavy);
-      in-stock = fails ShortOfStock;
-    },
-    ltb-false (length sheet) (length (sheetText job)) (fails SheetSpace),
-  )
+  served-admitted n job e = (above-admitted (λ q l. n q) job e, ltb-false (length sheet) (length (sheetText job)) (row-fails job e SheetSpace (n SheetSpace)))
+
+  -- and no cause applies where a job is admitted and the lent space suffices
+  pub admitted-served : (job : Job) → readJob bytes ≡ some job → Admitted job → workLimit ≤ length work → length (sheetText job) ≤ length sheet → NoCause
+  admitted-served job e a w s r c = true≢false (sym (applies-said r bytes sheet work .1 c) ∙ ap (λ o. applies r o sheet work) e ∙ fails r)
     where
       fails : (q : Refusal) → applies q (some job) sheet work ≡ false
-      fails q = go (applies q (some job) sheet work) refl
-        where
-          go : (b : Bool) → applies q (some job) sheet work ≡ b → b ≡ false
-          go true h = absurd (n q (applies-said q bytes sheet work .0 (ap (λ o. applies q o sheet work) e ∙ h)))
-          go false h = refl
+      fails WorkArea = le-ltb (length work) workLimit w
+      fails NotAJobFile = refl
+      fails LayoutBounds = ap not (a .layout)
+      fails StockBounds = ap not (a .stock)
+      fails CellTwice = a .cells-once
+      fails ListBounds = ap not (a .list)
+      fails ArticleTwice = a .articles-once
+      fails TooHeavy = le-ltb 256 (weight (job .lines)) (a .light)
+      fails ShortOfStock = a .in-stock
+      fails SheetSpace = le-ltb (length sheet) (length (sheetText job)) s

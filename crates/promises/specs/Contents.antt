@@ -3,8 +3,8 @@ use Prim.Native.Nat.{ℕ, _≤_, _<_}
 use mathlib.Core.Path.{_≡_}
 use mathlib.Core.Logic.{_⊎_}
 use mathlib.Core.List.{List, _++_, List·Memᴰ}
-use mathlib.Core.Bool.{true, cond}
-use lib.Dec.{eqb}
+use mathlib.Core.Bool.{Bool, true, _&&_, _||_, cond}
+use lib.Dec.{ltb, eqb}
 use Rattle.rules.specs.declared.Policy.{Policy}
 use Rattle.rules.specs.declared.StockRecord.{StockRecord}
 use Rattle.rules.specs.declared.Pick.{Pick}
@@ -44,9 +44,13 @@ contentOf job plan =
       walk = firstWalk (job .layout) plan;
     }
 
+-- how much is picked by the picks of which a test holds
+abbrev pub pickedBy : (Pick → Bool) → List Pick → ℕ
+pickedBy t picks = sumOf (λ (x : Pick). cond (t x) (x .quantity) 0) picks
+
 -- how much of an article is picked
 unfoldable pub picked : List Pick → ℕ → ℕ
-picked picks a = sumOf (λ (x : Pick). cond (eqb (x .article) a) (x .quantity) 0) picks
+picked picks a = pickedBy (λ (x : Pick). eqb (x .article) a) picks
 
 -- a pick takes from a record of the stock, in a cell that the plan passes: more than nothing, and no more than there is
 pub record TakenFrom (job : Job) (plan : Plan) (x : Pick) (r : StockRecord) : Type 0 where
@@ -65,3 +69,15 @@ CellBefore i b j c = (i < j) ⊎ ((i ≡ j) × (b < c))
 -- a pick stands before another
 unfoldable pub PickBefore : Pick → Pick → Type 0
 PickBefore x y = CellBefore (x .aisle) (x .cell) (y .aisle) (y .cell)
+
+-- the test of that order
+unfoldable pub cellBefore : (i b j c : ℕ) → Bool
+cellBefore i b j c = ltb i j || (eqb i j && ltb b c)
+
+-- how much is picked from cell c of aisle j
+unfoldable pub pickedFrom : List Pick → ℕ → ℕ → ℕ
+pickedFrom picks j c = pickedBy (λ (x : Pick). eqb (x .aisle) j && eqb (x .cell) c) picks
+
+-- how much of an article is picked from the cells before it
+unfoldable pub pickedBefore : List Pick → ℕ → ℕ → ℕ → ℕ
+pickedBefore picks a j c = pickedBy (λ (x : Pick). eqb (x .article) a && cellBefore (x .aisle) (x .cell) j c) picks

@@ -1,3 +1,2 @@
 -- Laws of what the program prints.
-pub mod Longer
 pub mod Printing

@@ -4,7 +4,7 @@ mod text;
 use libc::STDIN_FILENO;
 use libc::STDOUT_FILENO;
 
-// Reads one byte more than a job file may have, so that a longer job is seen and refused.
+// Reads one byte more than a job file may have, so that a longer job is refused, not cut: `output-start` of promises.
 fn main() {
     let mut job = [0u8; 16385];
     let n = io::read_full(STDIN_FILENO, &mut job);
