@@ -2,14 +2,15 @@
 ghost use mathlib.Core.Path.{_≡_};
 ghost use mathlib.Core.Bool.{true};
 ghost use mathlib.Core.Logic.{_↔_};
-ghost use Prim.Native.Nat.{_≤_, _<_, suc};
+ghost use Prim.Native.Nat.{_+_, _-_, _≤_, _<_};
 ghost use lib.ListN.{length};
-ghost use Rattle.walks.specs.Flood.{AllReached, Ranged, Spread, Swept, Flooded, AllSeen};
+ghost use Rattle.walks.specs.Flood.{unseen, AllReached, Ranged, spreadEdge, spreadAt, sweptUp, sweptDown, Flooded, AllSeen};
 
 // Two points that an edge joins, of which n treads are left: where one is seen, the other is too. The number of points seen newly.
 pub fn spread_edge(n: u8, a: usize, b: usize, seen: &mut [u8]) -> usize
     requires { ⌜ (0 < n → (a < length (now seen)) × (b < length (now seen))) ⌝ }
-    ensures { λ r. ⌜ Spread n a b (now (seen .entry)) (now (seen .exit)) r ⌝ }
+    ensures { λ _. ⌜ now (seen .exit) ≡ spreadEdge n a b (now (seen .entry)) ⌝ }
+    ensures { λ r. ⌜ unseen (now (seen .exit)) + r ≡ unseen (now (seen .entry)) ⌝ }
 {
     if n == 0 {
         return 0;
@@ -31,7 +32,8 @@ pub fn spread_edge(n: u8, a: usize, b: usize, seen: &mut [u8]) -> usize
 // The edges towards the back and to the right of one point.
 pub fn spread(left: &[u8], at: usize, seen: &mut [u8]) -> usize
     requires { ⌜ (at < 442) × Ranged (now left) 442 × (length (now seen) ≡ 442) ⌝ }
-    ensures { λ r. ⌜ Swept (now (left .entry)) at (suc at) (now (seen .entry)) (now (seen .exit)) r ⌝ }
+    ensures { λ _. ⌜ now (seen .exit) ≡ spreadAt (now (left .entry)) at (now (seen .entry)) ⌝ }
+    ensures { λ r. ⌜ unseen (now (seen .exit)) + r ≡ unseen (now (seen .entry)) ⌝ }
 {
     let along = spread_edge(left[at], at, at + 1, seen);
     let across = spread_edge(left[442 + at], at, at + 26, seen);
@@ -41,7 +43,8 @@ pub fn spread(left: &[u8], at: usize, seen: &mut [u8]) -> usize
 // Point by point upwards.
 pub fn sweep_up(left: &[u8], end: usize, seen: &mut [u8]) -> usize
     requires { ⌜ Ranged (now left) end × (length (now seen) ≡ 442) ⌝ }
-    ensures { λ r. ⌜ Swept (now (left .entry)) 26 end (now (seen .entry)) (now (seen .exit)) r ⌝ }
+    ensures { λ _. ⌜ now (seen .exit) ≡ sweptUp (now (left .entry)) (end - 26) (now (seen .entry)) ⌝ }
+    ensures { λ r. ⌜ unseen (now (seen .exit)) + r ≡ unseen (now (seen .entry)) ⌝ }
 {
     let mut news = 0;
     let mut at = 26;
@@ -55,7 +58,8 @@ pub fn sweep_up(left: &[u8], end: usize, seen: &mut [u8]) -> usize
 // Point by point downwards.
 pub fn sweep_down(left: &[u8], end: usize, seen: &mut [u8]) -> usize
     requires { ⌜ Ranged (now left) end × (length (now seen) ≡ 442) ⌝ }
-    ensures { λ r. ⌜ Swept (now (left .entry)) 26 end (now (seen .entry)) (now (seen .exit)) r ⌝ }
+    ensures { λ _. ⌜ now (seen .exit) ≡ sweptDown (now (left .entry)) (end - 26) (now (seen .entry)) ⌝ }
+    ensures { λ r. ⌜ unseen (now (seen .exit)) + r ≡ unseen (now (seen .entry)) ⌝ }
 {
     let mut news = 0;
     let mut at = end;
@@ -69,7 +73,7 @@ pub fn sweep_down(left: &[u8], end: usize, seen: &mut [u8]) -> usize
 // Sweeps up and down until nothing is new.
 pub fn flood(left: &[u8], end: usize, seen: &mut [u8])
     requires { ⌜ Ranged (now left) end × (length (now seen) ≡ 442) ⌝ }
-    ensures { λ _. ⌜ Flooded (now (left .entry)) end (now (seen .entry)) (now (seen .exit)) ⌝ }
+    ensures { λ _. ⌜ Flooded (now (left .entry)) (now (seen .entry)) (now (seen .exit)) ⌝ }
 {
     let mut news = 442;
     while 0 < news {
