@@ -7,27 +7,28 @@ use mathlib.Core.List.{List, [], _∷_}
 use mathlib.Core.Bool.{Bool, true, false, _&&_}
 use mathlib.Core.Option.{none, some}
 use lib.Dec.{ltb}
-use lib.ListN.{length, getD, set, length-set}
-use lib.Seq.{getD-set-other}
+use lib.ListN.{length, getD, set, replicate, length-set, length-replicate}
+use lib.Seq.{getD-set-other, ext-getD}
 use borrow.Author.Tests.{lt-ltb, le-ltb}
 use Rattle.rules.specs.declared.Layout.{Layout}
 use Rattle.rules.specs.declared.Direction.{Direction}
 use Rattle.rules.specs.declared.Direction.the-variants.{Back, Front, Left, Right}
-use Rattle.rules.specs.Store.{Point, Edge}
-use Rattle.rules.specs.Walks.{canStep, stepTo, stepEdge}
+use Rattle.rules.specs.Store.{Point, Edge, InStore, depotPoint}
+use Rattle.rules.specs.Walks.{Walk, canStep, stepTo, stepEdge}
 use Rattle.rules.specs.FirstWalk.{without, stepsOf}
-use Rattle.closedwalks.specs.Ways.{PointOf, Joined}
+use Rattle.closedwalks.specs.Ways.{PointOf, Leads, treadsFrom, Joined}
 use Rattle.closedwalks.specs.Greedy.{firstLetter, greedy, Ready, TellsJoined}
 use Rattle.closedwalks.proofs.Splits.{none-or-some}
-use Rattle.closedwalks.proofs.Steps.{stepped}
+use Rattle.closedwalks.proofs.Steps.{one-refl, stepped}
 use Rattle.closedwalks.proofs.Parity.{total-step}
 use Rattle.closedwalks.proofs.Counts.{layout-bounds}
 use Rattle.closedwalks.proofs.Greedily.{spare-joined}
+use Rattle.closedwalks.proofs.Statements.{completed}
 use Rattle.walks.specs.Treads.{spot, pointAt, slotOf, leftOf, Charted}
 use Rattle.walks.specs.Flood.{AllReached, Ranged}
 use Rattle.walks.specs.Letters.{slotBy, nextBy, treadsAt, finds, Walkable, canBe, nextLetter, lettersLeft}
-use Rattle.walks.proofs.Flooding.{same-or-not, seen-below}
-use Rattle.walks.proofs.Places.{spot-at, spot-point, spot-range, left-without, charted-fewer, charted-range, letter-slot, letter-next, free-slot, slot-free, free-test}
+use Rattle.walks.proofs.Flooding.{same-or-not, seen-below, none-at}
+use Rattle.walks.proofs.Places.{spot-at, spot-point, spot-range, left-in, left-without, charted-fewer, charted-range, letter-slot, letter-next, free-slot, slot-free, free-test}
 use Rattle.walks.proofs.Reaching.{reached-joined}
 use Rattle.walks.proofs.Choice.{finds-tells, only-joined, chosen-ready, some-chosen, greedy-chosen}
 
@@ -244,6 +245,24 @@ module _ (z : Layout) (left : List ℕ) (at : ℕ) (w : Walkable z left at) wher
           let t = some-chosen z (leftOf z left) x (w .ready) k q in
           let u = chosen-ready z (leftOf z left) x (w .ready) (t .0) (t .1) in
           absurd (omega (arith, tread-at left at (t .0) (omega (arith, u .1, left-slot (t .0) (u .0)))))
+
+  -- and nothing is left anywhere
+  pub none-left : treadsAt left at ≡ 0 → left ≡ replicate 884 0
+  none-left e = ext-getD 0 left (replicate 884 0) (w .charted .size ∙ sym (length-replicate {A = ℕ} 884 0)) (λ i l. nothing i (none-or-some (getD left i 0)) ∙ sym (none-at 884 i))
+    where
+      -- the walk that treads all that is left has no first step
+      used : (walk : Walk) → Leads z x walk (depotPoint z) → ((f : Edge) → InStore z f → treadsFrom x walk f ≡ leftOf z left f) → (f : Edge) → InStore z f → leftOf z left f ≡ 0
+      used [] l t f i = sym (t f i)
+      used (d ∷ walk) l t f i =
+          let s = t (stepEdge x d) (stepped z x inside d (l .0) .edge) in
+          absurd (omega (arith, tread-at left at d (omega (arith, s, one-refl (stepEdge x d), left-slot d (l .0)))))
+
+      nothing : (i : ℕ) → ((getD left i 0 ≡ 0) ⊎ (0 < getD left i 0)) → getD left i 0 ≡ 0
+      nothing i (inl q) = q
+      nothing i (inr h) =
+          let t = w .charted .edge i h in
+          let v = completed z (leftOf z left) x (depotPoint z) inside (w .ready .balanced) (w .ready .joined) in
+          ap (λ (k : ℕ). getD left k 0) (sym (t .2)) ∙ sym (left-in z left (t .0) (t .1)) ∙ used (v .0) (v .1) (v .2) (t .0) (t .1)
 
   -- the first letter that can be next is the next letter
   module _ (back : Bool) (at-back : back ≡ canBe z left at Back) where

@@ -7,7 +7,7 @@ ghost use mathlib.Core.Bool.{true};
 ghost use mathlib.Core.Logic.{_↔_};
 ghost use mathlib.Core.Option.{some};
 ghost use Prim.Native.Nat.{_*_, _≤_, _<_};
-ghost use lib.ListN.{length, getD, set};
+ghost use lib.ListN.{length, getD, set, replicate};
 ghost use Rattle.rules.specs.Sheet.{letterOf};
 ghost use Rattle.rules.specs.FirstWalk.{stepsOf};
 ghost use Rattle.walks.specs.Treads.{leftOf};
@@ -110,10 +110,11 @@ pub fn next_letter(layout: Layout, left: &mut [u8], at: usize) -> Direction
     Direction::Right
 }
 
-// The letters from the depot on, and their number.
+// The letters from the depot on, and their number; every tread is used up.
 pub fn follow(layout: Layout, left: &mut [u8], letters: &mut [u8]) -> usize
     requires { ⌜ Walkable layout (now left) (26 * layout .depot) × (stepsOf layout (leftOf layout (now left)) ≤ 860) × (860 ≤ length (now letters)) ⌝ }
     ensures { λ r. ⌜ Spelt (lettersLeft layout (now (left .entry)) (26 * layout .depot)) (now (letters .entry)) (now (letters .exit)) r ⌝ }
+    ensures { λ _. ⌜ now (left .exit) ≡ replicate 884 0 ⌝ }
 {
     let mut at = 26 * layout.depot;
     let mut n = 0;

@@ -9,8 +9,8 @@ use denote.Ref.{now}
 use Rattle.rules.specs.FirstWalk.{stepsOf}
 use Rattle.closedwalks.proofs.Counts.{layout-bounds}
 use Rattle.walks.specs.Treads.{leftOf}
-use Rattle.walks.specs.Letters.{nextLetter, lettersLeft}
-use Rattle.walks.proofs.Stepping.{at-range, letter-left, slot-below}
+use Rattle.walks.specs.Letters.{treadsAt, nextLetter, lettersLeft}
+use Rattle.walks.proofs.Stepping.{at-range, letter-left, none-left, slot-below}
 use Rattle.walks.proofs.Spelling.{spelt-length, Going, going-from, going-room, going-next, going-less, going-over}
 use Rattle.walks.proofs.letters.follow.Statement.{statement}
 use Rattle.walks.proofs.letters.follow.Tie as tie
@@ -118,7 +118,9 @@ same-length-2 c =
 returns : tie.Need-returns Inv-loop μ-loop
 returns c =
     let a = c .before .before .before in
-    going-over (a .before .before .before .before .args .layout) (a .loop .left) (a .loop .at) (a .loop .inv) (omega (arith, c .before .treads-at .ensures, c .if1 .left))
+    let z = a .before .before .before .before .args .layout in
+    let none : treadsAt (a .loop .left) (a .loop .at) ≡ 0 = omega (arith, c .before .treads-at .ensures, c .if1 .left) in
+    (going-over z (a .loop .left) (a .loop .at) (a .loop .inv) none, none-left z (a .loop .left) (a .loop .at) (a .loop .inv .walkable) none)
 
 pub follow-spec : {M : Type 1} → statement M
 follow-spec =
