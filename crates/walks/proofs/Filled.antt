@@ -34,7 +34,7 @@ aisle-length action aisle (suc k) left = length-set (withAisle action aisle k le
 behind-length : (b : Bool) (cells : ℕ) (passage : Passage) (aisle : ℕ) (left : List ℕ) → length (withBehind b cells passage aisle left) ≡ length left
 unfolding withPassage
 behind-length true cells passage aisle left =
-    length-set (set left (442 + 26 * aisle) (frontTreads passage)) (443 + 26 * aisle + cells) (backTreads passage) ∙ length-set left (442 + 26 * aisle) (frontTreads passage)
+    length-set (set left (442 + 26 * aisle) (frontTreads passage)) (442 + 26 * aisle + cells + 1) (backTreads passage) ∙ length-set left (442 + 26 * aisle) (frontTreads passage)
 behind-length false cells passage aisle left = refl
 
 module _ (aisles cells : ℕ) (stages : List Stage) where
@@ -117,7 +117,7 @@ module _ (z : Layout) (wide : z .aisles ≤ 16) (deep : z .cells ≤ 24) (treads
   filled-behind true passage aisle {left} first q t f =
       let last = ltb-true aisle (z .aisles) q in
       let r = t refl in
-      let slot : 443 + 26 * aisle + z .cells ≡ 442 + 26 * aisle + suc (z .cells) = omega arith in
+      let slot : 442 + 26 * aisle + z .cells + 1 ≡ 442 + 26 * aisle + suc (z .cells) = omega arith in
       let one = filled-next (front aisle) (frontTreads passage) (first, last) (r .0) (filled-to (28 * aisle + 26) gap f) in
       let two = filled-next (back aisle) (backTreads passage) (first, last) (r .1) (filled-to (28 * aisle + 27) (λ e i t. omega arith) one) in
       filled-to (28 * suc aisle) (λ e i t. omega arith) (subst (λ (s : ℕ). Filled z treads (suc (28 * aisle + 27)) (set (set left (442 + 26 * aisle) (frontTreads passage)) s (backTreads passage))) (sym slot) two)

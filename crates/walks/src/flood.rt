@@ -1,4 +1,7 @@
-// What can be reached along edges that are left: a flood fill over the points.
+// What can be reached along edges that are left: a flood fill over the points. `left` has the treads left of each edge, `seen` a number
+// for each point, 0 where it is not seen. The points lie below `end`, where the last aisle's numbers end.
+use crate::numbers::HEIGHTS;
+use crate::numbers::POINTS;
 ghost use mathlib.Core.Path.{_≡_};
 ghost use mathlib.Core.Bool.{true};
 ghost use mathlib.Core.Logic.{_↔_};
@@ -29,25 +32,25 @@ pub fn spread_edge(n: u8, a: usize, b: usize, seen: &mut [u8]) -> usize
     0
 }
 
-// The edges towards the back and to the right of one point.
+// The edges towards the back and to the right of one point. The number of points seen newly, as for a sweep.
 pub fn spread(left: &[u8], at: usize, seen: &mut [u8]) -> usize
     requires { ⌜ (at < 442) × Ranged (now left) 442 × (length (now seen) ≡ 442) ⌝ }
     ensures { λ _. ⌜ now (seen .exit) ≡ spreadAt (now (left .entry)) at (now (seen .entry)) ⌝ }
     ensures { λ r. ⌜ unseen (now (seen .exit)) + r ≡ unseen (now (seen .entry)) ⌝ }
 {
     let along = spread_edge(left[at], at, at + 1, seen);
-    let across = spread_edge(left[442 + at], at, at + 26, seen);
+    let across = spread_edge(left[POINTS + at], at, at + HEIGHTS, seen);
     along + across
 }
 
-// Point by point upwards.
+// Sweeps the points upwards.
 pub fn sweep_up(left: &[u8], end: usize, seen: &mut [u8]) -> usize
     requires { ⌜ Ranged (now left) end × (length (now seen) ≡ 442) ⌝ }
     ensures { λ _. ⌜ now (seen .exit) ≡ sweptUp (now (left .entry)) (end - 26) (now (seen .entry)) ⌝ }
     ensures { λ r. ⌜ unseen (now (seen .exit)) + r ≡ unseen (now (seen .entry)) ⌝ }
 {
     let mut news = 0;
-    let mut at = 26;
+    let mut at = HEIGHTS;
     while at < end {
         news += spread(left, at, seen);
         at += 1;
@@ -55,7 +58,7 @@ pub fn sweep_up(left: &[u8], end: usize, seen: &mut [u8]) -> usize
     news
 }
 
-// Point by point downwards.
+// Sweeps the points downwards.
 pub fn sweep_down(left: &[u8], end: usize, seen: &mut [u8]) -> usize
     requires { ⌜ Ranged (now left) end × (length (now seen) ≡ 442) ⌝ }
     ensures { λ _. ⌜ now (seen .exit) ≡ sweptDown (now (left .entry)) (end - 26) (now (seen .entry)) ⌝ }
@@ -63,7 +66,7 @@ pub fn sweep_down(left: &[u8], end: usize, seen: &mut [u8]) -> usize
 {
     let mut news = 0;
     let mut at = end;
-    while 26 < at {
+    while HEIGHTS < at {
         at -= 1;
         news += spread(left, at, seen);
     }
@@ -75,7 +78,8 @@ pub fn flood(left: &[u8], end: usize, seen: &mut [u8])
     requires { ⌜ Ranged (now left) end × (length (now seen) ≡ 442) ⌝ }
     ensures { λ _. ⌜ Flooded (now (left .entry)) (now (seen .entry)) (now (seen .exit)) ⌝ }
 {
-    let mut news = 442;
+    // Not 0, so that there is a first turn.
+    let mut news = POINTS;
     while 0 < news {
         let up = sweep_up(left, end, seen);
         let down = sweep_down(left, end, seen);
@@ -88,13 +92,13 @@ pub fn all_seen(left: &[u8], end: usize, seen: &[u8]) -> bool
     requires { ⌜ (length (now left) ≡ 884) × (length (now seen) ≡ 442) × (end ≤ 442) ⌝ }
     ensures { λ r. ⌜ (r ≡ true) ↔ AllSeen (now (left .entry)) (now (seen .entry)) end ⌝ }
 {
-    let mut at = 26;
+    let mut at = HEIGHTS;
     while at < end {
         if seen[at] == 0 {
             if 0 < left[at] {
                 return false;
             }
-            if 0 < left[442 + at] {
+            if 0 < left[POINTS + at] {
                 return false;
             }
         }
@@ -108,7 +112,7 @@ pub fn reaches(left: &[u8], at: usize, end: usize) -> bool
     requires { ⌜ (at < 442) × Ranged (now left) end ⌝ }
     ensures { λ r. ⌜ (r ≡ true) ↔ AllReached (now (left .entry)) at ⌝ }
 {
-    let mut seen = [0u8; 442];
+    let mut seen = [0u8; POINTS];
     seen[at] = 1;
     flood(left, end, &mut seen);
     all_seen(left, end, &seen)

@@ -1,4 +1,5 @@
 // Equal letters run together.
+use crate::numbers::STEPS;
 use rules::Direction;
 use rules::Run;
 use values::RunList;
@@ -44,7 +45,7 @@ pub fn runs_of(letters: &[u8], n: usize) -> RunList
     let mut runs = [Run {
         direction: Direction::Back,
         steps: 0,
-    }; 860];
+    }; STEPS];
     let mut count = 0;
     let mut steps = 0;
     let mut at = 0;
