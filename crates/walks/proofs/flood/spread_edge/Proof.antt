@@ -36,7 +36,7 @@ returns-2 c =
     (rw (ne-eqb (x .n) 0 (c₁ .if1 .left), eq-eqb (getD seen (x .a) 0) 0 (c .before .before .if2 .taken), eq-eqb (getD seen (x .b) 0) 0 (c .if3 .taken)), omega arith)
 
 slice-write-seen : tie.Need-slice-write-seen
-slice-write-seen c = both-in (c .before .before .before .before) .0
+slice-write-seen c = let t = both-in (c .before .before .before .before) in omega (arith, t .0, t .1)
 
 same-length : tie.Need-same-length
 same-length c = search needs
@@ -55,7 +55,7 @@ slice-read-if4 : tie.Need-slice-read-if4
 slice-read-if4 c = both-in (c .before .before .before) .1
 
 slice-write-seen-2 : tie.Need-slice-write-seen-2
-slice-write-seen-2 c = both-in (c .before .before .before .before) .1
+slice-write-seen-2 c = let t = both-in (c .before .before .before .before) in omega (arith, t .0, t .1)
 
 same-length-2 : tie.Need-same-length-2
 same-length-2 c = search needs
