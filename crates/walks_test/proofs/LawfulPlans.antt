@@ -19,7 +19,7 @@ use Rattle.values.specs.Values.{planOf}
 use Rattle.tours.specs.Prefixes.{lawfulState}
 use Rattle.tours.proofs.Exact.{closed-lawful}
 use Rattle.walks.specs.Lawfully.{LawfulPlan}
-use Rattle.walks_test.specs.Plans.{storeOf, mixed, doubled, six}
+use Rattle.walks_test.specs.Plans.{storeOf, mixed, six}
 
 both : (a b : Bool) → (a && b) ≡ true → (a ≡ true) × (b ≡ true)
 both true b h = (refl, h)
@@ -109,10 +109,6 @@ module _ (z : Layout) (value : PlanValue) where
 pub mixed-lawful : LawfulPlan (storeOf 4 5 2) mixed
 unfolding planOf layoutInBounds within actionAt passageAt
 mixed-lawful = lawful-plan (storeOf 4 5 2) mixed refl
-
-pub doubled-lawful : LawfulPlan (storeOf 4 3 3) doubled
-unfolding planOf layoutInBounds within actionAt passageAt
-doubled-lawful = lawful-plan (storeOf 4 3 3) doubled refl
 
 pub six-lawful : LawfulPlan (storeOf 6 4 6) six
 unfolding planOf layoutInBounds within actionAt passageAt

@@ -26,10 +26,6 @@ planWith stages = record { aisles = length stages; stages = stages ++ replicate 
 abbrev pub mixed : PlanValue
 mixed = planWith (stage Void P22 ∷ stage Once P11 ∷ stage Once P22 ∷ stage Twice P00 ∷ [])
 
--- every passage 22
-abbrev pub doubled : PlanValue
-doubled = planWith (stage Twice P22 ∷ stage (Gap 1 2) P22 ∷ stage Twice P22 ∷ stage Twice P00 ∷ [])
-
 -- six aisles, the depot at the last
 abbrev pub six : PlanValue
 six = planWith (stage (Gap 1 3) P22 ∷ stage (Gap 3 4) P22 ∷ stage Twice P02 ∷ stage Twice P20 ∷ stage Twice P22 ∷ stage (Top 3) P00 ∷ [])

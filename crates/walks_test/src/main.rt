@@ -1,4 +1,4 @@
-// Prints the walks of three plans. The file stdout has those that a search through all walks, in the order of the alphabet, finds first.
+// Prints the walks of two plans. The file stdout has those that a search through all walks, in the order of the alphabet, finds first.
 mod plans;
 
 use libc::STDOUT_FILENO;
@@ -51,6 +51,5 @@ fn print_walk(layout: Layout, plan: PlanValue)
 
 fn main() {
     print_walk(plans::store(4, 5, 2), plans::mixed());
-    print_walk(plans::store(4, 3, 3), plans::doubled());
     print_walk(plans::store(6, 4, 6), plans::six());
 }

@@ -1,11 +1,11 @@
-// Three plans with TWICE and 22, whose walks the jobs of tests/ leave out: none has a best plan with TWICE, and few have one with 22.
+// Two plans with TWICE and 22, whose walks the jobs of tests/ leave out: none has a best plan with TWICE, and few have one with 22.
 use rules::Action;
 use rules::Layout;
 use rules::Passage;
 use values::PlanValue;
 use values::Stage;
 ghost use mathlib.Core.Path.{_≡_};
-ghost use Rattle.walks_test.specs.Plans.{storeOf, mixed, doubled, six};
+ghost use Rattle.walks_test.specs.Plans.{storeOf, mixed, six};
 
 // A store in which all distances are 1.
 pub fn store(aisles: usize, cells: usize, depot: usize) -> Layout
@@ -40,33 +40,6 @@ pub fn mixed() -> PlanValue
     };
     stages[2] = Stage {
         action: Action::Once,
-        passage: Passage::P22,
-    };
-    stages[3] = Stage {
-        action: Action::Twice,
-        passage: Passage::P00,
-    };
-    PlanValue { aisles: 4, stages }
-}
-
-// TWICE 22 GAP 1 2 22 TWICE 22 TWICE.
-pub fn doubled() -> PlanValue
-    ensures { λ r. ⌜ r ≡ doubled ⌝ }
-{
-    let mut stages = [Stage {
-        action: Action::Void,
-        passage: Passage::P00,
-    }; 16];
-    stages[0] = Stage {
-        action: Action::Twice,
-        passage: Passage::P22,
-    };
-    stages[1] = Stage {
-        action: Action::Gap(1, 2),
-        passage: Passage::P22,
-    };
-    stages[2] = Stage {
-        action: Action::Twice,
         passage: Passage::P22,
     };
     stages[3] = Stage {

@@ -1,6 +1,6 @@
 -- `walks_test::main` meets its contract: each plan is lawful in its store.
 use borrow.Author.Needs.{needs}
-use Rattle.walks_test.proofs.LawfulPlans.{mixed-lawful, doubled-lawful, six-lawful}
+use Rattle.walks_test.proofs.LawfulPlans.{mixed-lawful, six-lawful}
 use Rattle.walks_test.proofs.main.Statement.{statement}
 use Rattle.walks_test.proofs.main.Tie as tie
 
@@ -16,20 +16,11 @@ print-walk-requires c κs = rw (c .before .store .ensures, c .mixed .ensures) mi
 store-requires-2 : tie.Need-store-requires-2
 store-requires-2 c κs = search needs
 
-doubled-requires : tie.Need-doubled-requires
-doubled-requires c κs = search needs
-
-print-walk-requires-2 : tie.Need-print-walk-requires-2
-print-walk-requires-2 c κs = rw (c .before .store2 .ensures, c .doubled .ensures) doubled-lawful
-
-store-requires-3 : tie.Need-store-requires-3
-store-requires-3 c κs = search needs
-
 six-requires : tie.Need-six-requires
 six-requires c κs = search needs
 
-print-walk-requires-3 : tie.Need-print-walk-requires-3
-print-walk-requires-3 c κs = rw (c .before .store3 .ensures, c .six .ensures) six-lawful
+print-walk-requires-2 : tie.Need-print-walk-requires-2
+print-walk-requires-2 c κs = rw (c .before .store2 .ensures, c .six .ensures) six-lawful
 
 returns : tie.Need-returns
 returns c = search needs
@@ -42,9 +33,6 @@ main-spec =
     mixed-requires
     print-walk-requires
     store-requires-2
-    doubled-requires
-    print-walk-requires-2
-    store-requires-3
     six-requires
-    print-walk-requires-3
+    print-walk-requires-2
     returns)
