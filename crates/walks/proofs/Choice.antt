@@ -60,8 +60,9 @@ module _ (z : Layout) where
         go [] l t = absurd (omega (arith, t (stepEdge x d) (stepped z x (r .point) d c .edge)))
         go (e ∷ walk) l t =
             let s = stepped z x (r .point) e (l .0) in
-            let same = only e (l .0) (omega (arith, t (stepEdge x e) (s .edge), one-refl (stepEdge x e))) in
-            let at : (f : Edge) → InStore z f → treadsFrom (stepTo x e) walk f ≡ without left (stepEdge x e) f = λ f i. omega (arith, t f i, taken left (stepEdge x e) f (omega (arith, t (stepEdge x e) (s .edge), one-refl (stepEdge x e)))) in
+            let some-left : 0 < left (stepEdge x e) = omega (arith, t (stepEdge x e) (s .edge), one-refl (stepEdge x e)) in
+            let same = only e (l .0) some-left in
+            let at : (f : Edge) → InStore z f → treadsFrom (stepTo x e) walk f ≡ without left (stepEdge x e) f = λ f i. omega (arith, t f i, taken left (stepEdge x e) f some-left) in
             subst (λ (k : Direction). Joined z (without left (stepEdge x k)) (stepTo x k)) same
             (joined-same z (treadsFrom (stepTo x e) walk) (without left (stepEdge x e)) (stepTo x e) (λ f i u. omega (arith, at f i)) (λ f i u. omega (arith, at f i))
             (walk-joined z (stepTo x e) walk (depotPoint z) (s .end) (l .1)))

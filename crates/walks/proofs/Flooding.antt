@@ -8,7 +8,7 @@ use mathlib.Core.Bool.{Bool, true, false, cond}
 use lib.Dec.{eqb}
 use lib.ListN.{length, getD, set, replicate, length-set, length-replicate, List·getD-eq-default}
 use lib.Seq.{getD-set-same, getD-set-other}
-use borrow.Author.Tests.{eq-eqb, eqb-true, eqb-false}
+use borrow.Author.Tests.{eqb-true, eqb-false}
 use Rattle.closedwalks.proofs.Splits.{equal-or-below, below-or-from}
 use Rattle.walks.specs.Flood.{unseen, Reach, here, backward, forward, rightward, leftward, Starts, AllReached, Ranged, spreadEdge, spreadAt, sweptUp, sweptDown, FromSeen, Flooded, AllSeen}
 
@@ -78,15 +78,16 @@ pub record Turned (left : List ℕ) (end : ℕ) (before after : List ℕ) (news 
   pub calm : news ≡ 0 → CalmTo left end after
 
 -- one point more upwards
-pub up-more : (left : List ℕ) (at : ℕ) (first seen after : List ℕ) → 26 ≤ at → seen ≡ sweptUp left (at - 26) first → after ≡ spreadAt left at seen → after ≡ sweptUp left (at + 1 - 26) first
-up-more left at first seen after low p q =
+pub up-more : (left : List ℕ) (at : ℕ) (first : List ℕ) {seen after : List ℕ} → 26 ≤ at → seen ≡ sweptUp left (at - 26) first → after ≡ spreadAt left at seen → after ≡ sweptUp left (at + 1 - 26) first
+up-more left at first low p q =
     let number : at ≡ 26 + (at - 26) = omega arith in
     let next : suc (at - 26) ≡ at + 1 - 26 = omega arith in
     q ∙ ap₂ (λ (k : ℕ) (l : List ℕ). spreadAt left k l) number p ∙ ap (λ (k : ℕ). sweptUp left k first) next
 
 -- one point more downwards
-pub down-more : (left : List ℕ) (at : ℕ) (last seen after : List ℕ) → 26 < at → sweptDown left (at - 26) seen ≡ last → after ≡ spreadAt left (at - 1) seen → sweptDown left (at - 1 - 26) after ≡ last
-down-more left at last seen after low p q =
+pub down-more : (left : List ℕ) (at : ℕ) (seen : List ℕ) {last after : List ℕ} → 26 < at → sweptDown left (at - 26) seen ≡ last → after ≡ spreadAt left (at - 1) seen
+    → sweptDown left (at - 1 - 26) after ≡ last
+down-more left at seen low p q =
     let number : at - 1 ≡ 26 + (at - 1 - 26) = omega arith in
     let next : suc (at - 1 - 26) ≡ at - 26 = omega arith in
     ap (sweptDown left (at - 1 - 26)) (q ∙ ap (λ (k : ℕ). spreadAt left k seen) number) ∙ ap (λ (k : ℕ). sweptDown left k seen) next ∙ p
@@ -185,8 +186,8 @@ module _ (left : List ℕ) where
         grown-so (λ t. calm-next n seen (t .1) (t .0)) (grown-join at (down-grown n (omega arith) (spreadAt left (26 + n) seen) (at .size ∙ size)))
 
     -- what both do, one after the other
-    pub sweeps-grown : (seen mid after : List ℕ) → length seen ≡ 442 → mid ≡ sweptUp left (end - 26) seen → after ≡ sweptDown left (end - 26) mid → Grown left (CalmTo left end) seen after
-    sweeps-grown seen mid after size p q =
+    pub sweeps-grown : {seen mid after : List ℕ} → length seen ≡ 442 → mid ≡ sweptUp left (end - 26) seen → after ≡ sweptDown left (end - 26) mid → Grown left (CalmTo left end) seen after
+    sweeps-grown {seen} {mid} {after} size p q =
         let top = range .top in
         let up : Grown left (CalmTo left (26 + (end - 26))) seen mid = rw p (up-grown (end - 26) (omega arith) seen size) in
         let down : Grown left (CalmTo left (26 + (end - 26))) mid after = rw q (down-grown (end - 26) (omega arith) mid (up .size ∙ size)) in

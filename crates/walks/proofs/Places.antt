@@ -133,9 +133,13 @@ module _ (z : Layout) (wide : z .aisles ≤ 16) (deep : z .cells ≤ 24) where
       point : (f : Edge) → leftOf z (set left (slotOf z e) v) f ≡ leftOf z left f - one e f
       point f = go (inStore z f) refl (edge-split e f)
         where
-          go : (b : Bool) → inStore z f ≡ b → ((e ≡ f) × (one e f ≡ 1)) ⊎ ((one e f ≡ 0) × (e ≡ f → ⊥)) → cond b (getD (set left (slotOf z e) v) (slotOf z f) 0) 0 ≡ cond b (getD left (slotOf z f) 0) 0 - one e f
+          go : (b : Bool) → inStore z f ≡ b → ((e ≡ f) × (one e f ≡ 1)) ⊎ ((one e f ≡ 0) × (e ≡ f → ⊥))
+              → cond b (getD (set left (slotOf z e) v) (slotOf z f) 0) 0 ≡ cond b (getD left (slotOf z f) 0) 0 - one e f
           go false q s = omega arith
-          go true q (inl s) = omega (arith, getD-set-same left (slotOf z e) v 0 low, s .1, ap (λ (k : Edge). getD (set left (slotOf z e) v) (slotOf z k) 0) (s .0), ap (λ (k : Edge). getD left (slotOf z k) 0) (s .0))
+          go true q (inl s) =
+              let after = ap (λ (k : Edge). getD (set left (slotOf z e) v) (slotOf z k) 0) (s .0) in
+              let before = ap (λ (k : Edge). getD left (slotOf z k) 0) (s .0) in
+              omega (arith, getD-set-same left (slotOf z e) v 0 low, s .1)
           go true q (inr s) =
               omega (arith, s .0, getD-set-other left (slotOf z e) (slotOf z f) v 0 (λ t. s .1 (slot-same e f h (in-store z f q) (sym t))))
 
@@ -143,7 +147,12 @@ module _ (z : Layout) (wide : z .aisles ≤ 16) (deep : z .cells ≤ 24) where
   pub charted-range : (left : List ℕ) → Charted z left → Ranged left (26 * (z .aisles + 1))
   unfolding InStore
   charted-range left c =
-      record { size = c .size; top = omega arith; along = λ p low h. let t = c .edge p h in ups p (t .0) (t .1) (t .2) low; across = λ p h. let t = c .edge (442 + p) h in rights p (t .0) (t .1) (t .2) }
+      record {
+        size = c .size;
+        top = omega arith;
+        along = λ p low h. let t = c .edge p h in ups p (t .0) (t .1) (t .2) low;
+        across = λ p h. let t = c .edge (442 + p) h in rights p (t .0) (t .1) (t .2);
+      }
     where
       ups : (p : ℕ) (e : Edge) → InStore z e → slotOf z e ≡ p → p < 442 → (26 ≤ p) × (p + 1 < 26 * (z .aisles + 1))
       ups p (along j k) h e low = (omega arith, omega arith)
@@ -213,7 +222,8 @@ module _ (z : Layout) (wide : z .aisles ≤ 16) (deep : z .cells ≤ 24) where
       pub free-test : (canStep z x d && ltb 0 (leftOf z left (stepEdge x d))) ≡ ltb 0 (getD left (slotBy d (spot x)) 0)
       free-test = go (none-or-some (getD left (slotBy d (spot x)) 0)) (canStep z x d) refl
         where
-          go : ((getD left (slotBy d (spot x)) 0 ≡ 0) ⊎ (0 < getD left (slotBy d (spot x)) 0)) → (b : Bool) → canStep z x d ≡ b → (b && ltb 0 (leftOf z left (stepEdge x d))) ≡ ltb 0 (getD left (slotBy d (spot x)) 0)
+          go : ((getD left (slotBy d (spot x)) 0 ≡ 0) ⊎ (0 < getD left (slotBy d (spot x)) 0)) → (b : Bool) → canStep z x d ≡ b
+              → (b && ltb 0 (leftOf z left (stepEdge x d))) ≡ ltb 0 (getD left (slotBy d (spot x)) 0)
           go (inl n) false s = sym (le-ltb 0 (getD left (slotBy d (spot x)) 0) (omega arith))
           go (inl n) true s = ap (ltb 0) (free-slot s)
           go (inr h) false s = absurd (let bad : _≡_ {A = ℕ} 0 1 = cc (slot-free h .0) in omega arith)

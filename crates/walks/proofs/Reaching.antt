@@ -77,7 +77,7 @@ module _ (z : Layout) (wide : z .aisles ≤ 16) (deep : z .cells ≤ 24) (left :
     reach-linked i p (leftward h r) = back-again (across-between p h) (reach-linked i (p + 26) r)
 
     -- the end of an edge that is left can be reached where its other end can
-    edge-reach : (e : Edge) → Trodden z (leftOf z left) e → (Reach left (spot x) (spot (startOf z e)) → Reach left (spot x) (spot (endOf z e))) × (Reach left (spot x) (spot (endOf z e)) → Reach left (spot x) (spot (startOf z e)))
+    edge-reach : (e : Edge) → Trodden z (leftOf z left) e → Reach left (spot x) (spot (startOf z e)) ↔ Reach left (spot x) (spot (endOf z e))
     edge-reach e t =
         let h = trodden-out z left e t .1 in
         elim (edge-kind z e) [

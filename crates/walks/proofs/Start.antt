@@ -67,7 +67,9 @@ module _ (z : Layout) where
   unfolding without
   first-same zero f g x p h = refl
   first-same (suc n) f g x p h =
-      let letter : (d : Direction) → tried z n f x d ≡ tried z n g x d = λ d. letter-same n f g x d p h (λ c. first-same n (without f (stepEdge x d)) (without g (stepEdge x d)) (stepTo x d) (stepped z x p d c .end) (λ e i. omega (arith, h e i))) in
+      let behind : (d : Direction) → canStep z x d ≡ true → firstFrom z n (without f (stepEdge x d)) (stepTo x d) ≡ firstFrom z n (without g (stepEdge x d)) (stepTo x d) =
+      λ d c. first-same n (without f (stepEdge x d)) (without g (stepEdge x d)) (stepTo x d) (stepped z x p d c .end) (λ e i. omega (arith, h e i)) in
+      let letter : (d : Direction) → tried z n f x d ≡ tried z n g x d = λ d. letter-same n f g x d p h (behind d) in
       λ i. firstWay (letter Back i) (firstWay (letter Front i) (firstWay (letter Left i) (letter Right i)))
 
 module _ (z : Layout) (plan : PlanValue) (w : LawfulPlan z plan) where

@@ -5,7 +5,7 @@ use mathlib.Core.Path.{_≡_, refl, sym, ap, ap₂, _∙_, subst}
 use mathlib.Core.Logic.{_⊎_, inl, inr, _↔_}
 use mathlib.Core.List.{List, [], _∷_}
 use mathlib.Core.Bool.{Bool, true, false, _&&_}
-use mathlib.Core.Option.{none, some}
+use mathlib.Core.Option.{some}
 use lib.Dec.{ltb}
 use lib.ListN.{length, getD, set, replicate, length-set, length-replicate}
 use lib.Seq.{getD-set-other, ext-getD}
@@ -195,7 +195,9 @@ module _ (z : Layout) (left : List ℕ) (at : ℕ) (w : Walkable z left at) wher
     pub letter-alone : 0 < n → treadsAt left at ≡ 1 → true ≡ canBe z left at d
     letter-alone h s =
         let t = free h in
-        sym (can-be-joined h (only-joined z (leftOf z left) x (w .ready) d (t .0) (t .1) (λ e c p. only-tread left at d e s h (omega (arith, free-slot z wide deep x inside left (w .charted) e c, ap (λ (k : ℕ). getD left (slotBy e k) 0) (spot-at at))))))
+        let other : (e : Direction) → canStep z x e ≡ true → leftOf z left (stepEdge x e) ≡ getD left (slotBy e at) 0 =
+        λ e c. free-slot z wide deep x inside left (w .charted) e c ∙ ap (λ (k : ℕ). getD left (slotBy e k) 0) (spot-at at) in
+        sym (can-be-joined h (only-joined z (leftOf z left) x (w .ready) d (t .0) (t .1) (λ e c p. only-tread left at d e s h (omega (arith, other e c)))))
 
     -- for the last tread of an edge the flood decides
     pub letter-last : n ≡ 1 → (r : Bool) → (r ≡ true) ↔ AllReached (set left (slotBy d at) 0) (nextBy d at) → r ≡ canBe z left at d
@@ -220,8 +222,9 @@ module _ (z : Layout) (left : List ℕ) (at : ℕ) (w : Walkable z left at) wher
   letter-taken d q v e =
       let t = chosen-ready z (leftOf z left) x (w .ready) d q in
       let here = next-point d (omega arith) in
-      let after = rest-left d v e in (
-        record { bounds = w .bounds; charted = rest-charted d v e; ready = subst (λ (y : Point). Ready z (leftOf z (set left (slotBy d at) v)) y) (sym here) (subst (λ (f : Edge → ℕ). Ready z f (stepTo x d)) (sym after) (t .2)) },
+      let after = rest-left d v e in
+      let ready = subst (λ (f : Edge → ℕ). Ready z f (stepTo x d)) (sym after) (t .2) in (
+        record { bounds = w .bounds; charted = rest-charted d v e; ready = subst (λ (y : Point). Ready z (leftOf z (set left (slotBy d at) v)) y) (sym here) ready },
         ap (λ (k : ℕ). greedy z (finds z) k (leftOf z left) x) (letter-steps d v e)
             ∙ greedy-chosen z (leftOf z left) x (w .ready) (stepsOf z (leftOf z (set left (slotBy d at) v))) d q
             ∙ ap₂ (λ (f : Edge → ℕ) (y : Point). d ∷ greedy z (finds z) (stepsOf z (leftOf z (set left (slotBy d at) v))) f y) (sym after) (sym here),
@@ -232,7 +235,9 @@ module _ (z : Layout) (left : List ℕ) (at : ℕ) (w : Walkable z left at) wher
   unfolding nextLetter canBe
   some-letter h =
       let t = at-tread left at h in
-      some-chosen z (leftOf z left) x (w .ready) (stepsOf z (leftOf z (set left (slotBy (t .0) at) (getD left (slotBy (t .0) at) 0 - 1)))) (letter-steps (t .0) (getD left (slotBy (t .0) at) 0 - 1) (let p = t .1 in omega arith))
+      let d = t .0 in
+      let v = getD left (slotBy d at) 0 - 1 in
+      some-chosen z (leftOf z left) x (w .ready) (stepsOf z (leftOf z (set left (slotBy d at) v))) (letter-steps d v (let p = t .1 in omega arith))
 
   -- where none is left, the walk is over
   pub no-letter : treadsAt left at ≡ 0 → lettersLeft z left at ≡ []

@@ -1,5 +1,5 @@
 -- Each plan of the test is lawful: the machine closes it off, which is computed.
-use Prim.Native.Nat.{ℕ, zero, suc, _<_}
+use Prim.Native.Nat.{ℕ, zero, suc}
 use native.Mathlib.Omega.{arith}
 use mathlib.Core.Path.{_≡_, refl}
 use mathlib.Core.List.{List, [], _∷_}
@@ -98,7 +98,9 @@ module _ (z : Layout) (value : PlanValue) where
       let d = both (layoutInBounds z && ltb 0 (z .depot)) (eqb (value .aisles) (z .aisles)) (s .0) in
       let b = both (layoutInBounds z) (ltb 0 (z .depot)) (d .0) in
       let n = both (eqb (length (plan .actions)) (z .aisles)) (eqb (suc (length (plan .passages))) (z .aisles)) (s .1) in
-      let formed : WellFormed z plan = record { aisles = eqb-true (length (plan .actions)) (z .aisles) (n .0); passages = eqb-true (suc (length (plan .passages))) (z .aisles) (n .1); fits = all-fit (z .cells) (plan .actions) (f .1) } in
+      let aisles = eqb-true (length (plan .actions)) (z .aisles) (n .0) in
+      let passages = eqb-true (suc (length (plan .passages))) (z .aisles) (n .1) in
+      let formed : WellFormed z plan = record { aisles = aisles; passages = passages; fits = all-fit (z .cells) (plan .actions) (f .1) } in
       record {
         bounds = b .0;
         aisles = eqb-true (value .aisles) (z .aisles) (d .1);

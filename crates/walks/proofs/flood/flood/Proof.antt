@@ -31,7 +31,8 @@ sweep-down-requires c κs =
     (c₀ .pre .0, up .sweep-up .kept .1 .1 .0 ∙ at .loop .inv .grown .size ∙ c₀ .pre .1)
 
 -- both sweeps of a turn: what they do, and how many points are seen newly
-swept-twice : (c : tie.After-slice-known3 Inv-loop μ-loop) → let down = c .before .before in let up = down .before .before .before .before in let at = up .before .before .before in let x = at .before .before .before .args in
+swept-twice : (c : tie.After-slice-known3 Inv-loop μ-loop)
+    → let down = c .before .before in let up = down .before .before .before .before in let at = up .before .before .before in let x = at .before .before .before .args in
     Grown (now (x .left)) (CalmTo (now (x .left)) (x .end)) (at .loop .seen) (down .sweep-down .last .1 .1 .0)
     × (unseen (down .sweep-down .last .1 .1 .0) + (up .sweep-up .result + down .sweep-down .result) ≡ unseen (at .loop .seen))
 swept-twice c =
@@ -40,8 +41,7 @@ swept-twice c =
     let at = up .before .before .before in
     let c₀ = at .before .before .before in
     let x = c₀ .args in (
-      sweeps-grown (now (x .left)) (x .end) (c₀ .pre .0) (at .loop .seen) (up .sweep-up .last .1 .1 .0) (down .sweep-down .last .1 .1 .0) (at .loop .inv .grown .size ∙ c₀ .pre .1) (up .sweep-up .ensures .0)
-          (down .sweep-down .ensures .0),
+      sweeps-grown (now (x .left)) (x .end) (c₀ .pre .0) (at .loop .inv .grown .size ∙ c₀ .pre .1) (up .sweep-up .ensures .0) (down .sweep-down .ensures .0),
       omega (arith, up .sweep-up .ensures .1, down .sweep-down .ensures .1),
     )
 

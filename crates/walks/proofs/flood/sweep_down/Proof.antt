@@ -10,7 +10,8 @@ use Rattle.walks.proofs.flood.sweep_down.Statement.{statement}
 use Rattle.walks.proofs.flood.sweep_down.Tie as tie
 
 abbrev Inv-loop : tie.InvT-loop
-Inv-loop left end seen₀ news₀ at₀ seen news at = (at ≤ end) × (sweptDown left (at - 26) seen ≡ sweptDown left (end - 26) seen₀) × (unseen seen + news ≡ unseen seen₀) × (length seen ≡ length seen₀)
+Inv-loop left end seen₀ news₀ at₀ seen news at =
+    (at ≤ end) × (sweptDown left (at - 26) seen ≡ sweptDown left (end - 26) seen₀) × (unseen seen + news ≡ unseen seen₀) × (length seen ≡ length seen₀)
 
 abbrev μ-loop : tie.MeasureT-loop
 μ-loop left end seen₀ news₀ at₀ seen news at = at
@@ -48,7 +49,7 @@ loop-again c =
     let i = at .loop .inv in
     let s = c .before .before .spread in (
       omega (arith, i .0),
-      down-more (now (x .left)) (at .loop .at) (sweptDown (now (x .left)) (x .end - 26) (now (x .seen))) (at .loop .seen) (s .last .1 .1 .0) (c .before .before .before .before .loop-test .taken) (i .1) (s .ensures .0),
+      down-more (now (x .left)) (at .loop .at) (at .loop .seen) (c .before .before .before .before .loop-test .taken) (i .1) (s .ensures .0),
       counted c,
       s .kept .1 .1 .0 ∙ i .3,
     )

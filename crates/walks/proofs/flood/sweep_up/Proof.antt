@@ -10,7 +10,8 @@ use Rattle.walks.proofs.flood.sweep_up.Statement.{statement}
 use Rattle.walks.proofs.flood.sweep_up.Tie as tie
 
 abbrev Inv-loop : tie.InvT-loop
-Inv-loop left end seen₀ news₀ at₀ seen news at = (26 ≤ at) × (at - 26 ≤ end - 26) × (seen ≡ sweptUp left (at - 26) seen₀) × (unseen seen + news ≡ unseen seen₀) × (length seen ≡ length seen₀)
+Inv-loop left end seen₀ news₀ at₀ seen news at =
+    (26 ≤ at) × (at - 26 ≤ end - 26) × (seen ≡ sweptUp left (at - 26) seen₀) × (unseen seen + news ≡ unseen seen₀) × (length seen ≡ length seen₀)
 
 abbrev μ-loop : tie.MeasureT-loop
 μ-loop left end seen₀ news₀ at₀ seen news at = end - at
@@ -49,7 +50,7 @@ loop-again c =
     let s = c .before .before .spread in (
       omega (arith, i .0),
       omega (arith, i .0, c .before .before .before .before .loop-test .taken),
-      up-more (now (x .left)) (at .loop .at) (now (x .seen)) (at .loop .seen) (s .last .1 .1 .0) (i .0) (i .2) (s .ensures .0),
+      up-more (now (x .left)) (at .loop .at) (now (x .seen)) (i .0) (i .2) (s .ensures .0),
       counted c,
       s .kept .1 .1 .0 ∙ i .4,
     )
