@@ -27,6 +27,7 @@ use Rattle.walks.specs.Filling.{withAisle, withPassage, withBehind, stag
 use Rattle.walks.proofs.Flooding.{same-or-not, none-at}
 use Rattle.walks.proofs.Places.{slot-same, slot-range, left-in}
 
+-- the list keeps its length
 pub aisle-length : (action : Action) (aisle n : ℕ) (left : List ℕ) → length (withAisle action aisle n left) ≡ length left
 aisle-length action aisle zero left = refl
 aisle-length action aisle (suc k) left = length-set (withAisle action aisle k left) (26 * aisle + k) (aisleTreads action k) ∙ aisle-length action aisle k left
@@ -148,6 +149,7 @@ abbrev pub plan-list : Layout → PlanValue → List ℕ
 plan-list z plan = withAisles (z .aisles) (z .cells) (plan .stages) (z .aisles) (replicate 884 0)
 
 module _ (z : Layout) (wide : z .aisles ≤ 16) (deep : z .cells ≤ 24) (plan : PlanValue) (same : plan .aisles ≡ z .aisles) where
+  -- the actions and passages of the plan are those of its stages
   stage-action : (j : ℕ) → j < z .aisles → actionAt (planOf plan) (suc j) ≡ stageAt (plan .stages) j .action
   unfolding planOf actionAt
   stage-action j h = nth-take (λ (s : Stage). s .action) (plan .aisles) j (plan .stages) (record { action = Void; passage = P00 }) (omega arith)
@@ -156,6 +158,7 @@ module _ (z : Layout) (wide : z .aisles ≤ 16) (deep : z .cells ≤ 24) (plan :
   unfolding planOf passageAt
   stage-passage j h = nth-take (λ (s : Stage). s .passage) (plan .aisles - 1) j (plan .stages) (record { action = Void; passage = P00 }) (omega arith)
 
+  -- the first n aisles
   filled-aisles : (n : ℕ) → n ≤ z .aisles → Filled z (multiplicity (planOf plan)) (28 * suc n) (withAisles (z .aisles) (z .cells) (plan .stages) n (replicate 884 0))
   unfolding multiplicity InStore
   filled-aisles zero h =
@@ -173,9 +176,11 @@ module _ (z : Layout) (wide : z .aisles ≤ 16) (deep : z .cells ≤ 24) (plan :
       filled-behind z wide deep treads (ltb (suc j) (z .aisles)) (stage .passage) (suc j) (omega arith) refl
       (λ b. let p = sym (stage-passage j (ltb-true (suc j) (z .aisles) b)) in (ap frontTreads p, ap backTreads p)) row
 
+  -- the list is one of treads
   pub plan-charted : Charted z (plan-list z plan)
   plan-charted = filled-aisles (z .aisles) (omega arith) .charted
 
+  -- which are those of the plan
   pub plan-treads : (e : Edge) → InStore z e → leftOf z (plan-list z plan) e ≡ multiplicity (planOf plan) e
   plan-treads e i = left-in z (plan-list z plan) e i ∙ filled-aisles (z .aisles) (omega arith) .written e i (before e i)
     where

@@ -20,6 +20,7 @@ unseen-set (suc n ∷ seen) zero h e = absurd (omega arith)
 unseen-set (zero ∷ seen) (suc i) h e = omega (arith, unseen-set seen i (omega arith) e)
 unseen-set (suc n ∷ seen) (suc i) h e = unseen-set seen i (omega arith) e
 
+-- at most all points are unseen
 pub unseen-length : (seen : List ℕ) → unseen seen ≤ length seen
 unseen-length [] = omega arith
 unseen-length (zero ∷ seen) = omega (arith, unseen-length seen)
@@ -44,11 +45,13 @@ none-at (suc n) (suc i) = none-at n i
 abbrev pub one-seen : ℕ → ℕ → List ℕ
 one-seen n at = set (replicate n 0) at 1
 
+-- no other point is
 only-seen : (n at p : ℕ) → 0 < getD (one-seen n at) p 0 → p ≡ at
 only-seen n at p h =
     let none : List ℕ = replicate n 0 in
     elim (same-or-not p at) [ inl e ↦ e | inr q ↦ absurd (omega (arith, getD-set-other none at p 1 0 q, none-at n p)) ]
 
+-- that one is
 first-seen : (n at : ℕ) → at < n → 0 < getD (one-seen n at) at 0
 first-seen n at h = let none : List ℕ = replicate n 0 in omega (arith, getD-set-same none at 1 0 (omega (arith, length-replicate {A = ℕ} n 0)))
 
@@ -93,6 +96,7 @@ down-more left at seen low p q =
     ap (sweptDown left (at - 1 - 26)) (q ∙ ap (λ (k : ℕ). spreadAt left k seen) number) ∙ ap (λ (k : ℕ). sweptDown left k seen) next ∙ p
 
 module _ (left : List ℕ) where
+  -- ways joined
   reach-on : {a b p : ℕ} → Reach left b a → Reach left a p → Reach left b p
   reach-on r here = r
   reach-on r (backward h s) = backward h (reach-on r s)
@@ -152,6 +156,7 @@ module _ (left : List ℕ) where
         from = λ p h. let u = t .from p h in let v = s .from (u .0) (u .1) in (v .0, v .1, reach-on (v .2) (u .2));
       }
 
+  -- where `Still` says less
   grown-so : {P Q : List ℕ → Type 0} {before after : List ℕ} → (P before → Q before) → Grown left P before after → Grown left Q before after
   grown-so h g = record { size = g .size; fewer = g .fewer; still = λ e. let t = g .still e in (t .0, h (t .1)); byte = g .byte; from = g .from }
 
@@ -179,6 +184,7 @@ module _ (left : List ℕ) where
         let below = up-grown n (omega arith) seen size in
         grown-so (λ t. calm-next n seen (t .0) (t .1)) (grown-join below (at-grown (26 + n) (omega arith) (sweptUp left n seen) (below .size ∙ size)))
 
+    -- the same downwards
     down-grown : (n : ℕ) → 26 + n ≤ 442 → (seen : List ℕ) → length seen ≡ 442 → Grown left (CalmTo left (26 + n)) seen (sweptDown left n seen)
     down-grown zero top seen size = grown-none seen (λ p l h. absurd (omega arith))
     down-grown (suc n) top seen size =
@@ -203,9 +209,11 @@ module _ (left : List ℕ) where
 
     -- a flood that ended holds whatever can be reached from a point that was seen
     module _ {before after : List ℕ} (t : Turned left end before after 0) (size : length after ≡ 442) where
+      -- a seen point lies in the list
       below : (q : ℕ) → 0 < getD after q 0 → q < 442
       below q h = omega (arith, seen-below after q h)
 
+      -- along an edge that is left the flood went on
       reach-seen : (a : ℕ) → 0 < getD after a 0 → (p : ℕ) → Reach left a p → 0 < getD after p 0
       reach-seen a start p here = start
       reach-seen a start p (backward {p = q} h r) = let s = reach-seen a start q r in let u = range .along q (below q s) h in t .calm refl q (u .0) (omega arith) .0 h .0 s
@@ -213,9 +221,11 @@ module _ (left : List ℕ) where
       reach-seen a start p (rightward {p = q} h r) = let s = reach-seen a start q r in let u = range .across q h in t .calm refl q (u .0) (omega arith) .1 h .0 s
       reach-seen a start p (leftward h r) = let s = reach-seen a start (p + 26) r in let u = range .across p h in t .calm refl p (u .0) (omega arith) .1 h .1 s
 
+      -- what was seen is seen
       kept-seen : (a : ℕ) → 0 < getD before a 0 → 0 < getD after a 0
       kept-seen a h = elim (t .grown .byte a) [ inl e ↦ omega arith | inr e ↦ omega (arith, e .1) ]
 
+      -- so it is what can be reached from where it started
       pub flooded : Flooded left before after
       flooded = record { size = t .grown .size; byte = t .grown .byte; reached = λ p. (t .grown .from p, λ w. reach-seen (w .0) (kept-seen (w .0) (w .1)) p (w .2)) }
 
@@ -243,10 +253,12 @@ module _ (left : List ℕ) where
         }
 
   module _ (seen : List ℕ) where
+    -- no point lies below 26
     pub all-seen-none : AllSeen left seen 26
     unfolding AllSeen
     all-seen-none p l h s = absurd (omega arith)
 
+    -- one point more
     pub all-seen-more : (n : ℕ) → AllSeen left seen n → (Starts left n → 0 < getD seen n 0) → AllSeen left seen (n + 1)
     unfolding AllSeen
     all-seen-more n a h p low high s =

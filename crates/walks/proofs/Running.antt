@@ -24,9 +24,11 @@ letter-read Front = refl
 letter-read Left = refl
 letter-read Right = refl
 
+-- no two steps have the same letter
 letter-same : (d e : Direction) → letterOf d ≡ letterOf e → d ≡ e
 letter-same d e h = sym (letter-read d) ∙ ap directionOf h ∙ letter-read e
 
+-- nor the same rank
 rank-letter : ℕ → ℕ
 rank-letter zero = 66
 rank-letter (suc zero) = 70
@@ -59,6 +61,7 @@ record Headed (d : Direction) (runs : List Run) : Type 0 where
   whole : runs ≡ head ∷ tail
   letter : head .direction ≡ d
 
+-- a step in front makes it so
 add-headed : (d : Direction) (runs : List Run) → Headed d (addStep d runs)
 add-headed d [] = record { head = record { direction = d; steps = 1 }; tail = []; whole = refl; letter = refl }
 add-headed d (r ∷ rs) = go (eqb (letterRank d) (letterRank (r .direction))) refl
@@ -111,9 +114,11 @@ module _ (letters : List ℕ) (n : ℕ) (fits : n ≤ length letters) where
       let size = length-take-le n letters fits in
       drop-cons (take n letters) i 0 (omega arith) ∙ rw (getD-take n letters i 0 h, add-one i)
 
+  -- none past the end
   pub rest-none : (i : ℕ) → n ≤ i → drop i (take n letters) ≡ []
   rest-none i h = let l : length (take n letters) ≤ i = omega (arith, length-take-le n letters fits) in drop-of-length-le (take n letters) l
 
+  -- at the start no run is made
   pub ran-none : (runs : List Run) → length runs ≡ 860 → Ran letters n runs 0 0 0
   ran-none runs s = record { within = omega arith; few = omega arith; short = omega arith; size = s; made = longer-none (letterRuns (take n letters)) }
 

@@ -29,6 +29,7 @@ spelt-more walk before after n d s h =
       number = omega (arith, s .number, length-append walk (d ∷ []));
     }
 
+-- the lent space keeps its length
 pub spelt-length : {walk : Walk} {before after : List ℕ} {n : ℕ} → Spelt walk before after n → n ≤ length before → length after ≡ length before
 spelt-length {walk} {before} {after} {n} s h = omega (arith, ap length (s .text), length-append (map letterOf walk) (drop n before), length-map walk letterOf, s .number, length-drop n before)
 
@@ -79,6 +80,7 @@ module _ (z : Layout) (left : List ℕ) (at : ℕ) where
     going-next d q h i j k l =
         rw (i, j, k, l) (going-on d q (getD left (slotBy d at) 0 - 1) (let p = letter-left z left at (g .walkable) d q in omega arith) h)
 
+    -- there is less left
     pub going-less : (d : Direction) → nextLetter z left at ≡ some d → {list : List ℕ} {slot : ℕ} → list ≡ left → slot ≡ slotBy d at
         → stepsOf z (leftOf z (set list slot (getD list slot 0 - 1))) < stepsOf z (leftOf z left)
     going-less d q i j =

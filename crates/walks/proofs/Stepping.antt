@@ -57,12 +57,14 @@ only-tread left at Right Front s p q = absurd (omega arith)
 only-tread left at Right Left s p q = absurd (omega arith)
 only-tread left at Right Right s p q = refl
 
+-- a tread of a letter is one of the point
 tread-at : (left : List ℕ) (at : ℕ) (d : Direction) → 0 < getD left (slotBy d at) 0 → 0 < treadsAt left at
 tread-at left at Back h = omega arith
 tread-at left at Front h = omega arith
 tread-at left at Left h = omega arith
 tread-at left at Right h = omega arith
 
+-- a tread of the point is one of some letter
 at-tread : (left : List ℕ) (at : ℕ) → 0 < treadsAt left at → (d : Direction) × (0 < getD left (slotBy d at) 0)
 at-tread left at h = go (none-or-some (getD left (slotBy Back at) 0)) (none-or-some (getD left (slotBy Front at) 0)) (none-or-some (getD left (slotBy Left at) 0))
   where
@@ -76,6 +78,7 @@ at-tread left at h = go (none-or-some (getD left (slotBy Back at) 0)) (none-or-s
     go (inl b) (inl f) (inl l) = (Right, omega arith)
 
 module _ (z : Layout) (left : List ℕ) (at : ℕ) (w : Walkable z left at) where
+  -- the bounds of the store
   wide : z .aisles ≤ 16
   wide = layout-bounds z (w .bounds) .0
 
@@ -92,6 +95,7 @@ module _ (z : Layout) (left : List ℕ) (at : ℕ) (w : Walkable z left at) wher
   pub at-range : (26 ≤ at) × (at < 26 * (z .aisles + 1)) × (at < 442)
   at-range = subst (λ (n : ℕ). (26 ≤ n) × (n < 26 * (z .aisles + 1)) × (n < 442)) (spot-at at) (spot-range z wide deep x inside)
 
+  -- the edges that are left lie in the store
   pub left-range : Ranged left (26 * (z .aisles + 1))
   left-range = charted-range z wide deep left (w .charted)
 
@@ -99,6 +103,7 @@ module _ (z : Layout) (left : List ℕ) (at : ℕ) (w : Walkable z left at) wher
     abbrev n : ℕ
     n = getD left (slotBy d at) 0
 
+    -- the place by the number of the point
     at-slot : getD left (slotBy d (spot x)) 0 ≡ n
     at-slot = ap (λ (k : ℕ). getD left (slotBy d k) 0) (spot-at at)
 
@@ -106,17 +111,21 @@ module _ (z : Layout) (left : List ℕ) (at : ℕ) (w : Walkable z left at) wher
     free : 0 < n → (canStep z x d ≡ true) × (0 < leftOf z left (stepEdge x d))
     free h = slot-free z wide deep x inside left (w .charted) d (omega (arith, at-slot))
 
+    -- the treads of the letter stand at its place
     left-slot : canStep z x d ≡ true → leftOf z left (stepEdge x d) ≡ n
     left-slot c = free-slot z wide deep x inside left (w .charted) d c ∙ at-slot
 
+    -- which is its edge's place
     edge-slot : canStep z x d ≡ true → slotOf z (stepEdge x d) ≡ slotBy d at
     edge-slot c = letter-slot z wide deep x inside d c ∙ ap (slotBy d) (spot-at at)
 
+    -- where the step ends
     pub next-point : 0 < n → pointAt (nextBy d at) ≡ stepTo x d
     next-point h =
         let c = free h .0 in
         ap pointAt (sym (letter-next z wide deep x inside d c ∙ ap (nextBy d) (spot-at at))) ∙ spot-point z wide deep (stepTo x d) (stepped z x inside d c .end)
 
+    -- its number is in range
     pub next-range : 0 < n → nextBy d at < 442
     next-range h =
         let c = free h .0 in
@@ -133,6 +142,7 @@ module _ (z : Layout) (left : List ℕ) (at : ℕ) (w : Walkable z left at) wher
       low : slotBy d at < length left
       low = seen-below left (slotBy d at) some-left
 
+      -- the edge has one tread less
       pub rest-left : leftOf z rest ≡ without (leftOf z left) (stepEdge x d)
       rest-left =
           let c = free some-left .0 in
@@ -140,6 +150,7 @@ module _ (z : Layout) (left : List ℕ) (at : ℕ) (w : Walkable z left at) wher
           ap (λ (i : ℕ). leftOf z (set left i v)) (sym s)
           ∙ left-without z wide deep left (stepEdge x d) v (stepped z x inside d c .edge) (omega (arith, low, s)) (e ∙ ap (λ (i : ℕ). getD left i 0) (sym s))
 
+      -- the list is still one of treads
       pub rest-charted : Charted z rest
       rest-charted = charted-fewer z left rest (w .charted) (length-set left (slotBy d at) v) fewer
         where
@@ -150,6 +161,7 @@ module _ (z : Layout) (left : List ℕ) (at : ℕ) (w : Walkable z left at) wher
                 | inr q ↦ omega (arith, getD-set-other left (slotBy d at) i v 0 q)
               ]
 
+      -- whose edges lie in the store
       pub rest-range : Ranged rest (26 * (z .aisles + 1))
       rest-range = charted-range z wide deep rest rest-charted
 
@@ -164,16 +176,19 @@ module _ (z : Layout) (left : List ℕ) (at : ℕ) (w : Walkable z left at) wher
             λ j. subst (AllReached rest) s (t .1 (subst (λ (f : Edge → ℕ). Joined z f (stepTo x d)) (sym rest-left) j)),
           )
 
+    -- the test of a letter by its place
     can-be : canBe z left at d ≡ (ltb 0 n && finds z (leftOf z left) x d)
     unfolding canBe
     can-be = ap (λ (t : Bool). t && finds z (leftOf z left) x d) (free-test z wide deep x inside left (w .charted) d ∙ ap (ltb 0) at-slot)
 
+    -- a letter whose remains are joined can be next
     can-be-joined : 0 < n → Joined z (without (leftOf z left) (stepEdge x d)) (stepTo x d) → canBe z left at d ≡ true
     unfolding TellsJoined
     can-be-joined h j =
         let t = free h in
         can-be ∙ ap₂ (λ (a b : Bool). a && b) (lt-ltb 0 n h) (finds-tells z (leftOf z left) x d (w .ready) (t .0) (t .1) .1 j)
 
+    -- and if it can be, they are
     joined-can-be : 0 < n → canBe z left at d ≡ true → Joined z (without (leftOf z left) (stepEdge x d)) (stepTo x d)
     unfolding TellsJoined
     joined-can-be h a =
@@ -211,11 +226,13 @@ module _ (z : Layout) (left : List ℕ) (at : ℕ) (w : Walkable z left at) wher
   unfolding nextLetter canBe
   letter-left d e = let t = chosen-ready z (leftOf z left) x (w .ready) d e in omega (arith, t .1, left-slot d (t .0))
 
+  -- one step less is left
   pub letter-steps : (d : Direction) (v : ℕ) (e : v + 1 ≡ getD left (slotBy d at) 0) → stepsOf z (leftOf z left) ≡ suc (stepsOf z (leftOf z (set left (slotBy d at) v)))
   letter-steps d v e =
       let t = free d (omega arith) in
       total-step z x inside d (t .0) (leftOf z left) (t .1) ∙ ap (λ (f : Edge → ℕ). suc (stepsOf z f)) (sym (rest-left d v e))
 
+  -- the letters go on behind it
   pub letter-taken : (d : Direction) → nextLetter z left at ≡ some d → (v : ℕ) (e : v + 1 ≡ getD left (slotBy d at) 0)
       → Walkable z (set left (slotBy d at) v) (nextBy d at) × (lettersLeft z left at ≡ d ∷ lettersLeft z (set left (slotBy d at) v) (nextBy d at))
   unfolding nextLetter canBe lettersLeft
