@@ -1,4 +1,4 @@
--- The plans of the test.
+-- The plans of the test, with TWICE and 22.
 use Prim.Native.Nat.{ℕ, _-_}
 use mathlib.Core.List.{List, [], _∷_, _++_}
 use lib.ListN.{length, replicate}

@@ -1,4 +1,4 @@
-// Two plans with TWICE and 22, whose walks the jobs of tests/ leave out: none has a best plan with TWICE, and few have one with 22.
+// Two plans with TWICE and 22: no sheet of tests/vectors or tests/cases has TWICE, and only two have 22.
 use rules::Action;
 use rules::Layout;
 use rules::Passage;
