@@ -23,6 +23,7 @@ use Rattle.closedwalks.proofs.Greedily.{ready-found, found-joined, ready-step, 
 use Rattle.closedwalks.proofs.Statements.{completed}
 use Rattle.walks.specs.Letters.{isSome, finds}
 
+-- a walk that was found
 some-found : (o : Option Walk) → isSome o ≡ true → (walk : Walk) × (o ≡ some walk)
 some-found none h = absurd (let bad : _≡_ {A = ℕ} 0 1 = cc in omega arith)
 some-found (some walk) h = (walk, refl)
@@ -60,15 +61,18 @@ module _ (z : Layout) where
         go [] l t = absurd (omega (arith, t (stepEdge x d) (stepped z x (r .point) d c .edge)))
         go (e ∷ walk) l t =
             let s = stepped z x (r .point) e (l .0) in
-            let same = only e (l .0) (omega (arith, t (stepEdge x e) (s .edge), one-refl (stepEdge x e))) in
-            let at : (f : Edge) → InStore z f → treadsFrom (stepTo x e) walk f ≡ without left (stepEdge x e) f = λ f i. omega (arith, t f i, taken left (stepEdge x e) f (omega (arith, t (stepEdge x e) (s .edge), one-refl (stepEdge x e)))) in
+            let some-left : 0 < left (stepEdge x e) = omega (arith, t (stepEdge x e) (s .edge), one-refl (stepEdge x e)) in
+            let same = only e (l .0) some-left in
+            let at : (f : Edge) → InStore z f → treadsFrom (stepTo x e) walk f ≡ without left (stepEdge x e) f = λ f i. omega (arith, t f i, taken left (stepEdge x e) f some-left) in
             subst (λ (k : Direction). Joined z (without left (stepEdge x k)) (stepTo x k)) same
             (joined-same z (treadsFrom (stepTo x e) walk) (without left (stepEdge x e)) (stepTo x e) (λ f i u. omega (arith, at f i)) (λ f i u. omega (arith, at f i))
             (walk-joined z (stepTo x e) walk (depotPoint z) (s .end) (l .1)))
 
+    -- the test of a letter
     abbrev pub Admitted : Direction → Bool
     Admitted d = admits z (finds z) left x d
 
+    -- the first that is admitted
     abbrev pub Chosen : Option Direction
     Chosen = firstLetter (Admitted Back) (Admitted Front) (Admitted Left) (Admitted Right)
 
@@ -81,6 +85,7 @@ module _ (z : Layout) where
         let h = ltb-true 0 (left (stepEdge x d)) (u .1) in
         (u .0, h, ready-step z left x r d (u .0) h (finds-tells left x d r (u .0) h .0 (t .1)))
 
+    -- so it is with the one that is chosen
     pub chosen-ready : (d : Direction) → Chosen ≡ some d → (canStep z x d ≡ true) × (0 < left (stepEdge x d)) × Ready z (without left (stepEdge x d)) (stepTo x d)
     chosen-ready d e = admitted-ready d (first-admitted Admitted d e)
 
@@ -96,5 +101,6 @@ module _ (z : Layout) where
             let f = first-fits z (suc n) left x [] (r .point) (found ∙ ap some stops) in
             absurd (omega (arith, f .steps))
 
+    -- the greedy walk goes on with it
     pub greedy-chosen : (n : ℕ) (d : Direction) → Chosen ≡ some d → greedy z (finds z) (suc n) left x ≡ d ∷ greedy z (finds z) n (without left (stepEdge x d)) (stepTo x d)
     greedy-chosen n d e = λ i. elim (e i) as (λ o. Walk) [ none ↦ [] | some k ↦ k ∷ greedy z (finds z) n (without left (stepEdge x k)) (stepTo x k) ]

@@ -27,6 +27,7 @@ use Rattle.walks.specs.Filling.{withAisle, withPassage, withBehind, stag
 use Rattle.walks.proofs.Flooding.{same-or-not, none-at}
 use Rattle.walks.proofs.Places.{slot-same, slot-range, left-in}
 
+-- the list keeps its length
 pub aisle-length : (action : Action) (aisle n : ℕ) (left : List ℕ) → length (withAisle action aisle n left) ≡ length left
 aisle-length action aisle zero left = refl
 aisle-length action aisle (suc k) left = length-set (withAisle action aisle k left) (26 * aisle + k) (aisleTreads action k) ∙ aisle-length action aisle k left
@@ -34,7 +35,7 @@ aisle-length action aisle (suc k) left = length-set (withAisle action aisle k le
 behind-length : (b : Bool) (cells : ℕ) (passage : Passage) (aisle : ℕ) (left : List ℕ) → length (withBehind b cells passage aisle left) ≡ length left
 unfolding withPassage
 behind-length true cells passage aisle left =
-    length-set (set left (442 + 26 * aisle) (frontTreads passage)) (443 + 26 * aisle + cells) (backTreads passage) ∙ length-set left (442 + 26 * aisle) (frontTreads passage)
+    length-set (set left (442 + 26 * aisle) (frontTreads passage)) (442 + 26 * aisle + cells + 1) (backTreads passage) ∙ length-set left (442 + 26 * aisle) (frontTreads passage)
 behind-length false cells passage aisle left = refl
 
 module _ (aisles cells : ℕ) (stages : List Stage) where
@@ -46,9 +47,9 @@ module _ (aisles cells : ℕ) (stages : List Stage) where
       behind-length (ltb (suc j) aisles) cells (stageAt stages j .passage) (suc j) row ∙ aisle-length (stageAt stages j .action) (suc j) (suc cells) before ∙ aisles-length j left
 
   -- one aisle more
-  pub aisles-more : (j : ℕ) (first left mid after : List ℕ) (b : Bool) → left ≡ withAisles aisles cells stages j first → mid ≡ withAisle (stageAt stages j .action) (j + 1) (suc cells) left
+  pub aisles-more : (j : ℕ) (first : List ℕ) {left mid after : List ℕ} {b : Bool} → left ≡ withAisles aisles cells stages j first → mid ≡ withAisle (stageAt stages j .action) (j + 1) (suc cells) left
       → after ≡ withBehind b cells (stageAt stages j .passage) (j + 1) mid → ltb (j + 1) aisles ≡ b → after ≡ withAisles aisles cells stages (j + 1) first
-  aisles-more j first left mid after b p q r s = go (j + 1) (add-one j) q r s
+  aisles-more j first {left} {mid} {after} {b} p q r s = go (j + 1) (add-one j) q r s
     where
       go : (k : ℕ) → k ≡ suc j → mid ≡ withAisle (stageAt stages j .action) k (suc cells) left → after ≡ withBehind b cells (stageAt stages j .passage) k mid → ltb k aisles ≡ b
           → after ≡ withAisles aisles cells stages k first
@@ -89,11 +90,11 @@ module _ (z : Layout) (wide : z .aisles ≤ 16) (deep : z .cells ≤ 24) (treads
   -- the next edge
   filled-next : {left : List ℕ} (e : Edge) (v : ℕ) → InStore z e → v ≡ treads e → Filled z treads (turn e) left → Filled z treads (suc (turn e)) (set left (slotOf z e) v)
   filled-next {left} e v i q f =
-      record {
-        charted = record { size = length-set left (slotOf z e) v ∙ f .charted .size; edge = λ k h. elim (same-or-not k (slotOf z e)) [ inl s ↦ (e, i, sym s) | inr s ↦ f .charted .edge k (omega (arith, getD-set-other left (slotOf z e) k v 0 s)) ] };
-        written = written;
-      }
+      record { charted = record { size = length-set left (slotOf z e) v ∙ f .charted .size; edge = edge }; written = written }
     where
+      edge : (k : ℕ) → 0 < getD (set left (slotOf z e) v) k 0 → (g : Edge) × InStore z g × (slotOf z g ≡ k)
+      edge k h = elim (same-or-not k (slotOf z e)) [ inl s ↦ (e, i, sym s) | inr s ↦ f .charted .edge k (omega (arith, getD-set-other left (slotOf z e) k v 0 s)) ]
+
       low : slotOf z e < length left
       low = omega (arith, f .charted .size, slot-range z wide deep e i)
 
@@ -111,16 +112,19 @@ module _ (z : Layout) (wide : z .aisles ≤ 16) (deep : z .cells ≤ 24) (treads
     filled-aisle (suc k) h f =
         filled-to (28 * aisle + suc k) (λ e i t. omega arith) (filled-next (along aisle k) (aisleTreads action k) (first, last, omega arith) (right k (omega arith)) (filled-aisle k (omega arith) f))
 
-  filled-behind : (b : Bool) (passage : Passage) (aisle : ℕ) {left : List ℕ} → 1 ≤ aisle → ltb aisle (z .aisles) ≡ b → (b ≡ true → (frontTreads passage ≡ treads (front aisle)) × (backTreads passage ≡ treads (back aisle)))
+  -- the edges behind an aisle, where there are any
+  filled-behind : (b : Bool) (passage : Passage) (aisle : ℕ) {left : List ℕ} → 1 ≤ aisle → ltb aisle (z .aisles) ≡ b
+      → (b ≡ true → (frontTreads passage ≡ treads (front aisle)) × (backTreads passage ≡ treads (back aisle)))
       → Filled z treads (28 * aisle + suc (z .cells)) left → Filled z treads (28 * suc aisle) (withBehind b (z .cells) passage aisle left)
   unfolding InStore withPassage
   filled-behind true passage aisle {left} first q t f =
       let last = ltb-true aisle (z .aisles) q in
       let r = t refl in
-      let slot : 443 + 26 * aisle + z .cells ≡ 442 + 26 * aisle + suc (z .cells) = omega arith in
+      let slot : 442 + 26 * aisle + z .cells + 1 ≡ 442 + 26 * aisle + suc (z .cells) = omega arith in
       let one = filled-next (front aisle) (frontTreads passage) (first, last) (r .0) (filled-to (28 * aisle + 26) gap f) in
       let two = filled-next (back aisle) (backTreads passage) (first, last) (r .1) (filled-to (28 * aisle + 27) (λ e i t. omega arith) one) in
-      filled-to (28 * suc aisle) (λ e i t. omega arith) (subst (λ (s : ℕ). Filled z treads (suc (28 * aisle + 27)) (set (set left (442 + 26 * aisle) (frontTreads passage)) s (backTreads passage))) (sym slot) two)
+      let first-set = set left (442 + 26 * aisle) (frontTreads passage) in
+      filled-to (28 * suc aisle) (λ e i t. omega arith) (subst (λ (s : ℕ). Filled z treads (suc (28 * aisle + 27)) (set first-set s (backTreads passage))) (sym slot) two)
     where
       gap : (e : Edge) → InStore z e → turn e < 28 * aisle + 26 → turn e < 28 * aisle + suc (z .cells)
       gap (along j k) i t = omega arith
@@ -145,6 +149,7 @@ abbrev pub plan-list : Layout → PlanValue → List ℕ
 plan-list z plan = withAisles (z .aisles) (z .cells) (plan .stages) (z .aisles) (replicate 884 0)
 
 module _ (z : Layout) (wide : z .aisles ≤ 16) (deep : z .cells ≤ 24) (plan : PlanValue) (same : plan .aisles ≡ z .aisles) where
+  -- the actions and passages of the plan are those of its stages
   stage-action : (j : ℕ) → j < z .aisles → actionAt (planOf plan) (suc j) ≡ stageAt (plan .stages) j .action
   unfolding planOf actionAt
   stage-action j h = nth-take (λ (s : Stage). s .action) (plan .aisles) j (plan .stages) (record { action = Void; passage = P00 }) (omega arith)
@@ -153,6 +158,7 @@ module _ (z : Layout) (wide : z .aisles ≤ 16) (deep : z .cells ≤ 24) (plan :
   unfolding planOf passageAt
   stage-passage j h = nth-take (λ (s : Stage). s .passage) (plan .aisles - 1) j (plan .stages) (record { action = Void; passage = P00 }) (omega arith)
 
+  -- the first n aisles
   filled-aisles : (n : ℕ) → n ≤ z .aisles → Filled z (multiplicity (planOf plan)) (28 * suc n) (withAisles (z .aisles) (z .cells) (plan .stages) n (replicate 884 0))
   unfolding multiplicity InStore
   filled-aisles zero h =
@@ -164,13 +170,17 @@ module _ (z : Layout) (wide : z .aisles ≤ 16) (deep : z .cells ≤ 24) (plan :
       before (back j) i t = omega arith
   filled-aisles (suc j) h =
       let stage = stageAt (plan .stages) j in
-      filled-behind z wide deep (multiplicity (planOf plan)) (ltb (suc j) (z .aisles)) (stage .passage) (suc j) (omega arith) refl
-      (λ b. let p = sym (stage-passage j (ltb-true (suc j) (z .aisles) b)) in (ap frontTreads p, ap backTreads p))
-      (filled-aisle z wide deep (multiplicity (planOf plan)) (stage .action) (suc j) (omega arith) h (λ k l. ap (λ (a : Action). aisleTreads a k) (sym (stage-action j h))) (suc (z .cells)) (omega arith) (filled-aisles j (omega arith)))
+      let treads = multiplicity (planOf plan) in
+      let right : (k : ℕ) → k ≤ z .cells → aisleTreads (stage .action) k ≡ treads (along (suc j) k) = λ k l. ap (λ (a : Action). aisleTreads a k) (sym (stage-action j h)) in
+      let row = filled-aisle z wide deep treads (stage .action) (suc j) (omega arith) h right (suc (z .cells)) (omega arith) (filled-aisles j (omega arith)) in
+      filled-behind z wide deep treads (ltb (suc j) (z .aisles)) (stage .passage) (suc j) (omega arith) refl
+      (λ b. let p = sym (stage-passage j (ltb-true (suc j) (z .aisles) b)) in (ap frontTreads p, ap backTreads p)) row
 
+  -- the list is one of treads
   pub plan-charted : Charted z (plan-list z plan)
   plan-charted = filled-aisles (z .aisles) (omega arith) .charted
 
+  -- which are those of the plan
   pub plan-treads : (e : Edge) → InStore z e → leftOf z (plan-list z plan) e ≡ multiplicity (planOf plan) e
   plan-treads e i = left-in z (plan-list z plan) e i ∙ filled-aisles (z .aisles) (omega arith) .written e i (before e i)
     where

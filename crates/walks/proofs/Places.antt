@@ -36,6 +36,7 @@ edge-kind z (along j k) = inl (refl, omega arith)
 edge-kind z (front j) = inr (omega arith, omega arith)
 edge-kind z (back j) = inr (omega arith, omega arith)
 
+-- the test says that an edge is one of the store
 pub in-store : (z : Layout) (e : Edge) → inStore z e ≡ true → InStore z e
 unfolding inStore InStore
 in-store z (along j k) h =
@@ -45,6 +46,7 @@ in-store z (along j k) h =
 in-store z (front j) h = let u = both-true (ltb 0 j) (ltb j (z .aisles)) h in (ltb-true 0 j (u .0), ltb-true j (z .aisles) (u .1))
 in-store z (back j) h = let u = both-true (ltb 0 j) (ltb j (z .aisles)) h in (ltb-true 0 j (u .0), ltb-true j (z .aisles) (u .1))
 
+-- and it holds of each of them
 pub store-in : (z : Layout) (e : Edge) → InStore z e → inStore z e ≡ true
 unfolding inStore InStore
 store-in z (along j k) h = rw (lt-ltb 0 j (h .0), le-leb j (z .aisles) (h .1), le-leb k (z .cells) (h .2))
@@ -56,10 +58,12 @@ pub left-in : (z : Layout) (left : List ℕ) (e : Edge) → InStore z e → left
 unfolding leftOf
 left-in z left e h = rw (store-in z e h)
 
+-- an edge of the store whose place has treads is trodden
 pub trodden-in : (z : Layout) (left : List ℕ) (e : Edge) → InStore z e → 0 < getD left (slotOf z e) 0 → Trodden z (leftOf z left) e
 unfolding Trodden
 trodden-in z left e i h = (i, omega (arith, left-in z left e i))
 
+-- and a trodden edge has them
 pub trodden-out : (z : Layout) (left : List ℕ) (e : Edge) → Trodden z (leftOf z left) e → InStore z e × (0 < getD left (slotOf z e) 0)
 unfolding Trodden
 trodden-out z left e t = (t .0, omega (arith, t .1, left-in z left e (t .0)))
@@ -86,19 +90,23 @@ module _ (z : Layout) (wide : z .aisles ≤ 16) (deep : z .cells ≤ 24) where
       let h : (26 * x .aisle + x .height) % 26 ≡ x .height = omega arith in
       λ i. record { aisle = a i; height = h i }
 
+  -- no two points have the same number
   pub spot-same : (x y : Point) → PointOf z x → PointOf z y → spot x ≡ spot y → x ≡ y
   spot-same x y p q e = sym (spot-point x p) ∙ ap pointAt e ∙ spot-point y q
 
+  -- where a point's number lies
   pub spot-range : (x : Point) → PointOf z x → (26 ≤ spot x) × (spot x < 26 * (z .aisles + 1)) × (spot x < 442)
   unfolding spot
   spot-range x p = let f = p .first in let l = p .last in let h = p .high in (omega arith, omega arith, omega arith)
 
+  -- the ends of an edge are points of the store
   pub start-point : (e : Edge) → InStore z e → PointOf z (startOf z e)
   unfolding InStore startOf backHeight
   start-point (along j k) h = record { first = h .0; last = h .1; high = omega arith }
   start-point (front j) h = record { first = h .0; last = omega arith; high = omega arith }
   start-point (back j) h = record { first = h .0; last = omega arith; high = omega arith }
 
+  -- its other end
   pub end-point : (e : Edge) → InStore z e → PointOf z (endOf z e)
   unfolding InStore endOf backHeight
   end-point (along j k) h = record { first = h .0; last = h .1; high = omega arith }
@@ -118,6 +126,7 @@ module _ (z : Layout) (wide : z .aisles ≤ 16) (deep : z .cells ≤ 24) where
   slot-same (back i) (front j) p q e = absurd (omega arith)
   slot-same (back i) (back j) p q e = let a : i ≡ j = omega arith in ap back a
 
+  -- where an edge's place lies
   pub slot-range : (e : Edge) → InStore z e → slotOf z e < 884
   unfolding InStore
   slot-range (along j k) h = omega arith
@@ -133,9 +142,13 @@ module _ (z : Layout) (wide : z .aisles ≤ 16) (deep : z .cells ≤ 24) where
       point : (f : Edge) → leftOf z (set left (slotOf z e) v) f ≡ leftOf z left f - one e f
       point f = go (inStore z f) refl (edge-split e f)
         where
-          go : (b : Bool) → inStore z f ≡ b → ((e ≡ f) × (one e f ≡ 1)) ⊎ ((one e f ≡ 0) × (e ≡ f → ⊥)) → cond b (getD (set left (slotOf z e) v) (slotOf z f) 0) 0 ≡ cond b (getD left (slotOf z f) 0) 0 - one e f
+          go : (b : Bool) → inStore z f ≡ b → ((e ≡ f) × (one e f ≡ 1)) ⊎ ((one e f ≡ 0) × (e ≡ f → ⊥))
+              → cond b (getD (set left (slotOf z e) v) (slotOf z f) 0) 0 ≡ cond b (getD left (slotOf z f) 0) 0 - one e f
           go false q s = omega arith
-          go true q (inl s) = omega (arith, getD-set-same left (slotOf z e) v 0 low, s .1, ap (λ (k : Edge). getD (set left (slotOf z e) v) (slotOf z k) 0) (s .0), ap (λ (k : Edge). getD left (slotOf z k) 0) (s .0))
+          go true q (inl s) =
+              let after = ap (λ (k : Edge). getD (set left (slotOf z e) v) (slotOf z k) 0) (s .0) in
+              let before = ap (λ (k : Edge). getD left (slotOf z k) 0) (s .0) in
+              omega (arith, getD-set-same left (slotOf z e) v 0 low, s .1)
           go true q (inr s) =
               omega (arith, s .0, getD-set-other left (slotOf z e) (slotOf z f) v 0 (λ t. s .1 (slot-same e f h (in-store z f q) (sym t))))
 
@@ -143,7 +156,12 @@ module _ (z : Layout) (wide : z .aisles ≤ 16) (deep : z .cells ≤ 24) where
   pub charted-range : (left : List ℕ) → Charted z left → Ranged left (26 * (z .aisles + 1))
   unfolding InStore
   charted-range left c =
-      record { size = c .size; top = omega arith; along = λ p low h. let t = c .edge p h in ups p (t .0) (t .1) (t .2) low; across = λ p h. let t = c .edge (442 + p) h in rights p (t .0) (t .1) (t .2) }
+      record {
+        size = c .size;
+        top = omega arith;
+        along = λ p low h. let t = c .edge p h in ups p (t .0) (t .1) (t .2) low;
+        across = λ p h. let t = c .edge (442 + p) h in rights p (t .0) (t .1) (t .2);
+      }
     where
       ups : (p : ℕ) (e : Edge) → InStore z e → slotOf z e ≡ p → p < 442 → (26 ≤ p) × (p + 1 < 26 * (z .aisles + 1))
       ups p (along j k) h e low = (omega arith, omega arith)
@@ -200,6 +218,7 @@ module _ (z : Layout) (wide : z .aisles ≤ 16) (deep : z .cells ≤ 24) where
       abbrev pub Free : Type 0
       Free = (canStep z x d ≡ true) × (0 < leftOf z left (stepEdge x d))
 
+      -- the treads of a letter stand at its place
       pub free-slot : canStep z x d ≡ true → leftOf z left (stepEdge x d) ≡ getD left (slotBy d (spot x)) 0
       free-slot s = left-in z left (stepEdge x d) (stepped z x p d s .edge) ∙ ap (λ (i : ℕ). getD left i 0) (letter-slot d s)
 
@@ -210,10 +229,12 @@ module _ (z : Layout) (wide : z .aisles ≤ 16) (deep : z .cells ≤ 24) where
           let s = slot-letter d (t .0) (t .1) (t .2) in
           (s, omega (arith, free-slot s))
 
+      -- so a letter is free exactly if its place has treads
       pub free-test : (canStep z x d && ltb 0 (leftOf z left (stepEdge x d))) ≡ ltb 0 (getD left (slotBy d (spot x)) 0)
       free-test = go (none-or-some (getD left (slotBy d (spot x)) 0)) (canStep z x d) refl
         where
-          go : ((getD left (slotBy d (spot x)) 0 ≡ 0) ⊎ (0 < getD left (slotBy d (spot x)) 0)) → (b : Bool) → canStep z x d ≡ b → (b && ltb 0 (leftOf z left (stepEdge x d))) ≡ ltb 0 (getD left (slotBy d (spot x)) 0)
+          go : ((getD left (slotBy d (spot x)) 0 ≡ 0) ⊎ (0 < getD left (slotBy d (spot x)) 0)) → (b : Bool) → canStep z x d ≡ b
+              → (b && ltb 0 (leftOf z left (stepEdge x d))) ≡ ltb 0 (getD left (slotBy d (spot x)) 0)
           go (inl n) false s = sym (le-ltb 0 (getD left (slotBy d (spot x)) 0) (omega arith))
           go (inl n) true s = ap (ltb 0) (free-slot s)
           go (inr h) false s = absurd (let bad : _≡_ {A = ℕ} 0 1 = cc (slot-free h .0) in omega arith)

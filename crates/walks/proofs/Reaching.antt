@@ -23,11 +23,13 @@ module _ (z : Layout) (wide : z .aisles ≤ 16) (deep : z .cells ≤ 24) (left :
     begins : spot (startOf z edge) ≡ p
     ends : spot (endOf z edge) ≡ q
 
+  -- a place that has treads is that of an edge
   charted-at : (i : ℕ) → 0 < getD left i 0 → (e : Edge) × Trodden z (leftOf z left) e × (slotOf z e ≡ i) × (spot (startOf z e) < 442)
   charted-at i h =
       let t = c .edge i h in
       (t .0, trodden-in z left (t .0) (t .1) (subst (λ (k : ℕ). 0 < getD left k 0) (sym (t .2)) h), t .2, spot-range z wide deep (startOf z (t .0)) (start-point z wide deep (t .0) (t .1)) .2)
 
+  -- an edge towards the back
   along-between : (p : ℕ) → p < 442 → 0 < getD left p 0 → Between p (p + 1)
   along-between p low h =
       let t = charted-at p h in
@@ -36,6 +38,7 @@ module _ (z : Layout) (wide : z .aisles ≤ 16) (deep : z .cells ≤ 24) (left :
         | inr k ↦ absurd (omega (arith, k .0, t .2))
       ]
 
+  -- an edge to the right
   across-between : (p : ℕ) → 0 < getD left (442 + p) 0 → Between p (p + 26)
   across-between p h =
       let t = charted-at (442 + p) h in
@@ -52,9 +55,11 @@ module _ (z : Layout) (wide : z .aisles ≤ 16) (deep : z .cells ≤ 24) (left :
       number : spot point ≡ p
       chain : Linked z (leftOf z left) x point
 
+    -- such a number is in range
     from-below : {p : ℕ} → From p → p < 442
     from-below f = omega (arith, f .number, spot-range z wide deep (f .point) (f .inside) .2)
 
+    -- along the edge
     forth : {p q : ℕ} → Between p q → From p → From q
     unfolding Trodden Joins
     forth b f =
@@ -62,6 +67,7 @@ module _ (z : Layout) (wide : z .aisles ≤ 16) (deep : z .cells ≤ 24) (left :
         let same = spot-same z wide deep (f .point) (startOf z e) (f .inside) (start-point z wide deep e (b .trodden .0)) (f .number ∙ sym (b .begins)) in
         record { point = endOf z e; inside = end-point z wide deep e (b .trodden .0); number = b .ends; chain = Lawful.step e (b .trodden) (inr (same, refl)) (f .chain) }
 
+    -- against it
     back-again : {p q : ℕ} → Between p q → From q → From p
     unfolding Trodden Joins
     back-again b f =
@@ -69,6 +75,7 @@ module _ (z : Layout) (wide : z .aisles ≤ 16) (deep : z .cells ≤ 24) (left :
         let same = spot-same z wide deep (f .point) (endOf z e) (f .inside) (end-point z wide deep e (b .trodden .0)) (f .number ∙ sym (b .ends)) in
         record { point = startOf z e; inside = start-point z wide deep e (b .trodden .0); number = b .begins; chain = Lawful.step e (b .trodden) (inl (refl, same)) (f .chain) }
 
+    -- what is reached by the numbers is linked
     reach-linked : PointOf z x → (p : ℕ) → Reach left (spot x) p → From p
     reach-linked i p here = record { point = x; inside = i; number = refl; chain = Lawful.here }
     reach-linked i p (backward {p = q} h r) = let f = reach-linked i q r in forth (along-between q (from-below f) h) f
@@ -77,7 +84,7 @@ module _ (z : Layout) (wide : z .aisles ≤ 16) (deep : z .cells ≤ 24) (left :
     reach-linked i p (leftward h r) = back-again (across-between p h) (reach-linked i (p + 26) r)
 
     -- the end of an edge that is left can be reached where its other end can
-    edge-reach : (e : Edge) → Trodden z (leftOf z left) e → (Reach left (spot x) (spot (startOf z e)) → Reach left (spot x) (spot (endOf z e))) × (Reach left (spot x) (spot (endOf z e)) → Reach left (spot x) (spot (startOf z e)))
+    edge-reach : (e : Edge) → Trodden z (leftOf z left) e → Reach left (spot x) (spot (startOf z e)) ↔ Reach left (spot x) (spot (endOf z e))
     edge-reach e t =
         let h = trodden-out z left e t .1 in
         elim (edge-kind z e) [
@@ -87,6 +94,7 @@ module _ (z : Layout) (wide : z .aisles ≤ 16) (deep : z .cells ≤ 24) (left :
               (λ r. subst (Reach left (spot x)) (sym (k .1)) (rightward u r), λ r. leftward u (subst (Reach left (spot x)) (k .1) r))
         ]
 
+    -- what is linked is reached by the numbers
     linked-reach : (y : Point) → Linked z (leftOf z left) x y → Reach left (spot x) (spot y)
     unfolding Joins
     linked-reach y Lawful.here = here

@@ -20,13 +20,16 @@ use Rattle.walks.proofs.Stepping.{letter-left, letter-steps, letter-tak
 spelt-more : (walk : Walk) (before after : List ℕ) (n : ℕ) (d : Direction) → Spelt walk before after n → n < length before → Spelt (walk ++ (d ∷ [])) before (set after n (letterOf d)) (n + 1)
 spelt-more walk before after n d s h =
     let old = map letterOf walk in
-    let text : after ≡ old ++ getD before n 0 ∷ drop (suc n) before = s .text ∙ ap (λ (l : List ℕ). old ++ l) (drop-cons before n 0 h) in
-    let stored : set after n (letterOf d) ≡ old ++ letterOf d ∷ drop (suc n) before = ap (λ (l : List ℕ). set l n (letterOf d)) text ∙ set-at old (getD before n 0) (drop (suc n) before) (letterOf d) n (length-map walk letterOf ∙ sym (s .number)) in
+    let rest = drop (suc n) before in
+    let text : after ≡ old ++ getD before n 0 ∷ rest = s .text ∙ ap (λ (l : List ℕ). old ++ l) (drop-cons before n 0 h) in
+    let size : length old ≡ n = length-map walk letterOf ∙ sym (s .number) in
+    let stored : set after n (letterOf d) ≡ old ++ letterOf d ∷ rest = ap (λ (l : List ℕ). set l n (letterOf d)) text ∙ set-at old (getD before n 0) rest (letterOf d) n size in
     record {
       text = stored ∙ rw (map-append letterOf walk (d ∷ []), append-assoc, add-one n);
       number = omega (arith, s .number, length-append walk (d ∷ []));
     }
 
+-- the lent space keeps its length
 pub spelt-length : {walk : Walk} {before after : List ℕ} {n : ℕ} → Spelt walk before after n → n ≤ length before → length after ≡ length before
 spelt-length {walk} {before} {after} {n} s h = omega (arith, ap length (s .text), length-append (map letterOf walk) (drop n before), length-map walk letterOf, s .number, length-drop n before)
 
@@ -71,14 +74,16 @@ module _ (z : Layout) (left : List ℕ) (at : ℕ) where
         omega (arith, spelt-length (g .spelt) (omega arith))
 
     -- the same by numbers that are known to be those
-    pub going-next : (d : Direction) → nextLetter z left at ≡ some d → 860 ≤ length before → (list : List ℕ) (slot next letter : ℕ) → list ≡ left → slot ≡ slotBy d at → next ≡ nextBy d at → letter ≡ letterOf d
+    pub going-next : (d : Direction) → nextLetter z left at ≡ some d → 860 ≤ length before → {list : List ℕ} {slot next letter : ℕ}
+        → list ≡ left → slot ≡ slotBy d at → next ≡ nextBy d at → letter ≡ letterOf d
         → Going z all (set list slot (getD list slot 0 - 1)) next before (set after n letter) (n + 1)
-    going-next d q h list slot next letter i j k l =
+    going-next d q h i j k l =
         rw (i, j, k, l) (going-on d q (getD left (slotBy d at) 0 - 1) (let p = letter-left z left at (g .walkable) d q in omega arith) h)
 
-    pub going-less : (d : Direction) → nextLetter z left at ≡ some d → (list : List ℕ) (slot : ℕ) → list ≡ left → slot ≡ slotBy d at
+    -- there is less left
+    pub going-less : (d : Direction) → nextLetter z left at ≡ some d → {list : List ℕ} {slot : ℕ} → list ≡ left → slot ≡ slotBy d at
         → stepsOf z (leftOf z (set list slot (getD list slot 0 - 1))) < stepsOf z (leftOf z left)
-    going-less d q list slot i j =
+    going-less d q i j =
         let p = letter-left z left at (g .walkable) d q in
         let s = letter-steps z left at (g .walkable) d (getD left (slotBy d at) 0 - 1) (omega arith) in
         rw (i, j) (omega arith)

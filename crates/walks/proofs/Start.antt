@@ -37,6 +37,7 @@ use Rattle.walks.proofs.Filled.{plan-list, plan-charted, plan-treads}
 
 -- treads that agree on the store's edges
 module _ (z : Layout) where
+  -- what is left can be walked alike
   ready-same : (f g : Edge → ℕ) (x : Point) → ((e : Edge) → InStore z e → f e ≡ g e) → Ready z f x → Ready z g x
   ready-same f g x h r =
       record {
@@ -63,14 +64,18 @@ module _ (z : Layout) where
           let e = h (stepEdge x d) (stepped z x p d c .edge) in
           tried-free z n f x d c s ∙ ap (stepThen d) (behind c) ∙ sym (tried-free z n g x d c (omega arith))
 
+  -- so the search finds the same
   first-same : (n : ℕ) (f g : Edge → ℕ) (x : Point) → PointOf z x → ((e : Edge) → InStore z e → f e ≡ g e) → firstFrom z n f x ≡ firstFrom z n g x
   unfolding without
   first-same zero f g x p h = refl
   first-same (suc n) f g x p h =
-      let letter : (d : Direction) → tried z n f x d ≡ tried z n g x d = λ d. letter-same n f g x d p h (λ c. first-same n (without f (stepEdge x d)) (without g (stepEdge x d)) (stepTo x d) (stepped z x p d c .end) (λ e i. omega (arith, h e i))) in
+      let behind : (d : Direction) → canStep z x d ≡ true → firstFrom z n (without f (stepEdge x d)) (stepTo x d) ≡ firstFrom z n (without g (stepEdge x d)) (stepTo x d) =
+      λ d c. first-same n (without f (stepEdge x d)) (without g (stepEdge x d)) (stepTo x d) (stepped z x p d c .end) (λ e i. omega (arith, h e i)) in
+      let letter : (d : Direction) → tried z n f x d ≡ tried z n g x d = λ d. letter-same n f g x d p h (behind d) in
       λ i. firstWay (letter Back i) (firstWay (letter Front i) (firstWay (letter Left i) (letter Right i)))
 
 module _ (z : Layout) (plan : PlanValue) (w : LawfulPlan z plan) where
+  -- the bounds of the store
   wide : z .aisles ≤ 16
   wide = layout-bounds z (w .bounds) .0
 
@@ -83,12 +88,15 @@ module _ (z : Layout) (plan : PlanValue) (w : LawfulPlan z plan) where
   high : z .depot ≤ z .aisles
   high = layout-bounds z (w .bounds) .3
 
+  -- the list has the plan's treads
   agrees : (e : Edge) → InStore z e → multiplicity (planOf plan) e ≡ leftOf z (plan-list z plan) e
   agrees e i = sym (plan-treads z wide deep plan (w .aisles) e i)
 
+  -- a lawful plan can be walked
   planned : Ready z (multiplicity (planOf plan)) (depotPoint z)
   planned = lawful-ready z (planOf plan) low high (w .well-formed) (w .lawful)
 
+  -- the depot's number
   depot-at : pointAt (26 * z .depot) ≡ depotPoint z
   unfolding spot depotPoint
   depot-at =
@@ -104,6 +112,7 @@ module _ (z : Layout) (plan : PlanValue) (w : LawfulPlan z plan) where
         ready = subst (λ (x : Point). Ready z (leftOf z (plan-list z plan)) x) (sym depot-at) (ready-same z (multiplicity (planOf plan)) (leftOf z (plan-list z plan)) (depotPoint z) agrees planned);
       }
 
+  -- there is room for its letters
   pub start-few : stepsOf z (leftOf z (plan-list z plan)) ≤ 860
   start-few = omega (arith, same-steps z (multiplicity (planOf plan)) (leftOf z (plan-list z plan)) agrees, few-treads z (planOf plan) (w .bounds))
 

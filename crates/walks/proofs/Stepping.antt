@@ -5,29 +5,30 @@ use mathlib.Core.Path.{_≡_, refl, sym, ap, ap₂, _∙_, subst}
 use mathlib.Core.Logic.{_⊎_, inl, inr, _↔_}
 use mathlib.Core.List.{List, [], _∷_}
 use mathlib.Core.Bool.{Bool, true, false, _&&_}
-use mathlib.Core.Option.{none, some}
+use mathlib.Core.Option.{some}
 use lib.Dec.{ltb}
-use lib.ListN.{length, getD, set, length-set}
-use lib.Seq.{getD-set-other}
+use lib.ListN.{length, getD, set, replicate, length-set, length-replicate}
+use lib.Seq.{getD-set-other, ext-getD}
 use borrow.Author.Tests.{lt-ltb, le-ltb}
 use Rattle.rules.specs.declared.Layout.{Layout}
 use Rattle.rules.specs.declared.Direction.{Direction}
 use Rattle.rules.specs.declared.Direction.the-variants.{Back, Front, Left, Right}
-use Rattle.rules.specs.Store.{Point, Edge}
-use Rattle.rules.specs.Walks.{canStep, stepTo, stepEdge}
+use Rattle.rules.specs.Store.{Point, Edge, InStore, depotPoint}
+use Rattle.rules.specs.Walks.{Walk, canStep, stepTo, stepEdge}
 use Rattle.rules.specs.FirstWalk.{without, stepsOf}
-use Rattle.closedwalks.specs.Ways.{PointOf, Joined}
+use Rattle.closedwalks.specs.Ways.{PointOf, Leads, treadsFrom, Joined}
 use Rattle.closedwalks.specs.Greedy.{firstLetter, greedy, Ready, TellsJoined}
 use Rattle.closedwalks.proofs.Splits.{none-or-some}
-use Rattle.closedwalks.proofs.Steps.{stepped}
+use Rattle.closedwalks.proofs.Steps.{one-refl, stepped}
 use Rattle.closedwalks.proofs.Parity.{total-step}
 use Rattle.closedwalks.proofs.Counts.{layout-bounds}
 use Rattle.closedwalks.proofs.Greedily.{spare-joined}
+use Rattle.closedwalks.proofs.Statements.{completed}
 use Rattle.walks.specs.Treads.{spot, pointAt, slotOf, leftOf, Charted}
 use Rattle.walks.specs.Flood.{AllReached, Ranged}
 use Rattle.walks.specs.Letters.{slotBy, nextBy, treadsAt, finds, Walkable, canBe, nextLetter, lettersLeft}
-use Rattle.walks.proofs.Flooding.{same-or-not, seen-below}
-use Rattle.walks.proofs.Places.{spot-at, spot-point, spot-range, left-without, charted-fewer, charted-range, letter-slot, letter-next, free-slot, slot-free, free-test}
+use Rattle.walks.proofs.Flooding.{same-or-not, seen-below, none-at}
+use Rattle.walks.proofs.Places.{spot-at, spot-point, spot-range, left-in, left-without, charted-fewer, charted-range, letter-slot, letter-next, free-slot, slot-free, free-test}
 use Rattle.walks.proofs.Reaching.{reached-joined}
 use Rattle.walks.proofs.Choice.{finds-tells, only-joined, chosen-ready, some-chosen, greedy-chosen}
 
@@ -56,12 +57,14 @@ only-tread left at Right Front s p q = absurd (omega arith)
 only-tread left at Right Left s p q = absurd (omega arith)
 only-tread left at Right Right s p q = refl
 
+-- a tread of a letter is one of the point
 tread-at : (left : List ℕ) (at : ℕ) (d : Direction) → 0 < getD left (slotBy d at) 0 → 0 < treadsAt left at
 tread-at left at Back h = omega arith
 tread-at left at Front h = omega arith
 tread-at left at Left h = omega arith
 tread-at left at Right h = omega arith
 
+-- a tread of the point is one of some letter
 at-tread : (left : List ℕ) (at : ℕ) → 0 < treadsAt left at → (d : Direction) × (0 < getD left (slotBy d at) 0)
 at-tread left at h = go (none-or-some (getD left (slotBy Back at) 0)) (none-or-some (getD left (slotBy Front at) 0)) (none-or-some (getD left (slotBy Left at) 0))
   where
@@ -75,6 +78,7 @@ at-tread left at h = go (none-or-some (getD left (slotBy Back at) 0)) (none-or-s
     go (inl b) (inl f) (inl l) = (Right, omega arith)
 
 module _ (z : Layout) (left : List ℕ) (at : ℕ) (w : Walkable z left at) where
+  -- the bounds of the store
   wide : z .aisles ≤ 16
   wide = layout-bounds z (w .bounds) .0
 
@@ -91,6 +95,7 @@ module _ (z : Layout) (left : List ℕ) (at : ℕ) (w : Walkable z left at) wher
   pub at-range : (26 ≤ at) × (at < 26 * (z .aisles + 1)) × (at < 442)
   at-range = subst (λ (n : ℕ). (26 ≤ n) × (n < 26 * (z .aisles + 1)) × (n < 442)) (spot-at at) (spot-range z wide deep x inside)
 
+  -- the edges that are left lie in the store
   pub left-range : Ranged left (26 * (z .aisles + 1))
   left-range = charted-range z wide deep left (w .charted)
 
@@ -98,6 +103,7 @@ module _ (z : Layout) (left : List ℕ) (at : ℕ) (w : Walkable z left at) wher
     abbrev n : ℕ
     n = getD left (slotBy d at) 0
 
+    -- the place by the number of the point
     at-slot : getD left (slotBy d (spot x)) 0 ≡ n
     at-slot = ap (λ (k : ℕ). getD left (slotBy d k) 0) (spot-at at)
 
@@ -105,17 +111,21 @@ module _ (z : Layout) (left : List ℕ) (at : ℕ) (w : Walkable z left at) wher
     free : 0 < n → (canStep z x d ≡ true) × (0 < leftOf z left (stepEdge x d))
     free h = slot-free z wide deep x inside left (w .charted) d (omega (arith, at-slot))
 
+    -- the treads of the letter stand at its place
     left-slot : canStep z x d ≡ true → leftOf z left (stepEdge x d) ≡ n
     left-slot c = free-slot z wide deep x inside left (w .charted) d c ∙ at-slot
 
+    -- which is its edge's place
     edge-slot : canStep z x d ≡ true → slotOf z (stepEdge x d) ≡ slotBy d at
     edge-slot c = letter-slot z wide deep x inside d c ∙ ap (slotBy d) (spot-at at)
 
+    -- where the step ends
     pub next-point : 0 < n → pointAt (nextBy d at) ≡ stepTo x d
     next-point h =
         let c = free h .0 in
         ap pointAt (sym (letter-next z wide deep x inside d c ∙ ap (nextBy d) (spot-at at))) ∙ spot-point z wide deep (stepTo x d) (stepped z x inside d c .end)
 
+    -- its number is in range
     pub next-range : 0 < n → nextBy d at < 442
     next-range h =
         let c = free h .0 in
@@ -132,6 +142,7 @@ module _ (z : Layout) (left : List ℕ) (at : ℕ) (w : Walkable z left at) wher
       low : slotBy d at < length left
       low = seen-below left (slotBy d at) some-left
 
+      -- the edge has one tread less
       pub rest-left : leftOf z rest ≡ without (leftOf z left) (stepEdge x d)
       rest-left =
           let c = free some-left .0 in
@@ -139,6 +150,7 @@ module _ (z : Layout) (left : List ℕ) (at : ℕ) (w : Walkable z left at) wher
           ap (λ (i : ℕ). leftOf z (set left i v)) (sym s)
           ∙ left-without z wide deep left (stepEdge x d) v (stepped z x inside d c .edge) (omega (arith, low, s)) (e ∙ ap (λ (i : ℕ). getD left i 0) (sym s))
 
+      -- the list is still one of treads
       pub rest-charted : Charted z rest
       rest-charted = charted-fewer z left rest (w .charted) (length-set left (slotBy d at) v) fewer
         where
@@ -149,6 +161,7 @@ module _ (z : Layout) (left : List ℕ) (at : ℕ) (w : Walkable z left at) wher
                 | inr q ↦ omega (arith, getD-set-other left (slotBy d at) i v 0 q)
               ]
 
+      -- whose edges lie in the store
       pub rest-range : Ranged rest (26 * (z .aisles + 1))
       rest-range = charted-range z wide deep rest rest-charted
 
@@ -163,16 +176,19 @@ module _ (z : Layout) (left : List ℕ) (at : ℕ) (w : Walkable z left at) wher
             λ j. subst (AllReached rest) s (t .1 (subst (λ (f : Edge → ℕ). Joined z f (stepTo x d)) (sym rest-left) j)),
           )
 
+    -- the test of a letter by its place
     can-be : canBe z left at d ≡ (ltb 0 n && finds z (leftOf z left) x d)
     unfolding canBe
     can-be = ap (λ (t : Bool). t && finds z (leftOf z left) x d) (free-test z wide deep x inside left (w .charted) d ∙ ap (ltb 0) at-slot)
 
+    -- a letter whose remains are joined can be next
     can-be-joined : 0 < n → Joined z (without (leftOf z left) (stepEdge x d)) (stepTo x d) → canBe z left at d ≡ true
     unfolding TellsJoined
     can-be-joined h j =
         let t = free h in
         can-be ∙ ap₂ (λ (a b : Bool). a && b) (lt-ltb 0 n h) (finds-tells z (leftOf z left) x d (w .ready) (t .0) (t .1) .1 j)
 
+    -- and if it can be, they are
     joined-can-be : 0 < n → canBe z left at d ≡ true → Joined z (without (leftOf z left) (stepEdge x d)) (stepTo x d)
     unfolding TellsJoined
     joined-can-be h a =
@@ -194,7 +210,9 @@ module _ (z : Layout) (left : List ℕ) (at : ℕ) (w : Walkable z left at) wher
     pub letter-alone : 0 < n → treadsAt left at ≡ 1 → true ≡ canBe z left at d
     letter-alone h s =
         let t = free h in
-        sym (can-be-joined h (only-joined z (leftOf z left) x (w .ready) d (t .0) (t .1) (λ e c p. only-tread left at d e s h (omega (arith, free-slot z wide deep x inside left (w .charted) e c, ap (λ (k : ℕ). getD left (slotBy e k) 0) (spot-at at))))))
+        let other : (e : Direction) → canStep z x e ≡ true → leftOf z left (stepEdge x e) ≡ getD left (slotBy e at) 0 =
+        λ e c. free-slot z wide deep x inside left (w .charted) e c ∙ ap (λ (k : ℕ). getD left (slotBy e k) 0) (spot-at at) in
+        sym (can-be-joined h (only-joined z (leftOf z left) x (w .ready) d (t .0) (t .1) (λ e c p. only-tread left at d e s h (omega (arith, other e c)))))
 
     -- for the last tread of an edge the flood decides
     pub letter-last : n ≡ 1 → (r : Bool) → (r ≡ true) ↔ AllReached (set left (slotBy d at) 0) (nextBy d at) → r ≡ canBe z left at d
@@ -208,19 +226,22 @@ module _ (z : Layout) (left : List ℕ) (at : ℕ) (w : Walkable z left at) wher
   unfolding nextLetter canBe
   letter-left d e = let t = chosen-ready z (leftOf z left) x (w .ready) d e in omega (arith, t .1, left-slot d (t .0))
 
+  -- one step less is left
   pub letter-steps : (d : Direction) (v : ℕ) (e : v + 1 ≡ getD left (slotBy d at) 0) → stepsOf z (leftOf z left) ≡ suc (stepsOf z (leftOf z (set left (slotBy d at) v)))
   letter-steps d v e =
       let t = free d (omega arith) in
       total-step z x inside d (t .0) (leftOf z left) (t .1) ∙ ap (λ (f : Edge → ℕ). suc (stepsOf z f)) (sym (rest-left d v e))
 
+  -- the letters go on behind it
   pub letter-taken : (d : Direction) → nextLetter z left at ≡ some d → (v : ℕ) (e : v + 1 ≡ getD left (slotBy d at) 0)
       → Walkable z (set left (slotBy d at) v) (nextBy d at) × (lettersLeft z left at ≡ d ∷ lettersLeft z (set left (slotBy d at) v) (nextBy d at))
   unfolding nextLetter canBe lettersLeft
   letter-taken d q v e =
       let t = chosen-ready z (leftOf z left) x (w .ready) d q in
       let here = next-point d (omega arith) in
-      let after = rest-left d v e in (
-        record { bounds = w .bounds; charted = rest-charted d v e; ready = subst (λ (y : Point). Ready z (leftOf z (set left (slotBy d at) v)) y) (sym here) (subst (λ (f : Edge → ℕ). Ready z f (stepTo x d)) (sym after) (t .2)) },
+      let after = rest-left d v e in
+      let ready = subst (λ (f : Edge → ℕ). Ready z f (stepTo x d)) (sym after) (t .2) in (
+        record { bounds = w .bounds; charted = rest-charted d v e; ready = subst (λ (y : Point). Ready z (leftOf z (set left (slotBy d at) v)) y) (sym here) ready },
         ap (λ (k : ℕ). greedy z (finds z) k (leftOf z left) x) (letter-steps d v e)
             ∙ greedy-chosen z (leftOf z left) x (w .ready) (stepsOf z (leftOf z (set left (slotBy d at) v))) d q
             ∙ ap₂ (λ (f : Edge → ℕ) (y : Point). d ∷ greedy z (finds z) (stepsOf z (leftOf z (set left (slotBy d at) v))) f y) (sym after) (sym here),
@@ -231,7 +252,9 @@ module _ (z : Layout) (left : List ℕ) (at : ℕ) (w : Walkable z left at) wher
   unfolding nextLetter canBe
   some-letter h =
       let t = at-tread left at h in
-      some-chosen z (leftOf z left) x (w .ready) (stepsOf z (leftOf z (set left (slotBy (t .0) at) (getD left (slotBy (t .0) at) 0 - 1)))) (letter-steps (t .0) (getD left (slotBy (t .0) at) 0 - 1) (let p = t .1 in omega arith))
+      let d = t .0 in
+      let v = getD left (slotBy d at) 0 - 1 in
+      some-chosen z (leftOf z left) x (w .ready) (stepsOf z (leftOf z (set left (slotBy d at) v))) (letter-steps d v (let p = t .1 in omega arith))
 
   -- where none is left, the walk is over
   pub no-letter : treadsAt left at ≡ 0 → lettersLeft z left at ≡ []
@@ -244,6 +267,24 @@ module _ (z : Layout) (left : List ℕ) (at : ℕ) (w : Walkable z left at) wher
           let t = some-chosen z (leftOf z left) x (w .ready) k q in
           let u = chosen-ready z (leftOf z left) x (w .ready) (t .0) (t .1) in
           absurd (omega (arith, tread-at left at (t .0) (omega (arith, u .1, left-slot (t .0) (u .0)))))
+
+  -- and nothing is left anywhere
+  pub none-left : treadsAt left at ≡ 0 → left ≡ replicate 884 0
+  none-left e = ext-getD 0 left (replicate 884 0) (w .charted .size ∙ sym (length-replicate {A = ℕ} 884 0)) (λ i l. nothing i (none-or-some (getD left i 0)) ∙ sym (none-at 884 i))
+    where
+      -- the walk that treads all that is left has no first step
+      used : (walk : Walk) → Leads z x walk (depotPoint z) → ((f : Edge) → InStore z f → treadsFrom x walk f ≡ leftOf z left f) → (f : Edge) → InStore z f → leftOf z left f ≡ 0
+      used [] l t f i = sym (t f i)
+      used (d ∷ walk) l t f i =
+          let s = t (stepEdge x d) (stepped z x inside d (l .0) .edge) in
+          absurd (omega (arith, tread-at left at d (omega (arith, s, one-refl (stepEdge x d), left-slot d (l .0)))))
+
+      nothing : (i : ℕ) → ((getD left i 0 ≡ 0) ⊎ (0 < getD left i 0)) → getD left i 0 ≡ 0
+      nothing i (inl q) = q
+      nothing i (inr h) =
+          let t = w .charted .edge i h in
+          let v = completed z (leftOf z left) x (depotPoint z) inside (w .ready .balanced) (w .ready .joined) in
+          ap (λ (k : ℕ). getD left k 0) (sym (t .2)) ∙ sym (left-in z left (t .0) (t .1)) ∙ used (v .0) (v .1) (v .2) (t .0) (t .1)
 
   -- the first letter that can be next is the next letter
   module _ (back : Bool) (at-back : back ≡ canBe z left at Back) where

@@ -18,7 +18,7 @@ withAisle action aisle (suc k) left = set (withAisle action aisle k left) (26 * 
 
 -- the two edges behind an aisle
 unfoldable pub withPassage : ℕ → Passage → ℕ → List ℕ → List ℕ
-withPassage cells passage aisle left = set (set left (442 + 26 * aisle) (frontTreads passage)) (443 + 26 * aisle + cells) (backTreads passage)
+withPassage cells passage aisle left = set (set left (442 + 26 * aisle) (frontTreads passage)) (442 + 26 * aisle + cells + 1) (backTreads passage)
 
 -- a passage behind each aisle but the last
 abbrev pub withBehind : Bool → ℕ → Passage → ℕ → List ℕ → List ℕ

@@ -1,9 +1,11 @@
 -- What the flood fill finds, by the numbers of points and edges: the edges of point p are at p (towards the back) and at 442 + p (to the right).
 use Prim.Native.Nat.{ℕ, zero, suc, _+_, _≤_, _<_}
 use mathlib.Core.Path.{_≡_}
-use mathlib.Core.Logic.{_⊎_}
+use mathlib.Core.Logic.{_⊎_, _↔_}
 use mathlib.Core.List.{List, [], _∷_}
-use lib.ListN.{length, getD}
+use mathlib.Core.Bool.{cond}
+use lib.Dec.{eqb}
+use lib.ListN.{length, getD, set}
 
 -- how many points are not seen yet
 abbrev pub unseen : List ℕ → ℕ
@@ -34,40 +36,37 @@ pub record Ranged (left : List ℕ) (end : ℕ) : Type 0 where
   pub along : (p : ℕ) → p < 442 → 0 < getD left p 0 → (26 ≤ p) × (p + 1 < end)
   pub across : (p : ℕ) → 0 < getD left (442 + p) 0 → (26 ≤ p) × (p + 26 < end)
 
--- both points are seen, or neither is
-abbrev pub Alike : List ℕ → ℕ → ℕ → Type 0
-Alike seen a b = (0 < getD seen a 0 → 0 < getD seen b 0) × (0 < getD seen b 0 → 0 < getD seen a 0)
+-- an edge with n treads left joins two points: where one is seen, the other is too
+unfoldable pub spreadEdge : ℕ → ℕ → ℕ → List ℕ → List ℕ
+spreadEdge n a b seen =
+    cond (eqb n 0) seen
+    (cond (eqb (getD seen a 0) 0)
+    (cond (eqb (getD seen b 0) 0) seen (set seen a 1))
+    (cond (eqb (getD seen b 0) 0) (set seen b 1) seen))
 
--- no edge of the point that is left leads from a seen point to one that is not
-abbrev pub Calm : List ℕ → List ℕ → ℕ → Type 0
-Calm left seen p = (0 < getD left p 0 → Alike seen p (p + 1)) × (0 < getD left (442 + p) 0 → Alike seen p (p + 26))
+-- the edges towards the back and to the right of a point
+unfoldable pub spreadAt : List ℕ → ℕ → List ℕ → List ℕ
+spreadAt left p seen = spreadEdge (getD left (442 + p) 0) p (p + 26) (spreadEdge (getD left p 0) p (p + 1) seen)
 
--- only what can be reached from a is seen
-abbrev pub Within : List ℕ → ℕ → List ℕ → Type 0
-Within left a seen = (p : ℕ) → 0 < getD seen p 0 → Reach left a p
+-- n points from 26 on, upwards
+abbrev pub sweptUp : List ℕ → ℕ → List ℕ → List ℕ
+sweptUp left zero seen = seen
+sweptUp left (suc n) seen = spreadAt left (26 + n) (sweptUp left n seen)
 
--- what one edge with n treads between a and b does to the seen points
-pub record Spread (n a b : ℕ) (before after : List ℕ) (news : ℕ) : Type 0 where
+-- the same points downwards
+abbrev pub sweptDown : List ℕ → ℕ → List ℕ → List ℕ
+sweptDown left zero seen = seen
+sweptDown left (suc n) seen = sweptDown left n (spreadAt left (26 + n) seen)
+
+-- a point can be reached from one that is seen
+abbrev pub FromSeen : List ℕ → List ℕ → ℕ → Type 0
+FromSeen left seen p = (a : ℕ) × (0 < getD seen a 0) × Reach left a p
+
+-- the whole flood: seen is now what can be reached from where it was, newly seen points as 1
+pub record Flooded (left before after : List ℕ) : Type 0 where
   pub size : length after ≡ length before
-  pub fewer : unseen after + news ≡ unseen before
-  pub still : news ≡ 0 → (after ≡ before) × (0 < n → Alike before a b)
-  pub keeps : (p : ℕ) → 0 < getD before p 0 → 0 < getD after p 0
-  pub new : (p : ℕ) → 0 < getD after p 0 → (0 < getD before p 0) ⊎ ((0 < n) × (((p ≡ a) × (0 < getD before b 0)) ⊎ ((p ≡ b) × (0 < getD before a 0))))
-
--- what the edges of the points from low up to high do to the seen points
-pub record Swept (left : List ℕ) (low high : ℕ) (before after : List ℕ) (news : ℕ) : Type 0 where
-  pub size : length after ≡ length before
-  pub fewer : unseen after + news ≡ unseen before
-  pub still : news ≡ 0 → (after ≡ before) × ((p : ℕ) → low ≤ p → p < high → Calm left before p)
-  pub keeps : (p : ℕ) → 0 < getD before p 0 → 0 < getD after p 0
-  pub within : (a : ℕ) → Within left a before → Within left a after
-
--- what the whole flood does: it ends where nothing is new
-pub record Flooded (left : List ℕ) (end : ℕ) (before after : List ℕ) : Type 0 where
-  pub size : length after ≡ length before
-  pub calm : (p : ℕ) → 26 ≤ p → p < end → Calm left after p
-  pub keeps : (p : ℕ) → 0 < getD before p 0 → 0 < getD after p 0
-  pub within : (a : ℕ) → Within left a before → Within left a after
+  pub byte : (p : ℕ) → (getD after p 0 ≡ getD before p 0) ⊎ ((getD before p 0 ≡ 0) × (getD after p 0 ≡ 1))
+  pub reached : (p : ℕ) → (0 < getD after p 0) ↔ FromSeen left before p
 
 -- the points from 26 up to high at which something is left are seen
 unfoldable pub AllSeen : List ℕ → List ℕ → ℕ → Type 0

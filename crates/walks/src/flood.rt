@@ -1,15 +1,19 @@
-// What can be reached along edges that are left: a flood fill over the points.
+// What can be reached along edges that are left: a flood fill over the points. `left` has the treads left of each edge, `seen` a number
+// for each point, 0 where it is not seen. The points lie below `end`, where the last aisle's numbers end.
+use crate::numbers::HEIGHTS;
+use crate::numbers::POINTS;
 ghost use mathlib.Core.Path.{_≡_};
 ghost use mathlib.Core.Bool.{true};
 ghost use mathlib.Core.Logic.{_↔_};
-ghost use Prim.Native.Nat.{_≤_, _<_, suc};
+ghost use Prim.Native.Nat.{_+_, _-_, _≤_, _<_};
 ghost use lib.ListN.{length};
-ghost use Rattle.walks.specs.Flood.{AllReached, Ranged, Spread, Swept, Flooded, AllSeen};
+ghost use Rattle.walks.specs.Flood.{unseen, AllReached, Ranged, spreadEdge, spreadAt, sweptUp, sweptDown, Flooded, AllSeen};
 
 // Two points that an edge joins, of which n treads are left: where one is seen, the other is too. The number of points seen newly.
 pub fn spread_edge(n: u8, a: usize, b: usize, seen: &mut [u8]) -> usize
     requires { ⌜ (0 < n → (a < length (now seen)) × (b < length (now seen))) ⌝ }
-    ensures { λ r. ⌜ Spread n a b (now (seen .entry)) (now (seen .exit)) r ⌝ }
+    ensures { λ _. ⌜ now (seen .exit) ≡ spreadEdge n a b (now (seen .entry)) ⌝ }
+    ensures { λ r. ⌜ unseen (now (seen .exit)) + r ≡ unseen (now (seen .entry)) ⌝ }
 {
     if n == 0 {
         return 0;
@@ -28,23 +32,25 @@ pub fn spread_edge(n: u8, a: usize, b: usize, seen: &mut [u8]) -> usize
     0
 }
 
-// The edges towards the back and to the right of one point.
+// The edges towards the back and to the right of one point. The number of points seen newly, as for a sweep.
 pub fn spread(left: &[u8], at: usize, seen: &mut [u8]) -> usize
     requires { ⌜ (at < 442) × Ranged (now left) 442 × (length (now seen) ≡ 442) ⌝ }
-    ensures { λ r. ⌜ Swept (now (left .entry)) at (suc at) (now (seen .entry)) (now (seen .exit)) r ⌝ }
+    ensures { λ _. ⌜ now (seen .exit) ≡ spreadAt (now (left .entry)) at (now (seen .entry)) ⌝ }
+    ensures { λ r. ⌜ unseen (now (seen .exit)) + r ≡ unseen (now (seen .entry)) ⌝ }
 {
     let along = spread_edge(left[at], at, at + 1, seen);
-    let across = spread_edge(left[442 + at], at, at + 26, seen);
+    let across = spread_edge(left[POINTS + at], at, at + HEIGHTS, seen);
     along + across
 }
 
-// Point by point upwards.
+// Sweeps the points upwards.
 pub fn sweep_up(left: &[u8], end: usize, seen: &mut [u8]) -> usize
     requires { ⌜ Ranged (now left) end × (length (now seen) ≡ 442) ⌝ }
-    ensures { λ r. ⌜ Swept (now (left .entry)) 26 end (now (seen .entry)) (now (seen .exit)) r ⌝ }
+    ensures { λ _. ⌜ now (seen .exit) ≡ sweptUp (now (left .entry)) (end - 26) (now (seen .entry)) ⌝ }
+    ensures { λ r. ⌜ unseen (now (seen .exit)) + r ≡ unseen (now (seen .entry)) ⌝ }
 {
     let mut news = 0;
-    let mut at = 26;
+    let mut at = HEIGHTS;
     while at < end {
         news += spread(left, at, seen);
         at += 1;
@@ -52,14 +58,15 @@ pub fn sweep_up(left: &[u8], end: usize, seen: &mut [u8]) -> usize
     news
 }
 
-// Point by point downwards.
+// Sweeps the points downwards.
 pub fn sweep_down(left: &[u8], end: usize, seen: &mut [u8]) -> usize
     requires { ⌜ Ranged (now left) end × (length (now seen) ≡ 442) ⌝ }
-    ensures { λ r. ⌜ Swept (now (left .entry)) 26 end (now (seen .entry)) (now (seen .exit)) r ⌝ }
+    ensures { λ _. ⌜ now (seen .exit) ≡ sweptDown (now (left .entry)) (end - 26) (now (seen .entry)) ⌝ }
+    ensures { λ r. ⌜ unseen (now (seen .exit)) + r ≡ unseen (now (seen .entry)) ⌝ }
 {
     let mut news = 0;
     let mut at = end;
-    while 26 < at {
+    while HEIGHTS < at {
         at -= 1;
         news += spread(left, at, seen);
     }
@@ -69,9 +76,10 @@ pub fn sweep_down(left: &[u8], end: usize, seen: &mut [u8]) -> usize
 // Sweeps up and down until nothing is new.
 pub fn flood(left: &[u8], end: usize, seen: &mut [u8])
     requires { ⌜ Ranged (now left) end × (length (now seen) ≡ 442) ⌝ }
-    ensures { λ _. ⌜ Flooded (now (left .entry)) end (now (seen .entry)) (now (seen .exit)) ⌝ }
+    ensures { λ _. ⌜ Flooded (now (left .entry)) (now (seen .entry)) (now (seen .exit)) ⌝ }
 {
-    let mut news = 442;
+    // Not 0, so that there is a first turn.
+    let mut news = POINTS;
     while 0 < news {
         let up = sweep_up(left, end, seen);
         let down = sweep_down(left, end, seen);
@@ -84,13 +92,13 @@ pub fn all_seen(left: &[u8], end: usize, seen: &[u8]) -> bool
     requires { ⌜ (length (now left) ≡ 884) × (length (now seen) ≡ 442) × (end ≤ 442) ⌝ }
     ensures { λ r. ⌜ (r ≡ true) ↔ AllSeen (now (left .entry)) (now (seen .entry)) end ⌝ }
 {
-    let mut at = 26;
+    let mut at = HEIGHTS;
     while at < end {
         if seen[at] == 0 {
             if 0 < left[at] {
                 return false;
             }
-            if 0 < left[442 + at] {
+            if 0 < left[POINTS + at] {
                 return false;
             }
         }
@@ -104,7 +112,7 @@ pub fn reaches(left: &[u8], at: usize, end: usize) -> bool
     requires { ⌜ (at < 442) × Ranged (now left) end ⌝ }
     ensures { λ r. ⌜ (r ≡ true) ↔ AllReached (now (left .entry)) at ⌝ }
 {
-    let mut seen = [0u8; 442];
+    let mut seen = [0u8; POINTS];
     seen[at] = 1;
     flood(left, end, &mut seen);
     all_seen(left, end, &seen)

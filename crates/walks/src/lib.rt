@@ -1,9 +1,12 @@
 // The walk of a plan: of all closed walks that tread each edge exactly as the plan says, the one whose letters come first.
 mod flood;
 mod letters;
+mod numbers;
 mod runs;
 mod treads;
 
+use crate::numbers::EDGES;
+use crate::numbers::STEPS;
 use rules::Layout;
 use values::PlanValue;
 use values::RunList;
@@ -17,12 +20,12 @@ ghost use Rattle.walks.specs.Letters.{Spelt};
 ghost use Rattle.walks.specs.Lawfully.{LawfulPlan};
 
 // The letters of the walk, into a lent space, and their number.
-pub fn walk_letters(layout: Layout, plan: PlanValue, letters: &mut [u8]) -> usize
+fn walk_letters(layout: Layout, plan: PlanValue, letters: &mut [u8]) -> usize
     requires { ⌜ LawfulPlan layout plan × (860 ≤ length (now letters)) ⌝ }
     ensures { λ r. ⌜ Spelt (firstWalk layout (planOf plan)) (now (letters .entry)) (now (letters .exit)) r ⌝ }
     ensures { λ r. ⌜ r ≤ 860 ⌝ }
 {
-    let mut left = [0u8; 884];
+    let mut left = [0u8; EDGES];
     treads::fill(layout, plan, &mut left);
     letters::follow(layout, &mut left, letters)
 }
@@ -33,7 +36,7 @@ pub fn walk_runs(layout: Layout, plan: PlanValue) -> RunList
     ensures { λ r. ⌜ runsOfValue r ≡ runsOf (firstWalk layout (planOf plan)) ⌝ }
     ensures { λ r. ⌜ r .count ≤ 860 ⌝ }
 {
-    let mut letters = [0u8; 860];
+    let mut letters = [0u8; STEPS];
     let count = walk_letters(layout, plan, &mut letters);
     runs::runs_of(&letters, count)
 }

@@ -1,15 +1,13 @@
 // Equal letters run together.
+use crate::numbers::STEPS;
 use rules::Direction;
 use rules::Run;
 use values::RunList;
 ghost use mathlib.Core.Path.{_≡_};
-ghost use mathlib.Core.List.{map};
 ghost use Prim.Native.Nat.{_≤_};
-ghost use lib.ListN.{length, take};
-ghost use Rattle.rules.specs.Walks.{Walk};
-ghost use Rattle.rules.specs.Sheet.{letterOf, runsOf};
+ghost use lib.ListN.{length, take, drop};
 ghost use Rattle.values.specs.Values.{runsOfValue};
-ghost use Rattle.walks.specs.Runs.{directionOf, runEnds};
+ghost use Rattle.walks.specs.Runs.{directionOf, runEnds, letterRuns};
 
 // The step of a letter.
 pub fn direction_of(letter: u8) -> Direction
@@ -27,10 +25,10 @@ pub fn direction_of(letter: u8) -> Direction
     Direction::Right
 }
 
-// Whether another letter follows, or none.
+// Whether a letter's run ends: of the first n another follows at this place, or none.
 pub fn run_ends(letters: &[u8], n: usize, at: usize, letter: u8) -> bool
     requires { ⌜ n ≤ length (now letters) ⌝ }
-    ensures { λ r. ⌜ r ≡ runEnds (now (letters .entry)) n at letter ⌝ }
+    ensures { λ r. ⌜ r ≡ runEnds letter (drop at (take n (now (letters .entry)))) ⌝ }
 {
     if n <= at {
         return true;
@@ -41,13 +39,13 @@ pub fn run_ends(letters: &[u8], n: usize, at: usize, letter: u8) -> bool
 // The runs of the first n letters.
 pub fn runs_of(letters: &[u8], n: usize) -> RunList
     requires { ⌜ (n ≤ 860) × (n ≤ length (now letters)) ⌝ }
-    ensures { λ r. ⌜ ((walk : Walk) → take n (now (letters .entry)) ≡ map letterOf walk → runsOfValue r ≡ runsOf walk) ⌝ }
+    ensures { λ r. ⌜ runsOfValue r ≡ letterRuns (take n (now (letters .entry))) ⌝ }
     ensures { λ r. ⌜ r .count ≤ 860 ⌝ }
 {
     let mut runs = [Run {
         direction: Direction::Back,
         steps: 0,
-    }; 860];
+    }; STEPS];
     let mut count = 0;
     let mut steps = 0;
     let mut at = 0;

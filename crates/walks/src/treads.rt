@@ -1,4 +1,6 @@
 // The treads of a plan, one number for each edge.
+use crate::numbers::HEIGHTS;
+use crate::numbers::POINTS;
 use rules::Action;
 use rules::Layout;
 use rules::Passage;
@@ -54,25 +56,26 @@ pub fn back_treads(passage: Passage) -> u8
     }
 }
 
-// The treads of one aisle.
+// The treads of one aisle: its edges start at the heights 0 to `cells`.
 pub fn fill_aisle(cells: usize, action: Action, aisle: usize, left: &mut [u8])
     requires { ⌜ (cells ≤ 24) × (aisle ≤ 16) × (length (now left) ≡ 884) ⌝ }
     ensures { λ _. ⌜ now (left .exit) ≡ withAisle action aisle (suc cells) (now (left .entry)) ⌝ }
 {
     let mut k = 0;
     while k <= cells {
-        left[26 * aisle + k] = aisle_treads(action, k);
+        left[HEIGHTS * aisle + k] = aisle_treads(action, k);
         k += 1;
     }
 }
 
-// The treads behind one aisle.
+// The treads behind one aisle: to the right of its front crossing, at height 0, and of its back crossing, at height cells + 1.
 pub fn fill_passage(cells: usize, passage: Passage, aisle: usize, left: &mut [u8])
     requires { ⌜ (cells ≤ 24) × (aisle ≤ 16) × (length (now left) ≡ 884) ⌝ }
     ensures { λ _. ⌜ now (left .exit) ≡ withPassage cells passage aisle (now (left .entry)) ⌝ }
 {
-    left[442 + 26 * aisle] = front_treads(passage);
-    left[443 + 26 * aisle + cells] = back_treads(passage);
+    let front = POINTS + HEIGHTS * aisle;
+    left[front] = front_treads(passage);
+    left[front + cells + 1] = back_treads(passage);
 }
 
 // The treads of a plan.

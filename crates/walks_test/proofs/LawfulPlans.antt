@@ -1,25 +1,25 @@
--- Each plan of the table is lawful: the machine closes it off, which is computed.
-use Prim.Native.Nat.{ℕ, zero, suc, _<_}
+-- Each plan of the test is lawful: the machine closes it off, which is computed.
+use Prim.Native.Nat.{ℕ, zero, suc}
 use native.Mathlib.Omega.{arith}
-use mathlib.Core.Path.{_≡_, refl, sym, subst}
-use mathlib.Core.Logic.{inl, inr}
+use mathlib.Core.Path.{_≡_, refl}
 use mathlib.Core.List.{List, [], _∷_}
 use mathlib.Core.Bool.{Bool, true, false, _&&_}
 use lib.Dec.{leb, ltb, eqb}
 use lib.ListN.{length}
 use borrow.Author.Tests.{leb-true, ltb-true, eqb-true}
-use Rattle.closedwalks.proofs.Splits.{equal-or-below}
+use Rattle.rules.specs.declared.Layout.{Layout}
 use Rattle.rules.specs.declared.Action.{Action}
 use Rattle.rules.specs.declared.Action.the-variants.{Void, Bottom, Top, Gap, Once, Twice}
 use Rattle.rules.specs.Lists.{allOf, nth}
 use Rattle.rules.specs.Store.{within, layoutInBounds}
-use Rattle.rules.specs.Plans.{Fits, WellFormed, actionAt, passageAt}
+use Rattle.rules.specs.Plans.{Plan, Fits, WellFormed, actionAt, passageAt}
 use Rattle.rules.specs.Machine.{State, nothing, closed, atFront, atBack, odd, joined, split, ending, dead}
+use Rattle.values.specs.declared.PlanValue.{PlanValue}
 use Rattle.values.specs.Values.{planOf}
 use Rattle.tours.specs.Prefixes.{lawfulState}
 use Rattle.tours.proofs.Exact.{closed-lawful}
 use Rattle.walks.specs.Lawfully.{LawfulPlan}
-use Rattle.walks_test.specs.Plans.{table, actionBy, passageBy, stageFrom, layoutAt, planAt}
+use Rattle.walks_test.specs.Plans.{storeOf, mixed, six}
 
 both : (a b : Bool) → (a && b) ≡ true → (a ≡ true) × (b ≡ true)
 both true b h = (refl, h)
@@ -72,47 +72,46 @@ all-fit cells [] h (suc j) = tt
 all-fit cells (a ∷ actions) h (suc zero) = fits-in cells a (both (fitsIn cells a) (allOf (fitsIn cells) actions) h .0)
 all-fit cells (a ∷ actions) h (suc (suc j)) = all-fit cells actions (both (fitsIn cells a) (allOf (fitsIn cells) actions) h .1) (suc j)
 
--- what is computed of a plan: the bounds and the depot, how many actions and passages it has, that they fit, and the machine's end
-abbrev inside : ℕ → Bool
-inside i = layoutInBounds (layoutAt i) && ltb 0 (layoutAt i .depot)
+module _ (z : Layout) (value : PlanValue) where
+  abbrev plan : Plan
+  plan = planOf value
 
-abbrev counted : ℕ → Bool
-counted i = eqb (length (planOf (planAt i) .actions)) (layoutAt i .aisles) && eqb (suc (length (planOf (planAt i) .passages))) (layoutAt i .aisles)
+  -- what is computed of a plan: the bounds and the depot, how many actions and passages it has, that they fit, and the machine's end
+  abbrev inside : Bool
+  inside = layoutInBounds z && ltb 0 (z .depot) && eqb (value .aisles) (z .aisles)
 
-abbrev fitting : ℕ → Bool
-fitting i = allOf (fitsIn (layoutAt i .cells)) (planOf (planAt i) .actions)
+  abbrev counted : Bool
+  counted = eqb (length (plan .actions)) (z .aisles) && eqb (suc (length (plan .passages))) (z .aisles)
 
-abbrev ends : ℕ → Bool
-ends i = isClosed (lawfulState (layoutAt i .depot) (planOf (planAt i)) (layoutAt i .aisles))
+  abbrev ends : Bool
+  ends = isClosed (lawfulState (z .depot) plan (z .aisles))
 
-right : ℕ → Bool
-right i = inside i && counted i && fitting i && ends i
+  abbrev right : Bool
+  right = inside && counted && allOf (fitsIn (z .cells)) (plan .actions) && ends
 
-allTo : ℕ → Bool
-allTo zero = true
-allTo (suc n) = allTo n && right n
+  lawful-plan : right ≡ true → LawfulPlan z value
+  unfolding actionAt
+  lawful-plan h =
+      let e = both (inside && counted && allOf (fitsIn (z .cells)) (plan .actions)) ends h in
+      let f = both (inside && counted) (allOf (fitsIn (z .cells)) (plan .actions)) (e .0) in
+      let s = both inside counted (f .0) in
+      let d = both (layoutInBounds z && ltb 0 (z .depot)) (eqb (value .aisles) (z .aisles)) (s .0) in
+      let b = both (layoutInBounds z) (ltb 0 (z .depot)) (d .0) in
+      let n = both (eqb (length (plan .actions)) (z .aisles)) (eqb (suc (length (plan .passages))) (z .aisles)) (s .1) in
+      let aisles = eqb-true (length (plan .actions)) (z .aisles) (n .0) in
+      let passages = eqb-true (suc (length (plan .passages))) (z .aisles) (n .1) in
+      let formed : WellFormed z plan = record { aisles = aisles; passages = passages; fits = all-fit (z .cells) (plan .actions) (f .1) } in
+      record {
+        bounds = b .0;
+        aisles = eqb-true (value .aisles) (z .aisles) (d .1);
+        well-formed = formed;
+        lawful = closed-lawful formed (ltb-true 0 (z .depot) (b .1)) (is-closed (lawfulState (z .depot) plan (z .aisles)) (e .1));
+      }
 
-all-right : allTo 36 ≡ true
-unfolding allTo right table actionBy passageBy stageFrom layoutAt planAt planOf layoutInBounds actionAt passageAt within
-all-right = refl
+pub mixed-lawful : LawfulPlan (storeOf 4 5 2) mixed
+unfolding planOf layoutInBounds within actionAt passageAt
+mixed-lawful = lawful-plan (storeOf 4 5 2) mixed refl
 
-right-at : (n i : ℕ) → allTo n ≡ true → i < n → right i ≡ true
-unfolding allTo
-right-at zero i h l = absurd (omega arith)
-right-at (suc n) i h l =
-    let t = both (allTo n) (right n) h in
-    elim (equal-or-below i n (omega arith)) [ inl e ↦ subst (λ (k : ℕ). right k ≡ true) (sym e) (t .1) | inr g ↦ right-at n i (t .0) g ]
-
--- the walk of each plan can be asked for
-pub table-lawful : (i : ℕ) → i < 36 → LawfulPlan (layoutAt i) (planAt i)
-unfolding right layoutAt planAt actionAt
-table-lawful i l =
-    let z = layoutAt i in
-    let plan = planOf (planAt i) in
-    let e = both (inside i && counted i && fitting i) (ends i) (right-at 36 i all-right l) in
-    let f = both (inside i && counted i) (fitting i) (e .0) in
-    let s = both (inside i) (counted i) (f .0) in
-    let d = both (layoutInBounds z) (ltb 0 (z .depot)) (s .0) in
-    let n = both (eqb (length (plan .actions)) (z .aisles)) (eqb (suc (length (plan .passages))) (z .aisles)) (s .1) in
-    let formed : WellFormed z plan = record { aisles = eqb-true (length (plan .actions)) (z .aisles) (n .0); passages = eqb-true (suc (length (plan .passages))) (z .aisles) (n .1); fits = all-fit (z .cells) (plan .actions) (f .1) } in
-    record { bounds = d .0; aisles = refl; well-formed = formed; lawful = closed-lawful formed (ltb-true 0 (z .depot) (d .1)) (is-closed (lawfulState (z .depot) plan (z .aisles)) (e .1)) }
+pub six-lawful : LawfulPlan (storeOf 6 4 6) six
+unfolding planOf layoutInBounds within actionAt passageAt
+six-lawful = lawful-plan (storeOf 6 4 6) six refl

@@ -1,10 +1,13 @@
-// Prints the walk of each plan in tests/walks/plans.txt; the file stdout is made by tests/walks/first_walk.py.
+// Prints the walks of two plans. The file stdout has those that a search through all walks, in the order of the alphabet, finds first.
 mod plans;
 
 use libc::STDOUT_FILENO;
 use rules::Direction;
+use rules::Layout;
+use values::PlanValue;
 use values::RunList;
-ghost use Prim.Native.Nat.{_≤_, _<_};
+ghost use Prim.Native.Nat.{_≤_};
+ghost use Rattle.walks.specs.Lawfully.{LawfulPlan};
 
 fn print_letter(d: Direction) {
     let letter = match d {
@@ -40,18 +43,13 @@ fn print_runs(list: RunList)
     }
 }
 
-fn print_walk(i: usize)
-    requires { ⌜ i < 36 ⌝ }
+fn print_walk(layout: Layout, plan: PlanValue)
+    requires { ⌜ LawfulPlan layout plan ⌝ }
 {
-    let layout = plans::layout_of(i);
-    let plan = plans::plan_of(i);
     print_runs(walks::walk_runs(layout, plan));
 }
 
 fn main() {
-    let mut i = 0;
-    while i < 36 {
-        print_walk(i);
-        i += 1;
-    }
+    print_walk(plans::store(4, 5, 2), plans::mixed());
+    print_walk(plans::store(6, 4, 6), plans::six());
 }

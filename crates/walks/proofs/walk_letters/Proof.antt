@@ -51,7 +51,7 @@ returns c =
     let c₀ = f .before .before .before in
     let x = c₀ .args in
     let walk = ap (λ (l : List ℕ). lettersLeft (x .layout) l (26 * x .layout .depot)) (filled f) ∙ start-letters (x .layout) (x .plan) (c₀ .pre .0) in
-    let s = subst (λ (v : Walk). Spelt v (now (x .letters)) (g .follow .last .1 .1 .0) (g .follow .result)) walk (g .follow .ensures) in
+    let s = subst (λ (v : Walk). Spelt v (now (x .letters)) (g .follow .last .1 .1 .0) (g .follow .result)) walk (g .follow .ensures .0) in
     (s, omega (arith, s .number, walk-short (x .layout) (x .plan) (c₀ .pre .0)))
 
 pub walk-letters-spec : {M : Type 1} → statement M

@@ -1,8 +1,11 @@
 -- `walks::walk_runs` meets its contract: the letters are written, and read back as runs.
+use mathlib.Core.Path.{ap, _∙_}
 use borrow.Author.Needs.{needs}
 use Rattle.rules.specs.FirstWalk.{firstWalk}
 use Rattle.values.specs.Values.{planOf}
+use Rattle.walks.specs.Runs.{letterRuns}
 use Rattle.walks.proofs.Spelling.{spelt-take}
+use Rattle.walks.proofs.Running.{letter-runs}
 use Rattle.walks.proofs.walk_runs.Statement.{statement}
 use Rattle.walks.proofs.walk_runs.Tie as tie
 
@@ -22,7 +25,7 @@ returns : tie.Need-returns
 returns c =
     let w = c .before .before .before in
     let x = w .before .before .args in
-    (c .runs-of .ensures .0 (firstWalk (x .layout) (planOf (x .plan))) (spelt-take (w .walk-letters .ensures .0)), c .runs-of .ensures .1)
+    (c .runs-of .ensures .0 ∙ ap letterRuns (spelt-take (w .walk-letters .ensures .0)) ∙ letter-runs (firstWalk (x .layout) (planOf (x .plan))), c .runs-of .ensures .1)
 
 pub walk-runs-spec : {M : Type 1} → statement M
 walk-runs-spec = tie.close (tie.spec slice-aggregate-walk-letters walk-letters-requires slice-aggregate-runs-of runs-of-requires returns)

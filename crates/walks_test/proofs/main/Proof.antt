@@ -1,34 +1,38 @@
--- `walks_test::main` ends.
-use Prim.Native.Nat.{_-_, _≤_}
+-- `walks_test::main` meets its contract: each plan is lawful in its store.
 use borrow.Author.Needs.{needs}
+use Rattle.walks_test.proofs.LawfulPlans.{mixed-lawful, six-lawful}
 use Rattle.walks_test.proofs.main.Statement.{statement}
 use Rattle.walks_test.proofs.main.Tie as tie
 
-abbrev Inv-loop : tie.InvT-loop
-Inv-loop i₀ i = i ≤ 36
+store-requires : tie.Need-store-requires
+store-requires c κs = search needs
 
-abbrev μ-loop : tie.MeasureT-loop
-μ-loop i₀ i = 36 - i
+mixed-requires : tie.Need-mixed-requires
+mixed-requires c κs = search needs
 
-loop-holds : tie.Need-loop-holds Inv-loop μ-loop
-loop-holds c = search needs
+print-walk-requires : tie.Need-print-walk-requires
+print-walk-requires c κs = rw (c .before .store .ensures, c .mixed .ensures) mixed-lawful
 
-print-walk-requires : tie.Need-print-walk-requires Inv-loop μ-loop
-print-walk-requires c κs = search needs
+store-requires-2 : tie.Need-store-requires-2
+store-requires-2 c κs = search needs
 
-add-i : tie.Need-add-i Inv-loop μ-loop
-add-i c = search needs
+six-requires : tie.Need-six-requires
+six-requires c κs = search needs
 
-loop-less : tie.Need-loop-less Inv-loop μ-loop
-loop-less c = search needs
+print-walk-requires-2 : tie.Need-print-walk-requires-2
+print-walk-requires-2 c κs = rw (c .before .store2 .ensures, c .six .ensures) six-lawful
 
-loop-again : tie.Need-loop-again Inv-loop μ-loop
-loop-again c = search needs
-
-returns : tie.Need-returns Inv-loop μ-loop
+returns : tie.Need-returns
 returns c = search needs
 
 pub main-spec : {M : Type 1} → statement M
 main-spec =
     tie.close
-    (tie.spec Inv-loop μ-loop loop-holds print-walk-requires add-i loop-less loop-again returns)
+    (tie.spec
+    store-requires
+    mixed-requires
+    print-walk-requires
+    store-requires-2
+    six-requires
+    print-walk-requires-2
+    returns)

@@ -26,9 +26,10 @@ shared-slice-read-if2 c = omega (arith, c .before .before .before .before .befor
 
 returns : tie.Need-returns Inv-loop μ-loop
 returns c =
-    let at = c .before .before .before .before .before in
+    let in-loop = c .before .before .before .before in
+    let at = in-loop .before in
     let x = at .before .args in
-    all-seen-false (now (x .left)) (now (x .seen)) (at .loop .at) (x .end) (at .loop .inv .0) (c .before .before .before .before .loop-test .taken) (c .before .before .if1 .taken) (inl (c .if2 .taken))
+    all-seen-false (now (x .left)) (now (x .seen)) (at .loop .at) (x .end) (at .loop .inv .0) (in-loop .loop-test .taken) (c .before .before .if1 .taken) (inl (c .if2 .taken))
 
 add-if3 : tie.Need-add-if3 Inv-loop μ-loop
 add-if3 c = omega (arith, c .before .before .before .before .before .before .pre, c .before .before .before .before .loop-test .taken)
@@ -38,9 +39,11 @@ shared-slice-read-if3 c = omega (arith, c .before .before .before .before .befor
 
 returns-2 : tie.Need-returns-2 Inv-loop μ-loop
 returns-2 c =
-    let at = c .before .before .before .before .before .before .before in
+    let unseen-here = c .before .before .before .before in
+    let in-loop = unseen-here .before .before in
+    let at = in-loop .before in
     let x = at .before .args in
-    all-seen-false (now (x .left)) (now (x .seen)) (at .loop .at) (x .end) (at .loop .inv .0) (c .before .before .before .before .before .before .loop-test .taken) (c .before .before .before .before .if1 .taken) (inr (c .if3 .taken))
+    all-seen-false (now (x .left)) (now (x .seen)) (at .loop .at) (x .end) (at .loop .inv .0) (in-loop .loop-test .taken) (unseen-here .if1 .taken) (inr (c .if3 .taken))
 
 add-at : tie.Need-add-at Inv-loop μ-loop
 add-at c = omega (arith, c .before .before .before .before .pre)

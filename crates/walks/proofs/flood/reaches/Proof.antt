@@ -1,10 +1,7 @@
 -- `walks::flood::reaches` meets its contract: the flood starts from the one point, and all that is left starts where it came.
-use native.Mathlib.Omega.{arith}
-use mathlib.Core.Path.{sym, subst}
 use denote.Ref.{now}
 use borrow.Author.Needs.{needs}
-use Rattle.walks.specs.Flood.{Reach, here}
-use Rattle.walks.proofs.Flooding.{one-seen, one-seen-size, only-seen, first-seen, seen-reached}
+use Rattle.walks.proofs.Flooding.{seen-reached}
 use Rattle.walks.proofs.flood.reaches.Statement.{statement}
 use Rattle.walks.proofs.flood.reaches.Tie as tie
 
@@ -26,11 +23,8 @@ all-seen-requires c κs = search needs
 returns : tie.Need-returns
 returns c =
     let c₀ = c .before .before .before .before .before .before in
-    let left = now (c₀ .args .left) in
-    let at = c₀ .args .at in
-    let f = c .before .before .before .flood in
-    let t = seen-reached left (c₀ .args .end) at (one-seen 442 at) (f .last .1 .1 .0) (c₀ .pre .1) (f .ensures) (omega (arith, f .ensures .size, one-seen-size 442 at))
-    (first-seen 442 at (c₀ .pre .0)) (λ p h. subst (Reach left at) (sym (only-seen 442 at p h)) here) in
+    let x = c₀ .args in
+    let t = seen-reached (now (x .left)) (x .end) (c₀ .pre .1) (x .at) (c₀ .pre .0) (c .before .before .before .flood .ensures) in
     let r = c .all-seen .ensures in
     (λ e. t .0 (r .0 e), λ a. r .1 (t .1 a))
 

@@ -1,8 +1,12 @@
 -- `walks::flood::spread` meets its contract: the two edges of the point, one after the other.
+use Prim.Native.Nat.{_+_}
 use native.Mathlib.Omega.{arith}
+use mathlib.Core.Path.{ap, _∙_}
+use lib.ListN.{getD}
 use denote.Ref.{now}
 use borrow.Author.Needs.{needs}
-use Rattle.walks.proofs.Flooding.{unseen-length, spread-both}
+use Rattle.walks.specs.Flood.{spreadEdge, spreadAt}
+use Rattle.walks.proofs.Flooding.{unseen-length}
 use Rattle.walks.proofs.flood.spread.Statement.{statement}
 use Rattle.walks.proofs.flood.spread.Tie as tie
 
@@ -31,24 +35,26 @@ spread-edge-requires-2 : tie.Need-spread-edge-requires-2
 spread-edge-requires-2 c κs h =
     let c₀ = c .before .before .before .before .before .before .before .before .before in
     let t = c₀ .pre .1 .across (c₀ .args .at) h in
-    let s = c .before .before .before .before .spread-edge .ensures .size in
+    let s = c .before .before .before .before .spread-edge .kept .1 .1 .1 .0 in
     (omega (arith, c₀ .pre .2), omega (arith, c₀ .pre .2))
 
 returns : tie.Need-returns
+unfolding spreadAt
 returns c =
     let c₀ = c .before .before .before .before .before .before .before .before .before .before .before .before in
+    let x = c₀ .args in
     let s = c .before .before .before .before .before .before .before .spread-edge in
     let t = c .before .before .spread-edge2 in
-    spread-both (now (c₀ .args .left)) (c₀ .args .at) (now (c₀ .args .seen)) (s .last .1 .1 .1 .0) (t .last .1 .1 .1 .0) (s .result) (t .result) (s .ensures) (t .ensures)
+    (t .ensures .0 ∙ ap (spreadEdge (getD (now (x .left)) (442 + x .at) 0) (x .at) (x .at + 26)) (s .ensures .0), omega (arith, s .ensures .1, t .ensures .1))
 
 add-result : tie.Need-add-result
 add-result c =
     let c₀ = c .before .before .before .before .before .before .before .before .before .before .before .before in
-    let r = returns c in
-    omega (arith, r .fewer, unseen-length (now (c₀ .args .seen)), c₀ .pre .2)
+    let r = returns c .1 in
+    omega (arith, unseen-length (now (c₀ .args .seen)), c₀ .pre .2)
 
 same-length : tie.Need-same-length
-same-length c = returns c .size
+same-length c = c .before .before .spread-edge2 .kept .1 .1 .1 .0 ∙ c .before .before .before .before .before .before .before .spread-edge .kept .1 .1 .1 .0
 
 pub spread-spec : {M : Type 1} → statement M
 spread-spec =

@@ -1,10 +1,12 @@
 -- `walks::flood::spread_edge` meets its contract: by which of the two points is seen.
 use Prim.Native.Nat.{_<_}
 use native.Mathlib.Omega.{arith}
-use lib.ListN.{length}
+use lib.ListN.{length, getD}
 use denote.Ref.{now}
 use borrow.Author.Needs.{needs}
-use Rattle.walks.proofs.Flooding.{spread-none, spread-first, spread-second}
+use borrow.Author.Tests.{eq-eqb, ne-eqb}
+use Rattle.walks.specs.Flood.{spreadEdge}
+use Rattle.walks.proofs.Flooding.{unseen-set}
 use Rattle.walks.proofs.flood.spread_edge.Statement.{statement}
 use Rattle.walks.proofs.flood.spread_edge.Tie as tie
 
@@ -16,7 +18,8 @@ both-in : (c : tie.Else1) → (c .before .args .a < length (now (c .before .args
 both-in c = c .before .pre (treads-left c)
 
 returns : tie.Need-returns
-returns c = let c₀ = c .before in spread-none (c₀ .args .n) (c₀ .args .a) (c₀ .args .b) (now (c₀ .args .seen)) (λ h. absurd (omega (arith, c .if1 .taken)))
+unfolding spreadEdge
+returns c = (rw (eq-eqb (c .before .args .n) 0 (c .if1 .taken)), omega arith)
 
 slice-read-if2 : tie.Need-slice-read-if2
 slice-read-if2 c = both-in (c .before) .0
@@ -25,41 +28,55 @@ slice-read-if3 : tie.Need-slice-read-if3
 slice-read-if3 c = both-in (c .before .before .before) .1
 
 returns-2 : tie.Need-returns-2
+unfolding spreadEdge
 returns-2 c =
-    let c₀ = c .before .before .before .before .before in
-    spread-none (c₀ .args .n) (c₀ .args .a) (c₀ .args .b) (now (c₀ .args .seen)) (λ h. (λ s. absurd (omega (arith, c .before .before .if2 .taken)), λ s. absurd (omega (arith, c .if3 .taken))))
+    let c₁ = c .before .before .before .before in
+    let x = c₁ .before .args in
+    let seen = now (x .seen) in
+    (rw (ne-eqb (x .n) 0 (c₁ .if1 .left), eq-eqb (getD seen (x .a) 0) 0 (c .before .before .if2 .taken), eq-eqb (getD seen (x .b) 0) 0 (c .if3 .taken)), omega arith)
 
 slice-write-seen : tie.Need-slice-write-seen
-slice-write-seen c = both-in (c .before .before .before .before) .0
+slice-write-seen c = let t = both-in (c .before .before .before .before) in omega (arith, t .0, t .1)
 
 same-length : tie.Need-same-length
 same-length c = search needs
 
 returns-3 : tie.Need-returns-3
+unfolding spreadEdge
 returns-3 c =
     let c₁ = c .before .before .before .before in
     let x = c₁ .before .args in
-    spread-first (x .n) (x .a) (x .b) (now (x .seen)) (treads-left c₁) (both-in c₁ .0) (c .before .before .if2 .taken) (omega (arith, c .if3 .left))
+    let seen = now (x .seen) in (
+      rw (ne-eqb (x .n) 0 (c₁ .if1 .left), eq-eqb (getD seen (x .a) 0) 0 (c .before .before .if2 .taken), ne-eqb (getD seen (x .b) 0) 0 (c .if3 .left)),
+      unseen-set seen (x .a) (both-in c₁ .0) (c .before .before .if2 .taken),
+    )
 
 slice-read-if4 : tie.Need-slice-read-if4
 slice-read-if4 c = both-in (c .before .before .before) .1
 
 slice-write-seen-2 : tie.Need-slice-write-seen-2
-slice-write-seen-2 c = both-in (c .before .before .before .before) .1
+slice-write-seen-2 c = let t = both-in (c .before .before .before .before) in omega (arith, t .0, t .1)
 
 same-length-2 : tie.Need-same-length-2
 same-length-2 c = search needs
 
 returns-4 : tie.Need-returns-4
+unfolding spreadEdge
 returns-4 c =
     let c₁ = c .before .before .before .before in
     let x = c₁ .before .args in
-    spread-second (x .n) (x .a) (x .b) (now (x .seen)) (treads-left c₁) (both-in c₁ .1) (c .if4 .taken) (omega (arith, c .before .before .if2 .left))
+    let seen = now (x .seen) in (
+      rw (ne-eqb (x .n) 0 (c₁ .if1 .left), ne-eqb (getD seen (x .a) 0) 0 (c .before .before .if2 .left), eq-eqb (getD seen (x .b) 0) 0 (c .if4 .taken)),
+      unseen-set seen (x .b) (both-in c₁ .1) (c .if4 .taken),
+    )
 
 returns-5 : tie.Need-returns-5
+unfolding spreadEdge
 returns-5 c =
-    let x = c .before .before .before .before .before .args in
-    spread-none (x .n) (x .a) (x .b) (now (x .seen)) (λ h. (λ s. omega (arith, c .if4 .left), λ s. omega (arith, c .before .before .if2 .left)))
+    let c₁ = c .before .before .before .before in
+    let x = c₁ .before .args in
+    let seen = now (x .seen) in
+    (rw (ne-eqb (x .n) 0 (c₁ .if1 .left), ne-eqb (getD seen (x .a) 0) 0 (c .before .before .if2 .left), ne-eqb (getD seen (x .b) 0) 0 (c .if4 .left)), omega arith)
 
 pub spread-edge-spec : {M : Type 1} → statement M
 spread-edge-spec =

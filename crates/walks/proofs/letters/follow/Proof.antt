@@ -9,8 +9,8 @@ use denote.Ref.{now}
 use Rattle.rules.specs.FirstWalk.{stepsOf}
 use Rattle.closedwalks.proofs.Counts.{layout-bounds}
 use Rattle.walks.specs.Treads.{leftOf}
-use Rattle.walks.specs.Letters.{nextLetter, lettersLeft}
-use Rattle.walks.proofs.Stepping.{at-range, letter-left, slot-below}
+use Rattle.walks.specs.Letters.{treadsAt, nextLetter, lettersLeft}
+use Rattle.walks.proofs.Stepping.{at-range, letter-left, none-left, slot-below}
 use Rattle.walks.proofs.Spelling.{spelt-length, Going, going-from, going-room, going-next, going-less, going-over}
 use Rattle.walks.proofs.letters.follow.Statement.{statement}
 use Rattle.walks.proofs.letters.follow.Tie as tie
@@ -47,8 +47,9 @@ next-letter-requires c κs =
 letter-of-requires : tie.Need-letter-of-requires Inv-loop μ-loop
 letter-of-requires c κs = tt
 
--- the letter is the next one, and the list of treads is as it was
-taken : (c : tie.After-next-letter Inv-loop μ-loop) → let a = c .before .before .before .before .before in nextLetter (a .before .before .before .before .args .layout) (a .loop .left) (a .loop .at) ≡ some (c .next-letter .result)
+-- the letter is the next one
+taken : (c : tie.After-next-letter Inv-loop μ-loop) → let a = c .before .before .before .before .before in let z = a .before .before .before .before .args .layout in
+    nextLetter z (a .loop .left) (a .loop .at) ≡ some (c .next-letter .result)
 taken c = c .next-letter .ensures .0
 
 slice-write-letters : tie.Need-slice-write-letters Inv-loop μ-loop
@@ -62,7 +63,8 @@ slot-of-requires : tie.Need-slot-of-requires Inv-loop μ-loop
 slot-of-requires c κs = point-in (c .before .before .before .before .before .before .before .before)
 
 -- the edge's place is in the list, and it is left
-slot-in : (c : tie.After-slot-of Inv-loop μ-loop) → (c .slot-of .result < length (c .before .before .before .before .next-letter .last .1 .0)) × (0 < getD (c .before .before .before .before .next-letter .last .1 .0) (c .slot-of .result) 0)
+slot-in : (c : tie.After-slot-of Inv-loop μ-loop) → let list = c .before .before .before .before .next-letter .last .1 .0 in
+    (c .slot-of .result < length list) × (0 < getD list (c .slot-of .result) 0)
 slot-in c =
     let d = c .before .before .before .before in
     let a = d .before .before .before .before .before in
@@ -91,7 +93,7 @@ loop-again c =
     let d = s .before .before .before .before in
     let a = d .before .before .before .before .before in
     let c₀ = a .before .before .before .before in
-    going-next (c₀ .args .layout) (a .loop .left) (a .loop .at) (a .loop .inv) (d .next-letter .result) (taken d) (c₀ .pre .2) (d .next-letter .last .1 .0) (s .slot-of .result) (c .next-of .result) (s .before .letter-of .result)
+    going-next (c₀ .args .layout) (a .loop .left) (a .loop .at) (a .loop .inv) (d .next-letter .result) (taken d) (c₀ .pre .2)
     (d .next-letter .ensures .1) (s .slot-of .ensures) (c .next-of .ensures) (s .before .letter-of .ensures)
 
 add-n : tie.Need-add-n Inv-loop μ-loop
@@ -102,8 +104,7 @@ loop-less c =
     let s = c .before .before in
     let d = s .before .before .before .before in
     let a = d .before .before .before .before .before in
-    going-less (a .before .before .before .before .args .layout) (a .loop .left) (a .loop .at) (a .loop .inv) (d .next-letter .result) (taken d) (d .next-letter .last .1 .0) (s .slot-of .result) (d .next-letter .ensures .1)
-    (s .slot-of .ensures)
+    going-less (a .before .before .before .before .args .layout) (a .loop .left) (a .loop .at) (a .loop .inv) (d .next-letter .result) (taken d) (d .next-letter .ensures .1) (s .slot-of .ensures)
 
 same-length : tie.Need-same-length Inv-loop μ-loop
 same-length c =
@@ -118,7 +119,9 @@ same-length-2 c =
 returns : tie.Need-returns Inv-loop μ-loop
 returns c =
     let a = c .before .before .before in
-    going-over (a .before .before .before .before .args .layout) (a .loop .left) (a .loop .at) (a .loop .inv) (omega (arith, c .before .treads-at .ensures, c .if1 .left))
+    let z = a .before .before .before .before .args .layout in
+    let none : treadsAt (a .loop .left) (a .loop .at) ≡ 0 = omega (arith, c .before .treads-at .ensures, c .if1 .left) in
+    (going-over z (a .loop .left) (a .loop .at) (a .loop .inv) none, none-left z (a .loop .left) (a .loop .at) (a .loop .inv .walkable) none)
 
 pub follow-spec : {M : Type 1} → statement M
 follow-spec =

@@ -2,8 +2,11 @@
 use Prim.Native.Nat.{ℕ}
 use mathlib.Core.Path.{_≡_, sym, ap, _∙_, subst}
 use mathlib.Core.List.{List}
+use mathlib.Core.Bool.{Bool}
 use denote.Ref.{now}
 use borrow.Author.Needs.{needs}
+use Rattle.rules.specs.declared.Layout.{Layout}
+use Rattle.rules.specs.declared.Direction.{Direction}
 use Rattle.rules.specs.declared.Direction.the-variants.{Front, Left}
 use Rattle.walks.specs.Letters.{Walkable, canBe}
 use Rattle.walks.proofs.Stepping.{first-back, first-front, first-left, first-right}
@@ -17,16 +20,9 @@ after-two c = c .admitted2 .ensures .1 ∙ c .before .before .before .before .be
 after-three : (c : tie.After-admitted3) → c .admitted3 .last .1 .0 ≡ now (c .before .before .before .before .before .before .before .before .before .before .before .before .before .args .left)
 after-three c = c .admitted3 .ensures .1 ∙ after-two (c .before .before .before .before .before)
 
--- what the tests say of the list at entry
-second-test : (c : tie.After-admitted2) → let x = c .before .before .before .before .before .before .before .before .args in c .admitted2 .result ≡ canBe (x .layout) (now (x .left)) (x .at) Front
-second-test c =
-    let x = c .before .before .before .before .before .before .before .before .args in
-    c .admitted2 .ensures .0 ∙ ap (λ (l : List ℕ). canBe (x .layout) l (x .at) Front) (c .before .before .before .before .before .admitted .ensures .1)
-
-third-test : (c : tie.After-admitted3) → let x = c .before .before .before .before .before .before .before .before .before .before .before .before .before .args in c .admitted3 .result ≡ canBe (x .layout) (now (x .left)) (x .at) Left
-third-test c =
-    let x = c .before .before .before .before .before .before .before .before .before .before .before .before .before .args in
-    c .admitted3 .ensures .0 ∙ ap (λ (l : List ℕ). canBe (x .layout) l (x .at) Left) (after-two (c .before .before .before .before .before))
+-- what a test says of the list that it got, it says of the list at entry
+of-entry : (z : Layout) (at : ℕ) {before after : List ℕ} {r : Bool} (d : Direction) → after ≡ before → r ≡ canBe z after at d → r ≡ canBe z before at d
+of-entry z at d p q = q ∙ ap (λ (l : List ℕ). canBe z l at d) p
 
 admitted-requires : tie.Need-admitted-requires
 admitted-requires c κs = search needs
@@ -56,7 +52,9 @@ returns-2 c =
     let a = b .before .before .before .before .before in
     let c₀ = a .before .before .before in
     let x = c₀ .args in
-    (first-front (x .layout) (now (x .left)) (x .at) (c₀ .pre .0) (a .admitted .result) (a .admitted .ensures .0) (b .before .before .if1 .left) (b .admitted2 .result) (second-test b) (c .if2 .taken), after-two b)
+    let back = a .admitted .ensures in
+    let front = of-entry (x .layout) (x .at) Front (back .1) (b .admitted2 .ensures .0) in
+    (first-front (x .layout) (now (x .left)) (x .at) (c₀ .pre .0) (a .admitted .result) (back .0) (b .before .before .if1 .left) (b .admitted2 .result) front (c .if2 .taken), after-two b)
 
 admitted-requires-3 : tie.Need-admitted-requires-3
 admitted-requires-3 c κs =
@@ -73,9 +71,12 @@ returns-3 c =
     let b = d .before .before .before .before .before in
     let a = b .before .before .before .before .before in
     let c₀ = a .before .before .before in
-    let x = c₀ .args in (
-      first-left (x .layout) (now (x .left)) (x .at) (c₀ .pre .0) (a .admitted .result) (a .admitted .ensures .0) (b .before .before .if1 .left) (b .admitted2 .result) (second-test b) (d .before .before .if2 .left)
-          (d .admitted3 .result) (third-test d) (c .if3 .taken),
+    let x = c₀ .args in
+    let back = a .admitted .ensures in
+    let front = of-entry (x .layout) (x .at) Front (back .1) (b .admitted2 .ensures .0) in
+    let leftwards = of-entry (x .layout) (x .at) Left (after-two b) (d .admitted3 .ensures .0) in (
+      first-left (x .layout) (now (x .left)) (x .at) (c₀ .pre .0) (a .admitted .result) (back .0) (b .before .before .if1 .left) (b .admitted2 .result) front (d .before .before .if2 .left)
+          (d .admitted3 .result) leftwards (c .if3 .taken),
       after-three d,
     )
 
@@ -88,9 +89,12 @@ returns-4 c =
     let b = d .before .before .before .before .before in
     let a = b .before .before .before .before .before in
     let c₀ = a .before .before .before in
-    let x = c₀ .args in (
-      first-right (x .layout) (now (x .left)) (x .at) (c₀ .pre .0) (a .admitted .result) (a .admitted .ensures .0) (b .before .before .if1 .left) (b .admitted2 .result) (second-test b) (d .before .before .if2 .left)
-          (d .admitted3 .result) (third-test d) (c .if3 .left) (c₀ .pre .1),
+    let x = c₀ .args in
+    let back = a .admitted .ensures in
+    let front = of-entry (x .layout) (x .at) Front (back .1) (b .admitted2 .ensures .0) in
+    let leftwards = of-entry (x .layout) (x .at) Left (after-two b) (d .admitted3 .ensures .0) in (
+      first-right (x .layout) (now (x .left)) (x .at) (c₀ .pre .0) (a .admitted .result) (back .0) (b .before .before .if1 .left) (b .admitted2 .result) front (d .before .before .if2 .left)
+          (d .admitted3 .result) leftwards (c .if3 .left) (c₀ .pre .1),
       after-three d,
     )
 

@@ -62,7 +62,8 @@ loop-again c =
     let a = c .before .before .before .before .before in
     let c₀ = a .before .before in
     let letters = now (c₀ .args .letters) in
-    subst (λ (d : Direction). Ran letters (c₀ .args .n) (set (a .loop .runs) (a .loop .count) (record { direction = d; steps = a .loop .steps + 1 })) (a .loop .count + 1) 0 (a .loop .at + 1)) (sym (c .direction-of .ensures))
+    let run : Direction → Run = λ d. record { direction = d; steps = a .loop .steps + 1 } in
+    subst (λ (d : Direction). Ran letters (c₀ .args .n) (set (a .loop .runs) (a .loop .count) (run d)) (a .loop .count + 1) 0 (a .loop .at + 1)) (sym (c .direction-of .ensures))
     (ran-ends letters (c₀ .args .n) (c₀ .pre .1) (a .loop .inv) (c .before .before .before .before .loop-test .taken) (c₀ .pre .0) (sym (c .before .before .run-ends .ensures) ∙ c .before .if1 .taken))
 
 loop-less-2 : tie.Need-loop-less-2 Inv-loop μ-loop

@@ -63,7 +63,7 @@ loop-again c =
     let a = f .before .before .before .before in
     let x = a .before .before .before .args in (
       omega (arith, t .if1 .taken),
-      aisles-more (x .layout .aisles) (x .layout .cells) (x .plan .stages) (a .loop .j) (now (x .left)) (a .loop .left) (f .fill-aisle .last .1 .1 .1 .0) (q .fill-passage .last .1 .1 .1 .0) true (a .loop .inv .1) (f .fill-aisle .ensures) (q .fill-passage .ensures)
+      aisles-more (x .layout .aisles) (x .layout .cells) (x .plan .stages) (a .loop .j) (now (x .left)) (a .loop .inv .1) (f .fill-aisle .ensures) (q .fill-passage .ensures)
           (lt-ltb (a .loop .j + 1) (x .layout .aisles) (t .if1 .taken)),
     )
 
@@ -74,10 +74,10 @@ loop-again-2 : tie.Need-loop-again-2 Inv-loop μ-loop
 loop-again-2 c =
     let f = c .before .before .before in
     let a = f .before .before .before .before in
-    let x = a .before .before .before .args in
-    let last = f .fill-aisle .last .1 .1 .1 .0 in (
+    let x = a .before .before .before .args in (
       omega (arith, f .before .before .before .loop-test .taken),
-      aisles-more (x .layout .aisles) (x .layout .cells) (x .plan .stages) (a .loop .j) (now (x .left)) (a .loop .left) last last false (a .loop .inv .1) (f .fill-aisle .ensures) refl (le-ltb (a .loop .j + 1) (x .layout .aisles) (c .if1 .left)),
+      aisles-more (x .layout .aisles) (x .layout .cells) (x .plan .stages) (a .loop .j) (now (x .left)) (a .loop .inv .1) (f .fill-aisle .ensures) refl
+          (le-ltb (a .loop .j + 1) (x .layout .aisles) (c .if1 .left)),
     )
 
 returns : tie.Need-returns Inv-loop μ-loop

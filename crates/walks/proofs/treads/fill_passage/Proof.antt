@@ -6,14 +6,14 @@ use Rattle.walks.specs.Filling.{withPassage}
 use Rattle.walks.proofs.treads.fill_passage.Statement.{statement}
 use Rattle.walks.proofs.treads.fill_passage.Tie as tie
 
+mul-front : tie.Need-mul-front
+mul-front c = search needs
+
+add-front : tie.Need-add-front
+add-front c = search needs
+
 front-treads-requires : tie.Need-front-treads-requires
 front-treads-requires c κs = search needs
-
-mul-left : tie.Need-mul-left
-mul-left c = search needs
-
-add-left : tie.Need-add-left
-add-left c = search needs
 
 slice-write-left : tie.Need-slice-write-left
 slice-write-left c = search needs
@@ -21,14 +21,11 @@ slice-write-left c = search needs
 back-treads-requires : tie.Need-back-treads-requires
 back-treads-requires c κs = search needs
 
-mul-left-2 : tie.Need-mul-left-2
-mul-left-2 c = search needs
+add-left : tie.Need-add-left
+add-left c = search needs
 
 add-left-2 : tie.Need-add-left-2
 add-left-2 c = search needs
-
-add-left-3 : tie.Need-add-left-3
-add-left-3 c = search needs
 
 slice-write-left-2 : tie.Need-slice-write-left-2
 slice-write-left-2 c = simp length-set (omega (arith, c .before .before .before .pre))
@@ -44,14 +41,13 @@ pub fill-passage-spec : {M : Type 1} → statement M
 fill-passage-spec =
     tie.close
     (tie.spec
+    mul-front
+    add-front
     front-treads-requires
-    mul-left
-    add-left
     slice-write-left
     back-treads-requires
-    mul-left-2
+    add-left
     add-left-2
-    add-left-3
     slice-write-left-2
     same-length
     returns)
