@@ -17,17 +17,17 @@ use Rattle.rules.specs.Sheet.{sheetText}
 use Rattle.rules.specs.Answers.{replyLength, workLimit, sheetLimit, refused, written, answerChecked, answer}
 use Rattle.rules.proofs.Admission.{layout-within, admitted}
 use Rattle.closedwalks.proofs.Statements.{first-walk, few-steps}
+use Rattle.optimum.proofs.Best.{best-plan}
 use Rattle.sheets.proofs.SheetFits.{sheet-fits}
-use Rattle.planner.proofs.Routes.{best-lawful}
 
 -- the sheet of an admitted job has at most 16,384 bytes
 pub sheet-suffices : (job : Job) → Admitted job → length (sheetText job) ≤ sheetLimit
 unfolding sheetText
 sheet-suffices job a =
-    let b = best-lawful job a in
+    let lawful = best-plan job a .allowed .lawful in
     let d = layout-within (job .layout) .0 (a .layout) .depot in
-    let w = first-walk (job .layout) (d .0) (d .1) (bestPlan job) (b .0) (b .1) .0 in
-    sheet-fits job (bestPlan job) a (b .0) (few-steps (job .layout) (d .0) (d .1) (bestPlan job) (firstWalk (job .layout) (bestPlan job)) w (a .layout))
+    let w = first-walk (job .layout) (d .0) (d .1) (bestPlan job) lawful .0 in
+    sheet-fits job (bestPlan job) a (lawful .well-formed) (few-steps (job .layout) (d .0) (d .1) (bestPlan job) (firstWalk (job .layout) (bestPlan job)) w (a .layout))
 
 -- a job that the bytes come to is admitted
 checked-admitted : (bytes : List ℕ) (job : Job) → checkBytes bytes ≡ good job → Admitted job

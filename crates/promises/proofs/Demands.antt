@@ -86,9 +86,9 @@ pub demand-2-conversely : (z : Layout) → 1 ≤ z .depot → z .depot ≤ z .ai
 demand-2-conversely z low high walk some-step closed twice =
     let t = walk-reads z low high walk some-step closed twice in (
       t .0,
-      record { well-formed = t .1; treads = t .2 },
-      t .3,
-      λ other o. plan-determined z other (t .0) (o .well-formed) (t .1) (λ e i. o .treads e i ∙ sym (t .2 e i)),
+      record { well-formed = t .1 .well-formed; treads = t .2 },
+      t .1,
+      λ other o. plan-determined z other (t .0) (o .well-formed) (t .1 .well-formed) (λ e i. o .treads e i ∙ sym (t .2 e i)),
     )
 
 pub record Demand3 (bytes sheet work : List ℕ) : Type 0 where

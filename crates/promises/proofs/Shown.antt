@@ -17,6 +17,7 @@ use Rattle.rules.specs.Sheet.{sheetOf, sheetText}
 use Rattle.rules.specs.Answers.{answer, cleared}
 use Rattle.rules.proofs.Admission.{layout-within}
 use Rattle.closedwalks.proofs.Statements.{first-walk}
+use Rattle.optimum.proofs.Best.{best-plan}
 use Rattle.promises.specs.Causes.{OfJob}
 use Rattle.promises.specs.Contents.{Content, contentText, contentOf}
 use Rattle.promises.specs.Calls.{RefusedCall, ServedCall, Shows, Obeys, Shortest}
@@ -25,7 +26,7 @@ use Rattle.promises.proofs.Picks.{picks-meet, pick-listed}
 use Rattle.promises.proofs.Taken.{pick-taken, picks-ordered}
 use Rattle.promises.proofs.PickRule.{picks-rule}
 use Rattle.promises.proofs.Texts.{content-determined}
-use Rattle.promises.proofs.Best.{best-serves, best-least, best-first, best-walk}
+use Rattle.promises.proofs.Best.{best-walk}
 
 -- the sheet of an admitted job
 abbrev pub best : Job → Content
@@ -34,15 +35,14 @@ best job = contentOf job (bestPlan job)
 pub best-obeys : (job : Job) → Admitted job → Obeys job (best job)
 unfolding contentOf planLength
 best-obeys job a =
-    let b = best-serves job a in
+    let b = best-plan job a in
     let depot = layout-within (job .layout) .0 (a .layout) .depot in
-    let w = first-walk (job .layout) (depot .0) (depot .1) (bestPlan job) (b .0) (b .1 .lawful) in
+    let w = first-walk (job .layout) (depot .0) (depot .1) (bestPlan job) (b .allowed .lawful) in
     record {
       policy = refl;
-      well-formed = b .0;
-      allowed = b .1;
+      allowed = b .allowed;
       length-summed = refl;
-      picks-meet-lines = picks-meet job a (bestPlan job) (b .2);
+      picks-meet-lines = picks-meet job a (bestPlan job) (b .serving);
       picks-listed = λ x m. pick-listed job a (bestPlan job) x m (pick-taken job (bestPlan job) x m .1 .some);
       picks-taken = pick-taken job (bestPlan job);
       picks-upwards = picks-ordered job (bestPlan job);
@@ -54,13 +54,13 @@ best-obeys job a =
 pub best-shortest : (job : Job) → Admitted job → Shortest job (best job)
 unfolding contentOf
 best-shortest job a =
-    let b = best-serves job a in
+    let b = best-plan job a in
     record {
-      allowed = b .1;
-      serves = b .2;
+      allowed = b .allowed;
+      serves = b .serving;
       its-length = refl;
-      least = best-least job a;
-      tie = best-first job a;
+      least = b .least;
+      tie = b .first;
       least-walk = best-walk job a;
     }
 

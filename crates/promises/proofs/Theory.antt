@@ -1,6 +1,6 @@
--- The theory behind demands 2 and 3, statement by statement; each cites its proof. Assumes nothing.
+-- The theory behind demands 2 and 3, statement by statement; each cites its proof.
 use Prim.Native.Nat.{ℕ, _+_, _*_, _-_, _≤_}
-use mathlib.Core.Path.{_≡_}
+use mathlib.Core.Path.{_≡_, sym, subst}
 use mathlib.Core.Logic.{_↔_}
 use mathlib.Core.List.{List, []}
 use mathlib.Core.Bool.{true}
@@ -14,47 +14,54 @@ use Rattle.rules.specs.Lawful.{Lawful}
 use Rattle.rules.specs.Policies.{Allowed}
 use Rattle.rules.specs.Machine.{accepts}
 use Rattle.rules.specs.Serving.{PlanServes}
+use Rattle.rules.specs.BestPlan.{bestPlan, IsBest}
 use Rattle.rules.specs.Walks.{Walk, ClosedWalk, walkTreads, walkLength, walkPasses, NotAfter}
 use Rattle.rules.specs.FirstWalk.{WalkOf, firstWalk}
 use Rattle.rules.proofs.Lengths
 use Rattle.tours.proofs.Machine
 use Rattle.tours.proofs.Existence
+use Rattle.optimum.proofs.Best.{best-plan, best-plan-only}
 use Rattle.closedwalks.proofs.Statements
 
--- 1. the machine accepts a plan exactly when it is lawful and the policy allows it
-pub machine-is-rules : (job : Job) (plan : Plan) → 1 ≤ job .layout .depot → WellFormed (job .layout) plan → (accepts job plan ≡ true) ↔ Allowed job plan
+-- the plans of the store that the machine accepts are just those that the policy allows
+pub machine-is-rules : (job : Job) (plan : Plan) → 1 ≤ job .layout .depot
+    → (WellFormed (job .layout) plan × (accepts job plan ≡ true)) ↔ Allowed job plan
 machine-is-rules = Machine.accepts-allowed
 
--- a serving plan exists wherever no line exceeds all the stock of its article (6)
-pub serving-plan : (job : Job) → Admitted job → (plan : Plan) × WellFormed (job .layout) plan × Allowed job plan × PlanServes job plan
+-- a plan that the policy allows and that serves the list exists wherever no line exceeds all the stock of its article
+pub serving-plan : (job : Job) → Admitted job → (plan : Plan) × Allowed job plan × PlanServes job plan
 serving-plan = Existence.allowed-exists
 
+-- the best plan is the first of the shortest among them, and no other plan is
+pub best-plan-is-best : (job : Job) → Admitted job → (plan : Plan) → IsBest job plan ↔ (plan ≡ bestPlan job)
+best-plan-is-best job a plan = (best-plan-only job a plan, λ e. subst (IsBest job) (sym e) (best-plan job a))
+
 module _ (z : Layout) (low : 1 ≤ z .depot) (high : z .depot ≤ z .aisles) where
-  -- 2. a closed walk that treads no edge more than twice reads as a plan, which is lawful; a plan is determined by its multiplicities
-  pub walk-is-a-plan : (walk : Walk) → ¬ (walk ≡ []) → ClosedWalk z walk → ((e : Edge) → InStore z e → walkTreads z walk e ≤ 2) → (plan : Plan) × WellFormed z plan × ((e : Edge) → InStore z e → multiplicity plan e ≡ walkTreads z walk e) × Lawful z plan
+  -- a closed walk that treads no edge more than twice reads as a plan, which is lawful; a plan is determined by its multiplicities
+  pub walk-is-a-plan : (walk : Walk) → ¬ (walk ≡ []) → ClosedWalk z walk → ((e : Edge) → InStore z e → walkTreads z walk e ≤ 2) → (plan : Plan) × Lawful z plan × ((e : Edge) → InStore z e → multiplicity plan e ≡ walkTreads z walk e)
   walk-is-a-plan = Statements.walk-reads z low high
 
-  -- 3. no closed walk is shorter than its plan, however often it treads an edge
-  pub walk-is-no-shorter : (walk : Walk) → ¬ (walk ≡ []) → ClosedWalk z walk → (plan : Plan) × WellFormed z plan × Lawful z plan × ((j c : ℕ) → walkPasses z walk j c ≡ true → 1 ≤ c → c ≤ z .cells → planPasses plan j c ≡ true) × (planLength z plan ≤ walkLength z walk)
+  -- no closed walk is shorter than its plan, however often it treads an edge
+  pub walk-is-no-shorter : (walk : Walk) → ¬ (walk ≡ []) → ClosedWalk z walk → (plan : Plan) × Lawful z plan × ((j c : ℕ) → walkPasses z walk j c ≡ true → 1 ≤ c → c ≤ z .cells → planPasses plan j c ≡ true) × (planLength z plan ≤ walkLength z walk)
   walk-is-no-shorter = Statements.walk-plan z low high
 
-  -- 4. a lawful plan can be walked
-  pub plan-is-walked : (plan : Plan) → WellFormed z plan → Lawful z plan → (walk : Walk) × WalkOf z plan walk
+  -- a lawful plan can be walked
+  pub plan-is-walked : (plan : Plan) → Lawful z plan → (walk : Walk) × WalkOf z plan walk
   plan-is-walked = Statements.lawful-walked z low high
 
-  -- 5. the first walk is such a walk, and none comes before it in the alphabet
-  pub walk-is-first : (plan : Plan) → WellFormed z plan → Lawful z plan → WalkOf z plan (firstWalk z plan) × ((walk : Walk) → WalkOf z plan walk → NotAfter (firstWalk z plan) walk)
+  -- the first walk is such a walk, and none comes before it in the alphabet
+  pub walk-is-first : (plan : Plan) → Lawful z plan → WalkOf z plan (firstWalk z plan) × ((walk : Walk) → WalkOf z plan walk → NotAfter (firstWalk z plan) walk)
   walk-is-first = Statements.first-walk z low high
 
-  -- 7. a walk of a plan has at most 860 steps
+  -- a walk of a plan has at most 860 steps
   pub walk-is-bounded : (plan : Plan) (walk : Walk) → WalkOf z plan walk → layoutInBounds z ≡ true → length walk ≤ 860
   walk-is-bounded = Statements.few-steps z low high
 
--- a plan is determined by its multiplicities (2)
+-- a plan is determined by its multiplicities
 pub plan-is-determined : (z : Layout) (plan other : Plan) → WellFormed z plan → WellFormed z other → ((e : Edge) → InStore z e → multiplicity plan e ≡ multiplicity other e) → plan ≡ other
 plan-is-determined = Statements.plan-determined
 
--- the bounds of a plan's length (7)
+-- the bounds of a plan's length
 pub length-is-bounded : (z : Layout) (plan : Plan) → WellFormed z plan → planLength z plan ≤ z .aisles * (2 * aisleLength z) + (z .aisles - 1) * (4 * z .width)
 length-is-bounded = Lengths.plan-length-bound
 

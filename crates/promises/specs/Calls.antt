@@ -58,7 +58,6 @@ pub record Shows (bytes sheet work : List ℕ) (job : Job) (c : Content) : Type 
 -- and no other such walk comes before it in the alphabet
 pub record Obeys (job : Job) (c : Content) : Type 0 where
   pub policy : c .policy ≡ job .policy
-  pub well-formed : WellFormed (job .layout) (c .plan)
   pub allowed : Allowed job (c .plan)
   pub length-summed : c .length ≡ lengthOf (job .layout) (multiplicity (c .plan))
   pub picks-meet-lines : (l : OrderLine) → List·Memᴰ l (job .lines) → picked (c .picks) (l .article) ≡ l .quantity
@@ -78,8 +77,8 @@ pub record Shortest (job : Job) (c : Content) : Type 0 where
   pub allowed : Allowed job (c .plan)
   pub serves : PlanServes job (c .plan)
   pub its-length : c .length ≡ planLength (job .layout) (c .plan)
-  pub least : (plan : Plan) → WellFormed (job .layout) plan → Allowed job plan → PlanServes job plan → c .length ≤ planLength (job .layout) plan
-  pub tie : (plan : Plan) → WellFormed (job .layout) plan → Allowed job plan → PlanServes job plan → planLength (job .layout) plan ≤ c .length → (plan ≡ c .plan) ⊎ PlanBefore (job .layout .cells) (c .plan) plan
+  pub least : (plan : Plan) → Allowed job plan → PlanServes job plan → c .length ≤ planLength (job .layout) plan
+  pub tie : (plan : Plan) → Allowed job plan → PlanServes job plan → planLength (job .layout) plan ≤ c .length → (plan ≡ c .plan) ⊎ PlanBefore (job .layout .cells) (c .plan) plan
   pub least-walk : job .policy ≡ Exact → (walk : Walk) → ClosedWalk (job .layout) walk → WalkServes job walk → c .length ≤ walkLength (job .layout) walk
 
 -- a plan of the store that treads each edge as often as the walk

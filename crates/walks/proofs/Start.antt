@@ -94,7 +94,7 @@ module _ (z : Layout) (plan : PlanValue) (w : LawfulPlan z plan) where
 
   -- a lawful plan can be walked
   planned : Ready z (multiplicity (planOf plan)) (depotPoint z)
-  planned = lawful-ready z (planOf plan) low high (w .well-formed) (w .lawful)
+  planned = lawful-ready z (planOf plan) low high (w .lawful)
 
   -- the depot's number
   depot-at : pointAt (26 * z .depot) ≡ depotPoint z
@@ -129,4 +129,4 @@ module _ (z : Layout) (plan : PlanValue) (w : LawfulPlan z plan) where
 
   -- which are at most 860
   pub walk-short : length (firstWalk z (planOf plan)) ≤ 860
-  walk-short = few-steps z low high (planOf plan) (firstWalk z (planOf plan)) (first-walk z low high (planOf plan) (w .well-formed) (w .lawful) .0) (w .bounds)
+  walk-short = few-steps z low high (planOf plan) (firstWalk z (planOf plan)) (first-walk z low high (planOf plan) (w .lawful) .0) (w .bounds)

@@ -3,7 +3,6 @@ use mathlib.Core.Path.{_≡_}
 use mathlib.Core.Bool.{true}
 use Rattle.rules.specs.declared.Layout.{Layout}
 use Rattle.rules.specs.Store.{layoutInBounds}
-use Rattle.rules.specs.Plans.{WellFormed}
 use Rattle.rules.specs.Lawful.{Lawful}
 use Rattle.values.specs.declared.PlanValue.{PlanValue}
 use Rattle.values.specs.Values.{planOf}
@@ -12,5 +11,4 @@ use Rattle.values.specs.Values.{planOf}
 pub record LawfulPlan (z : Layout) (plan : PlanValue) : Type 0 where
   pub bounds : layoutInBounds z ≡ true
   pub aisles : plan .aisles ≡ z .aisles
-  pub well-formed : WellFormed z (planOf plan)
   pub lawful : Lawful z (planOf plan)
