@@ -11,9 +11,9 @@ use Rattle.rules.specs.declared.Refusal.the-variants.{WorkArea, SheetSpace}
 use Rattle.rules.specs.declared.Reply.{Reply}
 use Rattle.rules.specs.declared.Reply.the-variants.{Served, Refused}
 use Rattle.rules.specs.Jobs.{Job}
-use Rattle.rules.specs.Refusals.{Checked, good, bad, checkBytes}
+use Rattle.rules.specs.Refusals.{Checked, good, bad, checkBytes, workLimit, cleared}
 use Rattle.rules.specs.Sheet.{sheetText}
-use Rattle.rules.specs.Answers.{workLimit, cleared, refused, written, answerChecked, answer}
+use Rattle.rules.specs.Answers.{refused, written, answerChecked, answer}
 use Rattle.sheets.specs.Written.{Written}
 use Rattle.planner.specs.Answered.{Replied, Answered}
 

@@ -12,9 +12,9 @@ use Rattle.rules.specs.Jobs.{Job}
 use Rattle.rules.specs.JobFile.{readJob}
 use Rattle.rules.specs.BestPlan.{bestPlan}
 use Rattle.rules.specs.FirstWalk.{firstWalk}
-use Rattle.rules.specs.Refusals.{Admitted, jobRefusal, Checked, good, bad, checkJob, checkBytes}
+use Rattle.rules.specs.Refusals.{Admitted, jobRefusal, Checked, good, bad, checkJob, checkBytes, workLimit}
 use Rattle.rules.specs.Sheet.{sheetText}
-use Rattle.rules.specs.Answers.{replyLength, workLimit, sheetLimit, refused, written, answerChecked, answer}
+use Rattle.rules.specs.Answers.{replyLength, sheetLimit, refused, written, answerChecked, answer}
 use Rattle.rules.proofs.Admission.{layout-within, admitted}
 use Rattle.closedwalks.proofs.Statements.{first-walk, few-steps}
 use Rattle.optimum.proofs.Best.{best-plan}

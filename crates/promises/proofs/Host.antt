@@ -10,9 +10,9 @@ use Rattle.rules.specs.declared.Refusal.the-variants.{WorkArea, NotAJobFile, La
 use Rattle.rules.specs.declared.Reply.{Reply}
 use Rattle.rules.specs.declared.Reply.the-variants.{Served, Refused}
 use Rattle.rules.specs.Lists.{nth}
-use Rattle.rules.specs.Refusals.{numberOf}
+use Rattle.rules.specs.Refusals.{numberOf, workLimit}
 use Rattle.rules.specs.Sheet.{sheetText}
-use Rattle.rules.specs.Answers.{replyLength, workLimit, sheetLimit, answer, hostAnswer, hostNumber}
+use Rattle.rules.specs.Answers.{replyLength, sheetLimit, answer, hostAnswer, hostNumber}
 use Rattle.planner.proofs.Space.{sheet-suffices, served-length}
 use Rattle.promises.specs.Causes.{OfJob, FirstCause}
 use Rattle.promises.specs.Calls.{ServedCall, hostWork, hostGets, HostCall}

@@ -17,8 +17,8 @@ use Rattle.rules.specs.declared.Reply.{Reply}
 use Rattle.rules.specs.declared.Reply.the-variants.{Served, Refused}
 use Rattle.rules.specs.Jobs.{Job}
 use Rattle.rules.specs.JobFile.{lineFeed, header, field, jobFileLimit, readJob}
-use Rattle.rules.specs.Refusals.{checkBytes}
-use Rattle.rules.specs.Answers.{replyLength, workLimit, sheetLimit, refused, answerChecked, answer, hostAnswer, letterR, printed, output}
+use Rattle.rules.specs.Refusals.{checkBytes, workLimit}
+use Rattle.rules.specs.Answers.{replyLength, sheetLimit, refused, answerChecked, answer, hostAnswer, letterR, printed, output}
 use Rattle.promises.specs.Calls.{hostWork, programSheet, PrintsSheet, PrintsRefusal}
 use Rattle.promises.proofs.Table.{refused-by, served-by}
 use Rattle.promises.proofs.Shown.{served-call}

@@ -12,9 +12,9 @@ use Rattle.rules.specs.Jobs.{Job}
 use Rattle.rules.specs.JobFile.{readJob}
 use Rattle.rules.specs.Plans.{planLength}
 use Rattle.rules.specs.BestPlan.{bestPlan}
-use Rattle.rules.specs.Refusals.{Admitted}
+use Rattle.rules.specs.Refusals.{Admitted, cleared}
 use Rattle.rules.specs.Sheet.{sheetOf, sheetText}
-use Rattle.rules.specs.Answers.{answer, cleared}
+use Rattle.rules.specs.Answers.{answer}
 use Rattle.rules.proofs.Admission.{layout-within}
 use Rattle.closedwalks.proofs.Statements.{first-walk}
 use Rattle.optimum.proofs.Best.{best-plan}

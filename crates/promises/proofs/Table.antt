@@ -16,9 +16,9 @@ use Rattle.rules.specs.Lists.{anyOf, anyTwo, nth, Sorted}
 use Rattle.rules.specs.Store.{layoutInBounds}
 use Rattle.rules.specs.Jobs.{Job}
 use Rattle.rules.specs.JobFile.{readJob}
-use Rattle.rules.specs.Refusals.{stockInBounds, sameCell, listInBounds, sameArticle, weight, shortOfStock, firstRow, jobRows, jobRefusal, good, bad, checkJob, checkBytes, Admitted}
+use Rattle.rules.specs.Refusals.{stockInBounds, sameCell, listInBounds, sameArticle, weight, shortOfStock, firstRow, jobRows, jobRefusal, good, bad, checkJob, checkBytes, Admitted, workLimit, cleared}
 use Rattle.rules.specs.Sheet.{sheetText}
-use Rattle.rules.specs.Answers.{Answer, workLimit, cleared, refused, written, answerChecked, answer}
+use Rattle.rules.specs.Answers.{Answer, refused, written, answerChecked, answer}
 use Rattle.rules.proofs.Lists.{any-true, place-member, sorted-by, sorted-from}
 use Rattle.rules.proofs.Reading.{job-file}
 use Rattle.rules.proofs.Admission.{layout-within, stock-within, list-within, same-cell, same-article, line-out-of-stock}

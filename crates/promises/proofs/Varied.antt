@@ -11,8 +11,8 @@ use Rattle.rules.specs.declared.Reply.the-variants.{Served}
 use Rattle.rules.specs.Jobs.{Job}
 use Rattle.rules.specs.JobFile.{numeral, field, header, layoutText, recordText, lineText, sectionText, jobText}
 use Rattle.rules.specs.JobFile.{isDigit, isNumber, readField, readHeader, readPolicyAs, readPolicy, readLayout, readRecord, readLine, readSection, readLayoutSection, readSections, readJob}
-use Rattle.rules.specs.Refusals.{jobRefusal}
-use Rattle.rules.specs.Answers.{workLimit, sheetLimit, answer}
+use Rattle.rules.specs.Refusals.{jobRefusal, workLimit}
+use Rattle.rules.specs.Answers.{sheetLimit, answer}
 use Rattle.rules.specs.Examples.{stocked, _of_, alpha, cases}
 use Rattle.rules.proofs.Admission.{admitted}
 use Rattle.rules.proofs.Cases.{cases-hold}

@@ -9,9 +9,8 @@ use Rattle.rules.specs.declared.Refusal.{Refusal}
 use Rattle.rules.specs.declared.Refusal.the-variants.{WorkArea, NotAJobFile, LayoutBounds, StockBounds, CellTwice, ListBounds, ArticleTwice, TooHeavy, ShortOfStock, SheetSpace}
 use Rattle.rules.specs.Jobs.{Job}
 use Rattle.rules.specs.JobFile.{Writable, jobText, jobFileLimit}
-use Rattle.rules.specs.Refusals.{weight, allStock, StockWithin, ListWithin}
+use Rattle.rules.specs.Refusals.{weight, allStock, StockWithin, ListWithin, workLimit, cleared}
 use Rattle.rules.specs.Sheet.{sheetText}
-use Rattle.rules.specs.Answers.{workLimit, cleared}
 use Rattle.rules.specs.Store.{LayoutWithin}
 
 -- the bytes are the job file of a job: at most 16,384, and the job's text; its numbers are at most 65,535

@@ -7,8 +7,8 @@ use lib.ListN.{length, take, replicate, length-append}
 use Rattle.rules.specs.declared.Reply.{Reply}
 use Rattle.rules.specs.declared.Reply.the-variants.{Served, Refused}
 use Rattle.rules.specs.JobFile.{lineFeed, header, field}
-use Rattle.rules.specs.Refusals.{numberOf}
-use Rattle.rules.specs.Answers.{replyLength, workLimit, sheetLimit, hostAnswer, hostNumber, letterR, printed}
+use Rattle.rules.specs.Refusals.{numberOf, workLimit}
+use Rattle.rules.specs.Answers.{replyLength, sheetLimit, hostAnswer, hostNumber, letterR, printed}
 use Rattle.sheets.proofs.Sizes.{digits-most, field-size, header-size}
 use Rattle.planner.proofs.Space.{served-length}
 

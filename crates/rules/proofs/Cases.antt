@@ -16,7 +16,7 @@ use Rattle.rules.specs.Examples.{tour, tied, walked, HasTour, IsTour, Fi
 use Rattle.rules.specs.declared.Run.{Run}
 use Rattle.rules.specs.Sheet.{runsOf}
 use Rattle.rules.proofs.Pruning.{fastServing, fastBest, fast-best}
-use Rattle.rules.specs.Answers.{cleared, refused, written, answerChecked, answer, hostAnswer, output}
+use Rattle.rules.specs.Answers.{refused, served, answer, hostAnswer, output}
 use Rattle.rules.specs.BestPlan.{actionsOf, passagesInOrder, single, prepend, shorterOf, emptyPlan, servingPlans, bestPlan}
 use Rattle.rules.specs.Examples.{stocked, _⨯_, alpha, beta, steps, roundTrip, cases, midway, frontPart, backPart, nearBack, bothEnds, topTie, gapTie, bothBottom, bothOnce, ownCases, overfull, RefusedWith, workedJob, workedSheet}
 use Rattle.rules.specs.FirstWalk.{without, stepsOf, firstWalk}
@@ -26,7 +26,7 @@ use Rattle.rules.specs.Machine.{actionPossible, actionStep, passageStep,
 use Rattle.rules.specs.Picks.{cellsOf, lackOf, lessOf, recordAt, taken, passedRecords, picksOf}
 use Rattle.rules.specs.Plans.{actionAt, passageAt, multiplicity, lengthOf, planLength, planPasses}
 use Rattle.rules.specs.Policies.{inFrontHalf, inBackHalf}
-use Rattle.rules.specs.Refusals.{recordInBounds, stockInBounds, sameCell, lineInBounds, listInBounds, sameArticle, weight, allStock, shortOfStock, jobRows, jobRefusal, checkJob, checkBytes}
+use Rattle.rules.specs.Refusals.{recordInBounds, stockInBounds, sameCell, lineInBounds, listInBounds, sameArticle, weight, allStock, shortOfStock, jobRows, jobRefusal, checkJob, checkBytes, cleared}
 use Rattle.rules.specs.Serving.{supply, serves}
 use Rattle.rules.specs.Sheet.{totalText, passageText, pickText, runText, sheetOf, sheetText}
 use Rattle.rules.specs.Store.{aisleLength, position, backHeight, depotPoint, distance, edgesOf, within, layoutInBounds, sameEdge, samePoint}
@@ -79,5 +79,5 @@ longer-file = record { bytes = refl; ends = refl }
 
 -- the worked example, byte for byte
 pub worked-example : output workedJob ≡ workedSheet
-unfolding servingPlans cleared refused written answerChecked checkBytes checkJob answer hostAnswer output actionsOf passagesInOrder single prepend shorterOf emptyPlan bestPlan stocked _⨯_ alpha beta steps roundTrip cases midway frontPart backPart nearBack bothEnds topTie gapTie bothBottom bothOnce ownCases overfull RefusedWith workedJob workedSheet without stepsOf firstWalk numeral field header sectionText isDigit isNumber readField readHeader readPolicyAs readPolicy readLayout readRecord readLine readSection readLayoutSection readSections readJob listed holdsListed actionPossible actionStep passageStep accepts cellsOf lackOf lessOf recordAt taken passedRecords picksOf actionAt passageAt multiplicity lengthOf planLength planPasses inFrontHalf inBackHalf recordInBounds stockInBounds sameCell lineInBounds listInBounds sameArticle weight allStock shortOfStock jobRows jobRefusal supply serves totalText passageText pickText runText sheetOf sheetText aisleLength position backHeight depotPoint distance edgesOf within layoutInBounds sameEdge samePoint isCrossing canStep stepTo stepEdge one fastBest fastServing
+unfolding servingPlans cleared refused served answer hostAnswer output actionsOf passagesInOrder single prepend shorterOf emptyPlan bestPlan stocked _⨯_ alpha beta steps roundTrip cases midway frontPart backPart nearBack bothEnds topTie gapTie bothBottom bothOnce ownCases overfull RefusedWith workedJob workedSheet without stepsOf firstWalk numeral field header sectionText isDigit isNumber readField readHeader readPolicyAs readPolicy readLayout readRecord readLine readSection readLayoutSection readSections readJob listed holdsListed actionPossible actionStep passageStep accepts cellsOf lackOf lessOf recordAt taken passedRecords picksOf actionAt passageAt multiplicity lengthOf planLength planPasses inFrontHalf inBackHalf recordInBounds stockInBounds sameCell lineInBounds listInBounds sameArticle weight allStock shortOfStock jobRows jobRefusal supply serves totalText passageText pickText runText sheetOf sheetText aisleLength position backHeight depotPoint distance edgesOf within layoutInBounds sameEdge samePoint isCrossing canStep stepTo stepEdge one fastBest fastServing
 worked-example = refl

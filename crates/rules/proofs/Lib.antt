@@ -2,6 +2,7 @@ pub mod Lists
 pub mod Numbers
 pub mod Reading
 pub mod Admission
+pub mod Answering
 pub mod Lengths
 pub mod Serving
 pub mod Enumeration

@@ -13,10 +13,11 @@ use Rattle.rules.specs.declared.OrderLine.{OrderLine}
 use Rattle.rules.specs.Lists.{concatOf}
 use Rattle.rules.specs.Jobs.{Job}
 
--- the separators
+-- one space separates fields
 abbrev pub space : ℕ
 space = 32
 
+-- a line feed ends each line
 abbrev pub lineFeed : ℕ
 lineFeed = 10
 
@@ -29,13 +30,13 @@ numeralBy (suc k) n = elim (ltb n 10) [ true ↦ (48 + n) ∷ [] | false ↦ num
 unfoldable pub numeral : ℕ → List ℕ
 numeral n = numeralBy n n
 
--- the policy words
+-- the policy words, byte for byte in capitals
 abbrev pub policyWord : Policy → List ℕ
-policyWord Exact = 69 ∷ 88 ∷ 65 ∷ 67 ∷ 84 ∷ []
-policyWord Return = 82 ∷ 69 ∷ 84 ∷ 85 ∷ 82 ∷ 78 ∷ []
-policyWord Traversal = 84 ∷ 82 ∷ 65 ∷ 86 ∷ 69 ∷ 82 ∷ 83 ∷ 65 ∷ 76 ∷ []
-policyWord Midpoint = 77 ∷ 73 ∷ 68 ∷ 80 ∷ 79 ∷ 73 ∷ 78 ∷ 84 ∷ []
-policyWord Composite = 67 ∷ 79 ∷ 77 ∷ 80 ∷ 79 ∷ 83 ∷ 73 ∷ 84 ∷ 69 ∷ []
+policyWord Exact = 69 ∷ 88 ∷ 65 ∷ 67 ∷ 84 ∷ []  -- EXACT
+policyWord Return = 82 ∷ 69 ∷ 84 ∷ 85 ∷ 82 ∷ 78 ∷ []  -- RETURN
+policyWord Traversal = 84 ∷ 82 ∷ 65 ∷ 86 ∷ 69 ∷ 82 ∷ 83 ∷ 65 ∷ 76 ∷ []  -- TRAVERSAL
+policyWord Midpoint = 77 ∷ 73 ∷ 68 ∷ 80 ∷ 79 ∷ 73 ∷ 78 ∷ 84 ∷ []  -- MIDPOINT
+policyWord Composite = 67 ∷ 79 ∷ 77 ∷ 80 ∷ 79 ∷ 83 ∷ 73 ∷ 84 ∷ 69 ∷ []  -- COMPOSITE
 
 -- a number and the separator behind it
 unfoldable pub field : ℕ → ℕ → List ℕ
@@ -67,13 +68,13 @@ lineText l = field space (l .article) ++ field lineFeed (l .quantity)
 
 -- the section letters L, S, D
 abbrev pub letterL : ℕ
-letterL = 76
+letterL = 76  -- L
 
 abbrev pub letterS : ℕ
-letterS = 83
+letterS = 83  -- S
 
 abbrev pub letterD : ℕ
-letterD = 68
+letterD = 68  -- D
 
 -- a section: its letter, its count and its lines
 unfoldable pub sectionText : {A : Type 0} → ℕ → (A → List ℕ) → List A → List ℕ

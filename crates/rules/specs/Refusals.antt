@@ -1,11 +1,11 @@
--- Document 01, the bounds of "The store" and the table of refusals: the first that applies.
+-- Document 01, the bounds of "The store" and the table of refusals: causes, numbers, what is left, the first that applies.
 use Prim.Native.Nat.{ℕ, suc, _+_, _≤_}
 use mathlib.Core.Path.{_≡_}
 use mathlib.Core.List.{List, [], _∷_, List·Memᴰ}
 use mathlib.Core.Bool.{Bool, true, false, cond, _&&_, not}
 use mathlib.Core.Option.{Option, none, some}
 use lib.Dec.{ltb, leb, eqb}
-use lib.ListN.{length}
+use lib.ListN.{length, take, drop, replicate}
 use Rattle.rules.specs.declared.Layout.{Layout}
 use Rattle.rules.specs.declared.StockRecord.{StockRecord}
 use Rattle.rules.specs.declared.OrderLine.{OrderLine}
@@ -15,19 +15,7 @@ use Rattle.rules.specs.Lists.{sumOf, productOf, allOf, anyOf, anyTwo}
 use Rattle.rules.specs.Store.{within, layoutInBounds}
 use Rattle.rules.specs.Jobs.{Job}
 use Rattle.rules.specs.JobFile.{readJob}
-
--- the number of a refusal
-abbrev pub numberOf : Refusal → ℕ
-numberOf WorkArea = 10
-numberOf NotAJobFile = 1
-numberOf LayoutBounds = 2
-numberOf StockBounds = 3
-numberOf CellTwice = 4
-numberOf ListBounds = 5
-numberOf ArticleTwice = 6
-numberOf TooHeavy = 7
-numberOf ShortOfStock = 8
-numberOf SheetSpace = 9
+use Rattle.rules.specs.Sheet.{sheetText}
 
 -- a stock record has aisle 1 to m, cell 1 to C, article 1 to 65,535, quantity 1 to 255
 unfoldable pub recordInBounds : Job → StockRecord → Bool
@@ -93,23 +81,75 @@ allStock job a = sumOf (λ (r : StockRecord). cond (eqb (r .article) a) (r .quan
 unfoldable pub shortOfStock : Job → Bool
 shortOfStock job = anyOf (λ (l : OrderLine). ltb (allStock job (l .article)) (l .quantity)) (job .lines)
 
+-- the least number of 16-bit numbers in the work area
+abbrev pub workLimit : ℕ
+workLimit = 32768
+
+-- whether the bytes read as no job
+abbrev pub isNone : Option Job → Bool
+isNone none = true
+isNone (some job) = false
+
+-- whether they read as a job of which the test holds
+abbrev pub ofJob : Option Job → (Job → Bool) → Bool
+ofJob none test = false
+ofJob (some job) test = test job
+
+-- the table of refusals, top to bottom: whether the cause applies, and the refusal;
+-- for what the job bytes read as, a lent sheet and a lent work area
+abbrev pub table : Option Job → List ℕ → List ℕ → List (Bool × Refusal)
+table read sheet work =
+    (ltb (length work) workLimit, WorkArea)
+    ∷ (isNone read, NotAJobFile)
+    ∷ (ofJob read (λ job. not (layoutInBounds (job .layout))), LayoutBounds)
+    ∷ (ofJob read (λ job. not (stockInBounds job)), StockBounds)
+    ∷ (ofJob read (λ job. anyTwo sameCell (job .stock)), CellTwice)
+    ∷ (ofJob read (λ job. not (listInBounds job)), ListBounds)
+    ∷ (ofJob read (λ job. anyTwo sameArticle (job .lines)), ArticleTwice)
+    ∷ (ofJob read (λ job. ltb weightLimit (weight (job .lines))), TooHeavy)
+    ∷ (ofJob read (λ job. shortOfStock job), ShortOfStock)
+    ∷ (ofJob read (λ job. ltb (length sheet) (length (sheetText job))), SheetSpace)
+    ∷ []
+
+-- the table's second column: the number of a refusal
+abbrev pub numberOf : Refusal → ℕ
+numberOf WorkArea = 10
+numberOf NotAJobFile = 1
+numberOf LayoutBounds = 2
+numberOf StockBounds = 3
+numberOf CellTwice = 4
+numberOf ListBounds = 5
+numberOf ArticleTwice = 6
+numberOf TooHeavy = 7
+numberOf ShortOfStock = 8
+numberOf SheetSpace = 9
+
+-- a work area that is all zero
+unfoldable pub cleared : List ℕ → List ℕ
+cleared work = replicate (length work) 0
+
+-- the table's last column: the work area that a refusal leaves. (The sheet is left as it was by every one)
+abbrev pub workAfter : Refusal → List ℕ → List ℕ
+workAfter WorkArea work = work
+workAfter NotAJobFile work = work
+workAfter LayoutBounds work = work
+workAfter StockBounds work = work
+workAfter CellTwice work = work
+workAfter ListBounds work = work
+workAfter ArticleTwice work = work
+workAfter TooHeavy work = work
+workAfter ShortOfStock work = work
+workAfter SheetSpace work = cleared work
+
 -- the refusal of the first row whose cause applies
 abbrev pub firstRow : List (Bool × Refusal) → Option Refusal
 firstRow [] = none
 firstRow ((true, r) ∷ rows) = some r
 firstRow ((false, r) ∷ rows) = firstRow rows
 
--- the rows of the table that speak of a job, in table order: whether the cause applies, and the refusal
+-- the rows that a job alone decides, 2 to 8
 unfoldable pub jobRows : Job → List (Bool × Refusal)
-jobRows job =
-    (not (layoutInBounds (job .layout)), LayoutBounds)
-    ∷ (not (stockInBounds job), StockBounds)
-    ∷ (anyTwo sameCell (job .stock), CellTwice)
-    ∷ (not (listInBounds job), ListBounds)
-    ∷ (anyTwo sameArticle (job .lines), ArticleTwice)
-    ∷ (ltb weightLimit (weight (job .lines)), TooHeavy)
-    ∷ (shortOfStock job, ShortOfStock)
-    ∷ []
+jobRows job = take 7 (drop 2 (table (some job) [] []))
 
 -- the refusal of a job that could be read: the first that applies, or none
 unfoldable pub jobRefusal : Job → Option Refusal

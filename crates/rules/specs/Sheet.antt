@@ -23,19 +23,19 @@ use Rattle.rules.specs.FirstWalk.{firstWalk}
 
 -- the section letters T, A, C, P, W
 abbrev pub letterT : ℕ
-letterT = 84
+letterT = 84  -- T
 
 abbrev pub letterA : ℕ
-letterA = 65
+letterA = 65  -- A
 
 abbrev pub letterC : ℕ
-letterC = 67
+letterC = 67  -- C
 
 abbrev pub letterP : ℕ
-letterP = 80
+letterP = 80  -- P
 
 abbrev pub letterW : ℕ
-letterW = 87
+letterW = 87  -- W
 
 -- the line of the T section: length, policy word
 unfoldable pub totalText : ℕ → Policy → List ℕ
@@ -43,12 +43,12 @@ totalText n policy = field space n ++ (policyWord policy ++ (lineFeed ∷ []))
 
 -- a line of the A section: VOID, BOTTOM i, TOP i, GAP h i, ONCE or TWICE
 abbrev pub actionText : Action → List ℕ
-actionText Void = 86 ∷ 79 ∷ 73 ∷ 68 ∷ lineFeed ∷ []
-actionText (Bottom i) = (66 ∷ 79 ∷ 84 ∷ 84 ∷ 79 ∷ 77 ∷ space ∷ []) ++ field lineFeed i
-actionText (Top i) = (84 ∷ 79 ∷ 80 ∷ space ∷ []) ++ field lineFeed i
-actionText (Gap h i) = (71 ∷ 65 ∷ 80 ∷ space ∷ []) ++ (field space h ++ field lineFeed i)
-actionText Once = 79 ∷ 78 ∷ 67 ∷ 69 ∷ lineFeed ∷ []
-actionText Twice = 84 ∷ 87 ∷ 73 ∷ 67 ∷ 69 ∷ lineFeed ∷ []
+actionText Void = 86 ∷ 79 ∷ 73 ∷ 68 ∷ lineFeed ∷ []  -- VOID
+actionText (Bottom i) = (66 ∷ 79 ∷ 84 ∷ 84 ∷ 79 ∷ 77 ∷ space ∷ []) ++ field lineFeed i  -- BOTTOM
+actionText (Top i) = (84 ∷ 79 ∷ 80 ∷ space ∷ []) ++ field lineFeed i  -- TOP
+actionText (Gap h i) = (71 ∷ 65 ∷ 80 ∷ space ∷ []) ++ (field space h ++ field lineFeed i)  -- GAP
+actionText Once = 79 ∷ 78 ∷ 67 ∷ 69 ∷ lineFeed ∷ []  -- ONCE
+actionText Twice = 84 ∷ 87 ∷ 73 ∷ 67 ∷ 69 ∷ lineFeed ∷ []  -- TWICE
 
 -- a line of the C section: the treads of the back, then of the front cross-aisle
 unfoldable pub passageText : Passage → List ℕ
@@ -60,10 +60,10 @@ pickText x = field space (x .aisle) ++ (field space (x .cell) ++ (field space (x
 
 -- the letter of a step
 abbrev pub letterOf : Direction → ℕ
-letterOf Back = 66
-letterOf Front = 70
-letterOf Left = 76
-letterOf Right = 82
+letterOf Back = 66  -- B
+letterOf Front = 70  -- F
+letterOf Left = 76  -- L
+letterOf Right = 82  -- R
 
 -- equal letters run together: a step in front of the runs makes the first run grow, or starts a new one
 abbrev pub addStep : Direction → List Run → List Run

@@ -104,7 +104,6 @@ module _ (z : Layout) (value : PlanValue) where
       record {
         bounds = b .0;
         aisles = eqb-true (value .aisles) (z .aisles) (d .1);
-        
         lawful = closed-lawful formed (ltb-true 0 (z .depot) (b .1)) (is-closed (lawfulState (z .depot) plan (z .aisles)) (e .1));
       }
 

@@ -4,7 +4,8 @@ use Prim.Native.Nat.{_+_, _≤_}
 use mathlib.Core.Path.{ap, sym, _∙_, subst}
 use lib.ListN.{replicate}
 use denote.Ref.{now}
-use Rattle.rules.specs.Answers.{hostAnswer, hostNumber, replyLength, workLimit, sheetLimit}
+use Rattle.rules.specs.Refusals.{workLimit}
+use Rattle.rules.specs.Answers.{hostAnswer, hostNumber, replyLength, sheetLimit}
 use Rattle.planner.proofs.Space.{served-length}
 use Rattle.planner.specs.Answered.{Replied}
 use borrow.Author.Needs.{needs}
