@@ -57,8 +57,8 @@ read-longer bytes h = rw (lt-leb (length bytes) jobFileLimit h, readJob) refl
 
 -- so every call with a work area that suffices refuses them with 1
 longer-answer : (bytes sheet work : List ℕ) → jobFileLimit < length bytes → workLimit ≤ length work → answer bytes sheet work .reply ≡ Refused NotAJobFile
-unfolding answer checkBytes answerChecked refused
-longer-answer bytes sheet work l h = rw (le-ltb (length work) workLimit h, answer, read-longer bytes l, checkBytes) refl
+unfolding answer refused
+longer-answer bytes sheet work l h = rw (read-longer bytes l, le-ltb (length work) workLimit h) refl
 
 pub longer-printed : (bytes : List ℕ) → jobFileLimit < length bytes → output bytes ≡ header letterR 1 ++ field lineFeed 1
 longer-printed bytes l = printed-answer bytes (Refused NotAJobFile) (longer-answer bytes programSheet hostWork l (omega (arith, length-replicate {A = ℕ} workLimit 0)))
@@ -74,12 +74,8 @@ read-start bytes = go (leb (length bytes) jobFileLimit) refl
         read-longer (take 16385 bytes) (simp length-take (omega arith)) ∙ sym (read-longer bytes h)
 
 answer-same : (bytes others sheet work : List ℕ) → readJob bytes ≡ readJob others → answer bytes sheet work ≡ answer others sheet work
-unfolding answer checkBytes
-answer-same bytes others sheet work e = go (ltb (length work) workLimit) refl
-  where
-    go : (t : Bool) → ltb (length work) workLimit ≡ t → answer bytes sheet work ≡ answer others sheet work
-    go true t = rw (t, answer) refl
-    go false t = rw (t, answer, e, checkBytes) refl
+unfolding answer
+answer-same bytes others sheet work e = ap (λ read. decided (firstRow (table read sheet work)) read sheet work) e
 
 -- what the program prints for the first 16,385 bytes is what it prints for all of them
 pub output-start : (bytes : List ℕ) → output (take 16385 bytes) ≡ output bytes

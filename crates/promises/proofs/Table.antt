@@ -16,14 +16,14 @@ use Rattle.rules.specs.Lists.{anyOf, anyTwo, nth, Sorted}
 use Rattle.rules.specs.Store.{layoutInBounds}
 use Rattle.rules.specs.Jobs.{Job}
 use Rattle.rules.specs.JobFile.{readJob}
-use Rattle.rules.specs.Refusals.{stockInBounds, sameCell, listInBounds, sameArticle, weight, shortOfStock, firstRow, jobRows, jobRefusal, good, bad, checkJob, checkBytes, Admitted, workLimit, cleared}
+use Rattle.rules.specs.Refusals.{stockInBounds, sameCell, listInBounds, sameArticle, weight, shortOfStock, workLimit, isNone, ofJob, table, firstRow, cleared, workAfter, Admitted}
 use Rattle.rules.specs.Sheet.{sheetText}
-use Rattle.rules.specs.Answers.{Answer, refused, written, answerChecked, answer}
+use Rattle.rules.specs.Answers.{Answer, refused, served, decided, answer}
 use Rattle.rules.proofs.Lists.{any-true, place-member, sorted-by, sorted-from}
 use Rattle.rules.proofs.Reading.{job-file}
 use Rattle.rules.proofs.Admission.{layout-within, stock-within, list-within, same-cell, same-article, line-out-of-stock}
 use Rattle.tours.proofs.Basics.{same-number}
-use Rattle.promises.specs.Causes.{JobFileOf, TwoAlike, here, later, SameCell, SameArticle, LineOutOfStock, Cause, OfJob, tableRow, FirstCause, workAfter}
+use Rattle.promises.specs.Causes.{JobFileOf, TwoAlike, here, later, SameCell, SameArticle, LineOutOfStock, Cause, OfJob, tableRow, FirstCause}
 
 -- bytes are read as a job exactly if they are its job file
 pub job-file-read : (bytes : List ℕ) (job : Job) → (readJob bytes ≡ some job) ↔ JobFileOf bytes job
@@ -63,15 +63,6 @@ two-said {A} alike Alike says xs = (found xs, told)
 
 less-said : (a b : ℕ) → (ltb a b ≡ true) ↔ (a < b)
 less-said a b = (ltb-true a b, lt-ltb a b)
-
--- a test of the job that was read, if one was
-abbrev ofJob : Option Job → (Job → Bool) → Bool
-ofJob none t = false
-ofJob (some job) t = t job
-
-abbrev isNone : Option Job → Bool
-isNone none = true
-isNone (some job) = false
 
 module _ (bytes : List ℕ) where
   none-said : (isNone (readJob bytes) ≡ true) ↔ Cause NotAJobFile bytes [] []
@@ -172,26 +163,6 @@ module _ (t : Refusal → Bool) where
       go false e none f = λ q m. put {P = λ r. Unit {0}} e (λ r n p. f r n) q m tt
       go false e (some r) f = (f .0, put {P = λ q. tableRow q < tableRow r} e (f .1))
 
--- the first row that applies has what all rows have
-abbrev EachRow : (Refusal → Type 0) → List (Bool × Refusal) → Type 0
-EachRow P [] = Unit {0}
-EachRow P (row ∷ rows) = P (row .1) × EachRow P rows
-
-row-has : (P : Refusal → Type 0) (rows : List (Bool × Refusal)) (r : Refusal) → EachRow P rows → firstRow rows ≡ some r → P r
-row-has P [] r f e = let z : _≡_ {A = ℕ} 0 1 = cc in absurd (omega arith)
-row-has P ((true, q) ∷ rows) r f e = let same : q ≡ r = cc in subst P same (f .0)
-row-has P ((false, q) ∷ rows) r f e = row-has P rows r (f .1) e
-
--- rows behind other rows
-abbrev orRows : Option Refusal → List (Bool × Refusal) → Option Refusal
-orRows none more = firstRow more
-orRows (some r) more = some r
-
-rows-append : (rows more : List (Bool × Refusal)) → firstRow (rows ++ more) ≡ orRows (firstRow rows) more
-rows-append [] more = refl
-rows-append ((true, q) ∷ rows) more = refl
-rows-append ((false, q) ∷ rows) more = rows-append rows more
-
 module _ (sheet work : List ℕ) where
   -- what a call answers that read this, when the first cause that applies is that
   abbrev AnswersFor : Option Job → Option Refusal → Answer → Type 0
@@ -200,37 +171,26 @@ module _ (sheet work : List ℕ) where
       × (a ≡ record { reply = Served (length (sheetText job)); sheet = sheetText job ++ drop (length (sheetText job)) sheet; work = cleared work })
   AnswersFor o (some r) a = a ≡ record { reply = Refused r; sheet = sheet; work = workAfter r work }
 
-  sheetRow : Job → List (Bool × Refusal)
-  sheetRow job = (ltb (length sheet) (length (sheetText job)), SheetSpace) ∷ []
-
-  job-answers : (job : Job) → AnswersFor (some job) (firstRow (jobRows job ++ sheetRow job)) (answerChecked (checkJob job) sheet work)
-  unfolding checkJob jobRefusal jobRows answerChecked refused written sheetRow
-  job-answers job = rw (rows-append (jobRows job) (sheetRow job)) (go (firstRow (jobRows job)) refl)
-    where
-      unchanged : (r : Refusal) → firstRow (jobRows job) ≡ some r → workAfter r work ≡ work
-      unchanged r e = row-has (λ q. workAfter q work ≡ work) (jobRows job) r (refl, (refl, (refl, (refl, (refl, (refl, (refl, tt))))))) e
-
-      space-left : (b : Bool) → AnswersFor (some job) (firstRow ((b, SheetSpace) ∷ [])) (elim b [ true ↦ record { reply = Refused SheetSpace; sheet = sheet; work = cleared work } | false ↦ record { reply = Served (length (sheetText job)); sheet = sheetText job ++ drop (length (sheetText job)) sheet; work = cleared work } ])
-      space-left true = refl
-      space-left false = (job, refl, refl)
-
-      go : (c : Option Refusal) → firstRow (jobRows job) ≡ c → AnswersFor (some job) (orRows c (sheetRow job)) (answerChecked (elim c [ none ↦ good job | some r ↦ bad r ]) sheet work)
-      go none e = space-left (ltb (length sheet) (length (sheetText job)))
-      go (some r) e = rw (unchanged r e)
-
 module _ (bytes sheet work : List ℕ) where
   -- the first cause that applies, or none
   abbrev firstCause : Option Refusal
   firstCause = firstRow (tested (λ r. applies r (readJob bytes) sheet work) allRows)
 
   answers-for : AnswersFor sheet work (readJob bytes) firstCause (answer bytes sheet work)
-  unfolding answer refused checkBytes jobRows answerChecked sheetRow
-  answers-for = go (ltb (length work) workLimit) (readJob bytes)
+  unfolding answer refused served
+  answers-for = by (readJob bytes)
     where
-      go : (b : Bool) (o : Option Job) → AnswersFor sheet work o (firstRow ((b, WorkArea) ∷ tested (λ r. applies r o sheet work) fileRows)) (elim b [ true ↦ refused WorkArea sheet work | false ↦ answerChecked (elim o [ none ↦ bad NotAJobFile | some job ↦ checkJob job ]) sheet work ])
-      go true o = refl
-      go false none = refl
-      go false (some job) = job-answers sheet work job
+      by : (read : Option Job) → AnswersFor sheet work read (firstRow (table read sheet work)) (decided (firstRow (table read sheet work)) read sheet work)
+      by none = area (ltb (length work) workLimit)
+        where
+          area : (b : Bool) → AnswersFor sheet work none (firstRow ((b, WorkArea) ∷ (true, NotAJobFile) ∷ [])) (decided (firstRow ((b, WorkArea) ∷ (true, NotAJobFile) ∷ [])) none sheet work)
+          area true = refl
+          area false = refl
+      by (some job) = row (firstRow (table (some job) sheet work))
+        where
+          row : (q : Option Refusal) → AnswersFor sheet work (some job) q (decided q (some job) sheet work)
+          row none = (job, refl, refl)
+          row (some r) = refl
 
   -- what the tests say of the first cause
   abbrev CausedBy : Option Refusal → Type 0

@@ -9,7 +9,7 @@ use Rattle.rules.specs.declared.Refusal.{Refusal}
 use Rattle.rules.specs.declared.Refusal.the-variants.{WorkArea, NotAJobFile, LayoutBounds, StockBounds, CellTwice, ListBounds, ArticleTwice, TooHeavy, ShortOfStock, SheetSpace}
 use Rattle.rules.specs.Jobs.{Job}
 use Rattle.rules.specs.JobFile.{Writable, jobText, jobFileLimit}
-use Rattle.rules.specs.Refusals.{weight, allStock, StockWithin, ListWithin, workLimit, cleared}
+use Rattle.rules.specs.Refusals.{weight, weightLimit, allStock, StockWithin, ListWithin, workLimit}
 use Rattle.rules.specs.Sheet.{sheetText}
 use Rattle.rules.specs.Store.{LayoutWithin}
 
@@ -47,7 +47,7 @@ Cause StockBounds bytes sheet work = OfJob bytes (λ job. StockWithin job → �
 Cause CellTwice bytes sheet work = OfJob bytes (λ job. TwoAlike SameCell (job .stock))
 Cause ListBounds bytes sheet work = OfJob bytes (λ job. ListWithin job → ⊥)
 Cause ArticleTwice bytes sheet work = OfJob bytes (λ job. TwoAlike SameArticle (job .lines))
-Cause TooHeavy bytes sheet work = OfJob bytes (λ job. 256 < weight (job .lines))
+Cause TooHeavy bytes sheet work = OfJob bytes (λ job. weightLimit < weight (job .lines))
 Cause ShortOfStock bytes sheet work = OfJob bytes LineOutOfStock
 Cause SheetSpace bytes sheet work = OfJob bytes (λ job. length sheet < length (sheetText job))
 
@@ -68,16 +68,3 @@ tableRow SheetSpace = 9
 pub record FirstCause (r : Refusal) (bytes sheet work : List ℕ) : Type 0 where
   pub applies : Cause r bytes sheet work
   pub none-above : (q : Refusal) → tableRow q < tableRow r → Cause q bytes sheet work → ⊥
-
--- the work area that a refusal leaves: as it was, but all zero where the sheet is longer than its space
-abbrev pub workAfter : Refusal → List ℕ → List ℕ
-workAfter WorkArea work = work
-workAfter NotAJobFile work = work
-workAfter LayoutBounds work = work
-workAfter StockBounds work = work
-workAfter CellTwice work = work
-workAfter ListBounds work = work
-workAfter ArticleTwice work = work
-workAfter TooHeavy work = work
-workAfter ShortOfStock work = work
-workAfter SheetSpace work = cleared work
