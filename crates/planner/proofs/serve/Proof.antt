@@ -1,5 +1,4 @@
 -- `planner::serve` meets its contract: the reply and the sheet are those of `finish`, the work area is as `route` left it.
-use mathlib.Core.Path.{_≡_}
 use borrow.Author.Needs.{needs}
 use Rattle.planner.proofs.serve.Statement.{statement}
 use Rattle.planner.proofs.serve.Tie as tie

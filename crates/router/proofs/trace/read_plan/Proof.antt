@@ -127,7 +127,8 @@ loop-again c =
     let job = jobOf (c .before .before .before .before .before .before .before .before .before .before .before .args .job) in
     let at = c .before .before .before .before .before .before .before .before .loop in
     let t = c .trace-aisle in
-    (c .before .before .before .before .before .next-row .ensures .1 ∙ at .inv .0, subst (λ k. Traced job (t .result .stages) k (t .result .state) (t .result .demand)) (sym (add-one (at .n))) (t .ensures))
+    let traced = subst (λ k. Traced job (t .result .stages) k (t .result .state) (t .result .demand)) (sym (add-one (at .n))) (t .ensures) in
+    (c .before .before .before .before .before .next-row .ensures .1 ∙ at .inv .0, traced)
 
 -- behind the loop all aisles are found
 returns : tie.Need-returns Inv-loop μ-loop
