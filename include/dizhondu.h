@@ -18,6 +18,11 @@ extern "C" {
 /* What is added to a refusal's number. */
 #define DIZHONDU_REFUSED 65536
 
+/* A call fits a thread with this much stack. Measured on x86-64 over all jobs of tests/vectors and tests/cases, by what a call
+   changed of a filled stack: at most 229,015 bytes below its caller's frame, and that on every served job. The tests make each
+   of their calls in a thread with just this much. */
+#define DIZHONDU_STACK 262144
+
 /* Plans the tour of the job in job[0 .. job_length) and writes its sheet to the front of sheet[0 .. sheet_space).
 
    Returns the sheet's byte count, at most sheet_space; the bytes behind it are left as they were.
@@ -30,7 +35,8 @@ extern "C" {
      4  a cell in two stock records             8  a line exceeds all stock of its article
                                                 9  sheet longer than its space
 
-   Both pointers must be valid and must not overlap, also where a length is 0. Nothing is kept between calls. */
+   Both pointers must be valid and must not overlap, also where a length is 0. Nothing is kept between calls. The work area
+   is on the stack: DIZHONDU_STACK bytes suffice. */
 uint32_t plan_sheet(const uint8_t *job, size_t job_length, uint8_t *sheet, size_t sheet_space);
 
 #ifdef __cplusplus

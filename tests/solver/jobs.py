@@ -1,7 +1,10 @@
 #!/usr/bin/env python3
-"""Prints the jobs whose lengths the solver gives: the same ones on every run, none with a reason to refuse it."""
+"""The jobs whose lengths the solver gives: the same ones on every run, none with a reason to refuse it.
+
+Run as a program, it prints them one after another."""
 import random
 
+# only `random()` is used, whose numbers are the same for a seed in every version of Python 3
 chance = random.Random(10)
 POLICIES = ["EXACT", "RETURN", "TRAVERSAL", "MIDPOINT", "COMPOSITE"]
 
@@ -54,7 +57,7 @@ def job(policy, aisles, cells, most_listed, others, sizes):
     lines = ["L 1", f"{aisles} {cells} {front} {pitch} {back} {width} {between(1, aisles)} {policy}", f"S {len(stock)}"]
     lines += ["%d %d %d %d" % record for record in shuffled(stock)]
     lines += [f"D {len(wanted)}"] + [f"{a} {q}" for a, q in zip(articles, wanted)]
-    print("\n".join(lines))
+    return "".join(line + "\n" for line in lines).encode()
 
 
 def sizes():
@@ -67,13 +70,18 @@ def sizes():
     ])
 
 
-def jobs(count, aisles, cells, most_listed, others):
+def some(count, aisles, cells, most_listed, others):
     for _ in range(count):
         for policy in POLICIES:
-            job(policy, between(*aisles), between(*cells), most_listed, between(*others), sizes())
+            yield job(policy, between(*aisles), between(*cells), most_listed, between(*others), sizes())
 
 
-jobs(30, (1, 4), (1, 5), 12, (0, 3))
-jobs(20, (3, 9), (3, 12), 14, (0, 12))
-jobs(20, (10, 16), (12, 24), 16, (0, 20))
-jobs(6, (16, 16), (24, 24), 18, (384, 384))
+JOBS = [
+    *some(30, (1, 4), (1, 5), 12, (0, 3)),
+    *some(20, (3, 9), (3, 12), 14, (0, 12)),
+    *some(20, (10, 16), (12, 24), 16, (0, 20)),
+    *some(6, (16, 16), (24, 24), 18, (384, 384)),
+]
+
+if __name__ == "__main__":
+    print(b"".join(JOBS).decode(), end="")

@@ -54,7 +54,8 @@ module _ (bytes before work : List ℕ) where
     answered-refused x e = subst (λ a. Answered a (Refused x) before work) (answer-checked e) (record { replied = record { reply = refl; sheet = refl }; work = refl })
 
     -- an admitted job: its sheet is tried, and the work area is all zero
-    pub answered-written : (job : Job) (r : Reply) (after zeros : List ℕ) → good job ≡ checkBytes bytes → Replied (written (sheetText job) before work) r after → zeros ≡ replicate (length work) 0 → Answered (answer bytes before work) r after zeros
+    pub answered-written : (job : Job) (r : Reply) (after zeros : List ℕ) → good job ≡ checkBytes bytes →
+        Replied (written (sheetText job) before work) r after → zeros ≡ replicate (length work) 0 → Answered (answer bytes before work) r after zeros
     unfolding answerChecked
     answered-written job r after zeros e p z =
         subst (λ a. Answered a r after zeros) (answer-checked e) (record { replied = p; work = z ∙ written-clears (sheetText job) before work })

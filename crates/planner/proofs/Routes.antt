@@ -46,7 +46,10 @@ module _ (job : JobValue) (routed : Routed) (s : Sound job) (r : RoutedOf (jobOf
       }
 
   -- with its picks and its runs it makes the job's sheet
-  pub routed-sheet : (picks : PickList) (runs : RunList) → picksOfValue picks ≡ picksOf (jobOf job) (planOf (routed .plan)) → runsOfValue runs ≡ runsOf (firstWalk (job .layout) (planOf (routed .plan))) → sheetOfValues (job .policy) (routed .length) (routed .plan) picks runs ≡ sheetText (jobOf job)
+  pub routed-sheet : (picks : PickList) (runs : RunList) →
+      picksOfValue picks ≡ picksOf (jobOf job) (planOf (routed .plan)) →
+      runsOfValue runs ≡ runsOf (firstWalk (job .layout) (planOf (routed .plan))) →
+      sheetOfValues (job .policy) (routed .length) (routed .plan) picks runs ≡ sheetText (jobOf job)
   unfolding sheetText jobOf
   routed-sheet picks runs p w =
       sheet-of-values job (routed .plan) (routed .length) picks runs (r .length ∙ ap (planLength (job .layout)) (sym (r .plan))) p w

@@ -23,7 +23,8 @@ sheet-printed (Served k) sheet n h e l = (ap (λ m. take m sheet) e, omega arith
 sheet-printed (Refused r) sheet n h e l = absurd (omega arith)
 
 -- any other is a refusal's, above 65,536
-pub refusal-printed : (q : Reply) (sheet : List ℕ) (n : ℕ) → replyLength q ≤ sheetLimit → n ≡ hostNumber q → 65536 ≤ n → header letterR 1 ++ field lineFeed (n - 65536) ≡ printed q sheet
+pub refusal-printed : (q : Reply) (sheet : List ℕ) (n : ℕ) → replyLength q ≤ sheetLimit → n ≡ hostNumber q → 65536 ≤ n →
+    header letterR 1 ++ field lineFeed (n - 65536) ≡ printed q sheet
 refusal-printed (Served k) sheet n h e l = absurd (omega arith)
 refusal-printed (Refused r) sheet n h e l =
     let number : n - 65536 ≡ numberOf r = omega arith in

@@ -13,7 +13,9 @@ use Rattle.host.proofs.plan_sheet.Statement.{statement}
 use Rattle.host.proofs.plan_sheet.Tie as tie
 
 -- the library call on a work area that is all zero
-replied : (c : tie.After-plan) → Replied (hostAnswer (now (c .before .before .before .before .before .args .job)) (now (c .before .before .before .before .before .args .sheet))) (c .plan .result) (c .plan .last .1 .0)
+replied : (c : tie.After-plan) →
+    let x = c .before .before .before .before .before .args in
+    Replied (hostAnswer (now (x .job)) (now (x .sheet))) (c .plan .result) (c .plan .last .1 .0)
 unfolding hostAnswer
 replied c = c .plan .ensures .replied
 

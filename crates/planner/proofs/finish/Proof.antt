@@ -17,26 +17,39 @@ use Rattle.planner.proofs.finish.Tie as tie
 -- the text of the values is the job's sheet
 sheet-known : (c : tie.After-sheet-size) →
     let x = c .before .before .before .before .before .before .args in
-    sheetOfValues (x .job .policy) (x .routed .length) (x .routed .plan) (c .before .before .picks .result) (c .before .walk-runs .result) ≡ sheetText (jobOf (x .job))
+    let picks = c .before .before .picks .result in
+    let runs = c .before .walk-runs .result in
+    sheetOfValues (x .job .policy) (x .routed .length) (x .routed .plan) picks runs ≡ sheetText (jobOf (x .job))
 sheet-known c =
-    let c₀ = c .before .before .before .before .before .before in
-    routed-sheet (c₀ .args .job) (c₀ .args .routed) (c₀ .pre .0) (c₀ .pre .1) (c .before .before .picks .result) (c .before .walk-runs .result) (c .before .before .picks .ensures .0) (c .before .walk-runs .ensures .0)
+    let start = c .before .before .before .before .before .before in
+    let picks = c .before .before .picks in
+    let runs = c .before .walk-runs in
+    routed-sheet (start .args .job) (start .args .routed) (start .pre .0) (start .pre .1) (picks .result) (runs .result) (picks .ensures .0) (runs .ensures .0)
 
 picks-requires : tie.Need-picks-requires
 unfolding SameAisles
 picks-requires c κs =
-    let c₀ = c .before .before .before in
-    (c₀ .pre .0, same-aisles (c₀ .args .job) (c₀ .args .routed) (c₀ .pre .0) (c₀ .pre .1))
+    let start = c .before .before .before in
+    (start .pre .0, same-aisles (start .args .job) (start .args .routed) (start .pre .0) (start .pre .1))
 
 walk-runs-requires : tie.Need-walk-runs-requires
 walk-runs-requires c κs =
-    let c₀ = c .before .before .before .before in
-    routed-lawful (c₀ .args .job) (c₀ .args .routed) (c₀ .pre .0) (c₀ .pre .1)
+    let start = c .before .before .before .before in
+    routed-lawful (start .args .job) (start .args .routed) (start .pre .0) (start .pre .1)
 
+-- the counts are all that the writers ask of the values
 sheet-size-requires : tie.Need-sheet-size-requires
 sheet-size-requires c κs =
-    let c₀ = c .before .before .before .before .before in
-    routed-counts (c₀ .args .job) (c₀ .args .routed) (c₀ .pre .0) (c₀ .pre .1) (c .before .picks .result) (c .walk-runs .result) (c .before .picks .ensures .1) (c .walk-runs .ensures .1)
+    let start = c .before .before .before .before .before in
+    let picks = c .before .picks in
+    let runs = c .walk-runs in
+    let counts = routed-counts (start .args .job) (start .args .routed) (start .pre .0) (start .pre .1) (picks .result) (runs .result) (picks .ensures .1) (runs .ensures .1) in
+    record {
+      some-aisle = omega (arith, counts .some-aisle);
+      aisle-count = omega (arith, counts .aisle-count);
+      pick-count = omega (arith, counts .pick-count);
+      run-count = omega (arith, counts .run-count);
+    }
 
 returns : tie.Need-returns
 returns c work =

@@ -49,9 +49,31 @@ clear-requires c κs = search needs
 same-length : tie.Need-same-length
 same-length c = search needs
 
+-- the length is the table's entry for the whole list before the first aisle
 returns : tie.Need-returns
 unfolding jobOf
-returns c = (record { aisles = (c .before .before .before .before .before .before .read-plan) .ensures .0; plan = (c .before .before .before .before .before .before .read-plan) .ensures .1; length = (let w = within ((c .before .before .before .before .before .before .before .before .before .before .before .before .before .before .before) .args .job .layout) (((c .before .before .before .before .before .before .before .before .before .before .before .before .before .before .before) .pre .0 .admitted) .layout) in let u = (c .before .before .before .before .before .before .before .before .before .before .before .before .digits-of) .ensures .counted in let p = (c .before .before .before .before .before .before .before .before .before .before .before .before .digits-of) .ensures .small in let at : (((c .before .before .before .before .before .before .before .before .before .before .before .before .digits-of) .result .weight) - 1) * 8 ≡ (1 - 1) * 2048 + (((weight ((jobOf ((c .before .before .before .before .before .before .before .before .before .before .before .before .before .before .before) .args .job)) .lines)) - 1) * 8 + 0) = omega arith in let f : suc ((c .before .before .before .before .before .before .before .before .before .before .before .before .before .before .before) .args .job .layout .aisles) - 1 ≡ ((c .before .before .before .before .before .before .before .before .before .before .before .before .before .before .before) .args .job .layout .aisles) = omega arith in (c .before .before .before .before .wide) .ensures .0 ∙ ap (λ k. getD ((c .before .before .before .before .before .before .before .before .before .before .fill-table) .last .0) k 0) at ∙ (c .before .before .before .before .before .before .before .before .before .before .fill-table) .ensures .0 1 0 ((weight ((jobOf ((c .before .before .before .before .before .before .before .before .before .before .before .before .before .before .before) .args .job)) .lines)) - 1) (omega arith) (omega arith) (omega arith) (omega arith) ∙ ap (λ k. value (routing (jobOf ((c .before .before .before .before .before .before .before .before .before .before .before .before .before .before .before) .args .job)) (allActions (jobOf ((c .before .before .before .before .before .before .before .before .before .before .before .before .before .before .before) .args .job)))) k 1 nothing (demandOf (radices (jobOf ((c .before .before .before .before .before .before .before .before .before .before .before .before .before .before .before) .args .job))) ((weight ((jobOf ((c .before .before .before .before .before .before .before .before .before .before .before .before .before .before .before) .args .job)) .lines)) - 1))) f ∙ start-length (jobOf ((c .before .before .before .before .before .before .before .before .before .before .before .before .before .before .before) .args .job)) ((c .before .before .before .before .before .before .before .before .before .before .before .before .before .before .before) .pre .0 .admitted)) }, (c .before .before .clear) .ensures ∙ ap (λ k. replicate k 0) ((c .before .before .before .before .before .before .before .before .before .before .fill-table) .ensures .1))
+returns c =
+    let start = c .before .before .before .before .before .before .before .before .before .before .before .before .before .before .before in
+    let digits = c .before .before .before .before .before .before .before .before .before .before .before .before .digits-of in
+    let filled = c .before .before .before .before .before .before .before .before .before .before .fill-table in
+    let read = c .before .before .before .before .before .before .read-plan in
+    let job = jobOf (start .args .job) in
+    let whole = weight (job .lines) - 1 in
+    let w = within (start .args .job .layout) (start .pre .0 .admitted .layout) in
+    let counted = digits .ensures .counted in
+    let small = digits .ensures .small in
+    let at : (digits .result .weight - 1) * 8 ≡ (1 - 1) * 2048 + (whole * 8 + 0) = omega arith in
+    let left : suc (job .layout .aisles) - 1 ≡ job .layout .aisles = omega arith in
+    let entry = filled .ensures .0 1 0 whole (omega arith) (omega arith) (omega arith) (omega arith) in
+    let total =
+    c .before .before .before .before .wide .ensures .0
+    ∙ ap (λ k. getD (filled .last .0) k 0) at
+    ∙ entry
+    ∙ ap (λ k. value (routing job (allActions job)) k 1 nothing (demandOf (radices job) whole)) left
+    ∙ start-length job (start .pre .0 .admitted) in (
+      record { aisles = read .ensures .0; plan = read .ensures .1; length = total },
+      c .before .before .clear .ensures ∙ ap (λ k. replicate k 0) (filled .ensures .1),
+    )
 
 pub route-spec : {M : Type 1} → statement M
 route-spec =

@@ -34,12 +34,15 @@ byte-left c = omega (arith, room c, length-append (header letterR 1 ++ numeral (
 
 -- the number is written
 number-written : (c : tie.After-slice-known3) →
-    let c₀ = c .before .before .before .before .before .before .before .before .before in
+    let x = c .before .before .before .before .before .before .before .before .before .args in
     let h = c .before .before .before .before .before .before .write-header in
-    Written (header letterR 1 ++ numeral (c₀ .args .number)) (now (c₀ .args .sheet)) (putMid (h .result) (length (h .last .0) - h .result) (h .last .0) (c .before .before .write-number .last .0)) (h .result + c .before .before .write-number .result)
+    let n = c .before .before .write-number in
+    let after = putMid (h .result) (length (h .last .0) - h .result) (h .last .0) (n .last .0) in
+    Written (header letterR 1 ++ numeral (x .number)) (now (x .sheet)) after (h .result + n .result)
 number-written c =
-    let c₀ = c .before .before .before .before .before .before .before .before .before in
-    written-rest (c .before .before .before .before .before .before .write-header .ensures) (numeral (c₀ .args .number)) (number-room c₀) (c .before .before .write-number .ensures)
+    let start = c .before .before .before .before .before .before .before .before .before in
+    let h = c .before .before .before .before .before .before .write-header in
+    written-rest (h .ensures) (numeral (start .args .number)) (number-room start) (c .before .before .write-number .ensures)
 
 write-header-requires : tie.Need-write-header-requires
 write-header-requires c κs = header-room (c .before .before)
@@ -55,8 +58,8 @@ part-write-number-end c = search needs
 
 write-number-requires : tie.Need-write-number-requires
 write-number-requires c κs =
-    let c₀ = c .before .before .before .before .before .before in
-    rest-room (c .before .before .before .write-header .ensures) (numeral (c₀ .args .number)) (number-room c₀)
+    let start = c .before .before .before .before .before .before in
+    rest-room (c .before .before .before .write-header .ensures) (numeral (start .args .number)) (number-room start)
 
 add-at : tie.Need-add-at
 add-at c = omega (arith, number-written c .count, number-room (c .before .before .before .before .before .before .before .before .before))
@@ -68,7 +71,9 @@ add-result : tie.Need-add-result
 add-result c = omega (arith, number-written c .count, byte-left (c .before .before .before .before .before .before .before .before .before))
 
 returns : tie.Need-returns
-returns c = written-as (in-order (c .before .before .before .before .before .before .before .before .before)) (written-byte (number-written c) lineFeed (byte-left (c .before .before .before .before .before .before .before .before .before)))
+returns c =
+    let start = c .before .before .before .before .before .before .before .before .before in
+    written-as (in-order start) (written-byte (number-written c) lineFeed (byte-left start))
 
 same-length : tie.Need-same-length
 same-length c = written-length (returns c) (c .before .before .before .before .before .before .before .before .before .pre)

@@ -1,0 +1,31 @@
+-- `planner::serve` meets its contract: the reply and the sheet are those of `finish`, the work area is as `route` left it.
+use borrow.Author.Needs.{needs}
+use Rattle.planner.proofs.serve.Statement.{statement}
+use Rattle.planner.proofs.serve.Tie as tie
+
+route-requires : tie.Need-route-requires
+route-requires c κs = search needs
+
+finish-requires : tie.Need-finish-requires
+finish-requires c κs = search needs
+
+same-length : tie.Need-same-length
+same-length c = search needs
+
+same-length-2 : tie.Need-same-length-2
+same-length-2 c = search needs
+
+returns : tie.Need-returns
+returns c =
+    let routed = c .before .before .before .before .before .before .route in
+    (c .before .before .finish .ensures, routed .ensures .1)
+
+pub serve-spec : {M : Type 1} → statement M
+serve-spec =
+    tie.close
+    (tie.spec
+    route-requires
+    finish-requires
+    same-length
+    same-length-2
+    returns)
