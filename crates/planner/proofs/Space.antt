@@ -7,14 +7,17 @@ use mathlib.Core.Bool.{Bool, true, false}
 use mathlib.Core.Option.{Option, none, some}
 use lib.Dec.{ltb}
 use lib.ListN.{length}
+use borrow.Author.Tests.{ltb-true, ltb-false}
 use Rattle.rules.specs.declared.Refusal.{Refusal}
+use Rattle.rules.specs.declared.Refusal.the-variants.{WorkArea, SheetSpace}
 use Rattle.rules.specs.Jobs.{Job}
 use Rattle.rules.specs.JobFile.{readJob}
 use Rattle.rules.specs.BestPlan.{bestPlan}
 use Rattle.rules.specs.FirstWalk.{firstWalk}
 use Rattle.rules.specs.Refusals.{Admitted, jobRefusal, Checked, good, bad, checkJob, checkBytes, workLimit}
 use Rattle.rules.specs.Sheet.{sheetText}
-use Rattle.rules.specs.Answers.{replyLength, sheetLimit, refused, written, answerChecked, answer}
+use Rattle.rules.specs.Answers.{replyLength, sheetLimit, refused, served, answer}
+use Rattle.rules.proofs.Answering.{answer-area, answer-bad, answer-long, answer-served}
 use Rattle.rules.proofs.Admission.{layout-within, admitted}
 use Rattle.closedwalks.proofs.Statements.{first-walk, few-steps}
 use Rattle.optimum.proofs.Best.{best-plan}
@@ -43,24 +46,31 @@ checked-admitted bytes job = read (readJob bytes) refl
     read (some j) t e = judged j (jobRefusal j) refl (rw (t, checkBytes) at e)
 
 module _ (bytes sheet work : List ℕ) where
-  written-length : (text : List ℕ) → length text ≤ sheetLimit → replyLength (written text sheet work .reply) ≤ sheetLimit
-  unfolding written
-  written-length text h = go (ltb (length sheet) (length text)) refl
-    where
-      go : (t : Bool) → ltb (length sheet) (length text) ≡ t → replyLength (written text sheet work .reply) ≤ sheetLimit
-      go true t = rw (t, written) (omega arith)
-      go false t = rw (t, written) h
+  abbrev replied : ℕ
+  replied = replyLength (answer bytes sheet work .reply)
 
-  checked-length : (checked : Checked) → checkBytes bytes ≡ checked → replyLength (answerChecked checked sheet work .reply) ≤ sheetLimit
-  unfolding answerChecked refused
-  checked-length (good job) e = written-length (sheetText job) (sheet-suffices job (checked-admitted bytes job e))
-  checked-length (bad r) e = omega arith
+  refused-length : (r : Refusal) → answer bytes sheet work ≡ refused r sheet work → replied ≤ sheetLimit
+  unfolding refused
+  refused-length r e = rw e (omega arith)
+
+  good-length : workLimit ≤ length work → (job : Job) → checkBytes bytes ≡ good job → replied ≤ sheetLimit
+  unfolding served
+  good-length h job e = go (ltb (length sheet) (length (sheetText job))) refl
+    where
+      go : (t : Bool) → ltb (length sheet) (length (sheetText job)) ≡ t → replied ≤ sheetLimit
+      go true t = refused-length SheetSpace (answer-long bytes sheet work h job e (ltb-true (length sheet) (length (sheetText job)) t))
+      go false t =
+          rw (answer-served bytes sheet work h job e (ltb-false (length sheet) (length (sheetText job)) t))
+          (sheet-suffices job (checked-admitted bytes job e))
 
   -- the byte count that a call returns is at most 16,384
-  pub served-length : replyLength (answer bytes sheet work .reply) ≤ sheetLimit
-  unfolding answer refused
+  pub served-length : replied ≤ sheetLimit
   served-length = go (ltb (length work) workLimit) refl
     where
-      go : (t : Bool) → ltb (length work) workLimit ≡ t → replyLength (answer bytes sheet work .reply) ≤ sheetLimit
-      go true t = rw (t, answer, refused) (omega arith)
-      go false t = rw (t, answer) (checked-length (checkBytes bytes) refl)
+      checked : workLimit ≤ length work → (c : Checked) → checkBytes bytes ≡ c → replied ≤ sheetLimit
+      checked h (good job) e = good-length h job e
+      checked h (bad r) e = refused-length r (answer-bad bytes sheet work h r e)
+
+      go : (t : Bool) → ltb (length work) workLimit ≡ t → replied ≤ sheetLimit
+      go true t = refused-length WorkArea (answer-area bytes sheet work (ltb-true (length work) workLimit t))
+      go false t = checked (ltb-false (length work) workLimit t) (checkBytes bytes) refl

@@ -8,15 +8,14 @@ ghost use mathlib.Core.Path.{_≡_};
 ghost use Prim.Native.Nat.{ℕ, _≤_};
 ghost use lib.ListN.{length, replicate};
 ghost use mathlib.Core.List.{List};
-ghost use Rattle.rules.specs.Sheet.{sheetText};
-ghost use Rattle.rules.specs.Answers.{written, answer};
+ghost use Rattle.rules.specs.Answers.{answer};
 ghost use Rattle.values.specs.Values.{Sound, RoutedOf, jobOf};
-ghost use Rattle.planner.specs.Answered.{Replied, Answered};
+ghost use Rattle.planner.specs.Answered.{written, Replied, Answered};
 
 // The sheet of a routed job: its text in front, bytes past it as they were; refused where the text is longer than its space.
 fn finish(job: JobValue, routed: Routed, sheet: &mut [u8]) -> Reply
     requires { ⌜ Sound job × RoutedOf (jobOf job) routed ⌝ }
-    ensures { λ r. ⌜ ((work : List ℕ) → Replied (written (sheetText (jobOf job)) (now (sheet .entry)) work) r (now (sheet .exit))) ⌝ }
+    ensures { λ r. ⌜ ((work : List ℕ) → Replied (written (jobOf job) (now (sheet .entry)) work) r (now (sheet .exit))) ⌝ }
 {
     let layout = job.layout;
     let policy = job.policy;
@@ -34,7 +33,7 @@ fn finish(job: JobValue, routed: Routed, sheet: &mut [u8]) -> Reply
 // Serves a job to which no refusal of 1 to 8 applies, and leaves the work area all zero.
 fn serve(job: JobValue, sheet: &mut [u8], work: &mut [u16]) -> Reply
     requires { ⌜ Sound job × (32768 ≤ length (now work)) ⌝ }
-    ensures { λ r. ⌜ ((others : List ℕ) → Replied (written (sheetText (jobOf job)) (now (sheet .entry)) others) r (now (sheet .exit))) ⌝ }
+    ensures { λ r. ⌜ ((others : List ℕ) → Replied (written (jobOf job) (now (sheet .entry)) others) r (now (sheet .exit))) ⌝ }
     ensures { λ r. ⌜ now (work .exit) ≡ replicate (length (now (work .entry))) 0 ⌝ }
 {
     let routed = router::route(job, work);

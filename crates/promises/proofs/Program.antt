@@ -8,7 +8,7 @@ use mathlib.Core.List.{List, _++_}
 use mathlib.Core.Bool.{Bool, true, false}
 use mathlib.Core.Option.{none}
 use borrow.Author.Tests.{leb-true, leb-false, lt-leb, le-ltb}
-use lib.Dec.{ltb, leb}
+use lib.Dec.{leb}
 use lib.ListN.{length, take, length-take, length-replicate}
 use lib.Seq.{take-all}
 use Rattle.rules.specs.declared.Refusal.{Refusal}
@@ -17,8 +17,8 @@ use Rattle.rules.specs.declared.Reply.{Reply}
 use Rattle.rules.specs.declared.Reply.the-variants.{Served, Refused}
 use Rattle.rules.specs.Jobs.{Job}
 use Rattle.rules.specs.JobFile.{lineFeed, header, field, jobFileLimit, readJob}
-use Rattle.rules.specs.Refusals.{checkBytes, workLimit}
-use Rattle.rules.specs.Answers.{replyLength, sheetLimit, refused, answerChecked, answer, hostAnswer, letterR, printed, output}
+use Rattle.rules.specs.Refusals.{workLimit, table, firstRow}
+use Rattle.rules.specs.Answers.{replyLength, sheetLimit, refused, decided, answer, hostAnswer, letterR, printed, output}
 use Rattle.promises.specs.Calls.{hostWork, programSheet, PrintsSheet, PrintsRefusal}
 use Rattle.promises.proofs.Table.{refused-by, served-by}
 use Rattle.promises.proofs.Shown.{served-call}

@@ -54,7 +54,7 @@ sheet-size-requires c κs =
 returns : tie.Need-returns
 returns c work =
     let x = c .before .before .before .before .before .before .before .args in
-    replied-short (sheetText (jobOf (x .job))) (now (x .sheet)) work
+    replied-short (jobOf (x .job)) (now (x .sheet)) work
     (omega (arith, c .if1 .taken, c .before .sheet-size .ensures .count, ap length (sheet-known (c .before))))
 
 write-sheet-requires : tie.Need-write-sheet-requires
@@ -68,7 +68,7 @@ returns-2 : tie.Need-returns-2
 returns-2 c work =
     let s = c .before .before .before .before .before in
     let x = s .before .before .before .before .before .before .args in
-    replied-written (sheetText (jobOf (x .job))) (now (x .sheet)) work (c .before .before .write-sheet .last .0) (c .before .before .write-sheet .result)
+    replied-written (jobOf (x .job)) (now (x .sheet)) work (c .before .before .write-sheet .last .0) (c .before .before .write-sheet .result)
     (omega (arith, c .before .before .before .before .if1 .left, s .sheet-size .ensures .count, ap length (sheet-known s)))
     (subst (λ t. Written t (now (x .sheet)) (c .before .before .write-sheet .last .0) (c .before .before .write-sheet .result)) (sheet-known s) (c .before .before .write-sheet .ensures))
 
