@@ -33,34 +33,34 @@ returns c =
     sym (mark-passed (x .marks) (x .row) (rw (← c .before .before .is-within .ensures, ← c .before .is-within2 .ensures) (not-true _ (c .if1 .taken))))
 
 sub-aisle : tie.Need-sub-aisle
-sub-aisle c = in-marks (c .before .before .before .before .args .row) (has-bit (c .before)) .aisle .0
+sub-aisle c = let bit = in-marks (c .before .before .before .before .args .row) (has-bit (c .before)) in omega arith
 
 sub-cell : tie.Need-sub-cell
-sub-cell c = in-marks (c .before .before .before .before .before .args .row) (has-bit (c .before .before)) .cell .0
+sub-cell c = let bit = in-marks (c .before .before .before .before .before .args .row) (has-bit (c .before .before)) in omega arith
 
 mul-cells : tie.Need-mul-cells
-mul-cells c = omega (arith, there c .aisle .1)
+mul-cells c = let bit = there c in omega arith
 
 array-read-cells : tie.Need-array-read-cells
-array-read-cells c = omega (arith, there c .aisle .1)
+array-read-cells c = let bit = there c in omega arith
 
 cast-again : tie.Need-cast-again
-cast-again c = omega (arith, there c .cell .1)
+cast-again c = let bit = there c in omega arith
 
 shr-again : tie.Need-shr-again
-shr-again c = omega (arith, there c .cell .1)
+shr-again c = let bit = there c in omega arith
 
 cast-seen : tie.Need-cast-seen
-cast-seen c = omega (arith, there c .cell .1)
+cast-seen c = let bit = there c in omega arith
 
 shl-seen : tie.Need-shl-seen
-shl-seen c = omega (arith, there c .cell .1)
+shl-seen c = let bit = there c in omega arith
 
 mul-seen : tie.Need-mul-seen
-mul-seen c = omega (arith, there c .aisle .1)
+mul-seen c = let bit = there c in omega arith
 
 array-write-seen : tie.Need-array-write-seen
-array-write-seen c = omega (arith, there c .aisle .1)
+array-write-seen c = let bit = there c in omega arith
 
 returns-2 : tie.Need-returns-2
 returns-2 c =
