@@ -122,7 +122,10 @@ in-marks r e =
     let p = both-true (within 1 16 (r .aisle)) (within 1 24 (r .cell)) e in
     let a = both-true (leb 1 (r .aisle)) (leb (r .aisle) 16) (p .0) in
     let c = both-true (leb 1 (r .cell)) (leb (r .cell) 24) (p .1) in
-    record { aisle = (leb-true 1 (r .aisle) (a .0), leb-true (r .aisle) 16 (a .1)); cell = (leb-true 1 (r .cell) (c .0), leb-true (r .cell) 24 (c .1)) }
+    record {
+      aisle = (leb-true 1 (r .aisle) (a .0), leb-true (r .aisle) 16 (a .1));
+      cell = (leb-true 1 (r .cell) (c .0), leb-true (r .cell) 24 (c .1));
+    }
 
 module _ (seen : List ℕ) (size : length seen ≡ 16) (x : StockRecord) (inside : InMarks x) where
   -- after a record's bit was set, its cell is seen and those before are
@@ -142,7 +145,8 @@ module _ (seen : List ℕ) (size : length seen ≡ 16) (x : StockRecord) (inside
           rw (getD-set-other seen (x .aisle - 1) (r .aisle - 1) (bitOr (getD seen (x .aisle - 1) 0) (2 ^ (x .cell - 1))) 0 n) (sym (or-false (isSeen seen r)))
 
   -- some of the records is seen then
-  any-seen-more : (xs : List StockRecord) → anyOf (isSeen (setSeen seen x)) (select hasBit xs) ≡ anyOf (isSeen seen) (select hasBit xs) || anyOf (sameCell x) (select hasBit xs)
+  any-seen-more : (xs : List StockRecord)
+      → anyOf (isSeen (setSeen seen x)) (select hasBit xs) ≡ anyOf (isSeen seen) (select hasBit xs) || anyOf (sameCell x) (select hasBit xs)
   any-seen-more xs =
       any-or hasBit (isSeen seen) (sameCell x) (isSeen (setSeen seen x)) (select hasBit xs)
       (all-true hasBit (select hasBit xs) .1 (λ r m. member-select hasBit xs .0 m .1))
@@ -189,13 +193,15 @@ twice-behind (x ∷ xs) m size = go (hasBit x) refl (twice-behind xs)
     regroup false true s c w = refl
     regroup false false s c w = or-assoc s c w
 
-    go : (b : Bool) → hasBit x ≡ b → ((n : Marks) → length (n .seen) ≡ 16 → TwiceBehind n xs (select hasBit xs)) → TwiceBehind m (x ∷ xs) (cond b (x ∷ select hasBit xs) (select hasBit xs))
+    go : (b : Bool) → hasBit x ≡ b → ((n : Marks) → length (n .seen) ≡ 16 → TwiceBehind n xs (select hasBit xs))
+        → TwiceBehind m (x ∷ xs) (cond b (x ∷ select hasBit xs) (select hasBit xs))
     go true e rest =
         let after : Marks = record { seen = setSeen (m .seen) x; twice = m .twice || isSeen (m .seen) x } in
         let bits = select hasBit xs in
         ap (λ (n : Marks). marksBehind n xs .twice) (mark-set m x e)
         ∙ rest after (simp length-set size)
-        ∙ rw (any-seen-more (m .seen) size x (in-marks x e) xs) (regroup (m .twice) (isSeen (m .seen) x) (anyOf (isSeen (m .seen)) bits) (anyOf (sameCell x) bits) (anyTwo sameCell bits))
+        ∙ rw (any-seen-more (m .seen) size x (in-marks x e) xs)
+        (regroup (m .twice) (isSeen (m .seen) x) (anyOf (isSeen (m .seen)) bits) (anyOf (sameCell x) bits) (anyTwo sameCell bits))
     go false e rest = ap (λ (n : Marks). marksBehind n xs .twice) (mark-passed m x e) ∙ rest m size
 
 -- the marks of the records that were read tell whether a cell stands in two of them
@@ -206,13 +212,17 @@ cells-told xs = twice-behind xs noMarks (length-replicate {A = ℕ} 16 0) ∙ rw
 -- a stock within the bounds: a bit was found set if a cell stands in two records
 pub cells-bounded : (job : Job) → layoutInBounds (job .layout) ≡ true → stockInBounds job ≡ true → cellTwice (job .stock) ≡ anyTwo sameCell (job .stock)
 unfolding cellTwice hasBit within stockInBounds
-cells-bounded job layout stock = ap (anyTwo sameCell) (whole (job .stock) (both-true (leb (length (job .stock)) 384) (allOf (recordInBounds job) (job .stock)) stock .1))
+cells-bounded job layout stock =
+    let each = both-true (leb (length (job .stock)) 384) (allOf (recordInBounds job) (job .stock)) stock .1 in
+    ap (anyTwo sameCell) (whole (job .stock) each)
   where
     bit : (r : StockRecord) → recordInBounds job r ≡ true → hasBit r ≡ true
     bit r e =
         let w = record-within job r .0 e in
         let z = layout-within (job .layout) .0 layout in
-        rw (le-leb 1 (r .aisle) (w .aisle .0), le-leb (r .aisle) 16 (omega (arith, w .aisle .1, z .aisles .1)), le-leb 1 (r .cell) (w .cell .0), le-leb (r .cell) 24 (omega (arith, w .cell .1, z .cells .1)))
+        let aisle : r .aisle ≤ 16 = omega (arith, w .aisle .1, z .aisles .1) in
+        let cell : r .cell ≤ 24 = omega (arith, w .cell .1, z .cells .1) in
+        rw (le-leb 1 (r .aisle) (w .aisle .0), le-leb (r .aisle) 16 aisle, le-leb 1 (r .cell) (w .cell .0), le-leb (r .cell) 24 cell)
 
     whole : (xs : List StockRecord) → allOf (recordInBounds job) xs ≡ true → select hasBit xs ≡ xs
     whole [] h = refl

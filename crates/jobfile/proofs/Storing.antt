@@ -126,11 +126,15 @@ module _ {A R : Type 0} (s : List ℕ) (blank : R) (held : Cursor → List A →
   answer-some xs next e q = subst (λ (v : Reading (List A)). Answers s blank held v r) (sym e) (next, q, refl)
 
 -- the answer that holds stock records
-pub stock-held : (next : Cursor) (count : ℕ) (stock xs : List StockRecord) (twice : Bool) → count ≡ length xs → stock ≡ padded 384 noRecord xs → twice ≡ cellTwice xs → _≡_ {A = StockRead} record { ok = true; next = next; count = count; stock = stock; twice = twice } (stockRead next xs)
+pub stock-held : (next : Cursor) (count : ℕ) (stock xs : List StockRecord) (twice : Bool)
+    → count ≡ length xs → stock ≡ padded 384 noRecord xs → twice ≡ cellTwice xs
+    → _≡_ {A = StockRead} record { ok = true; next = next; count = count; stock = stock; twice = twice } (stockRead next xs)
 unfolding stockRead
 stock-held next count stock xs twice p q t = rw (p, q, t)
 
 -- the answer that holds order lines
-pub list-held : (next : Cursor) (count : ℕ) (lines xs : List OrderLine) → count ≡ length xs → lines ≡ padded 8 noLine xs → _≡_ {A = ListRead} record { ok = true; next = next; count = count; lines = lines } (listRead next xs)
+pub list-held : (next : Cursor) (count : ℕ) (lines xs : List OrderLine)
+    → count ≡ length xs → lines ≡ padded 8 noLine xs
+    → _≡_ {A = ListRead} record { ok = true; next = next; count = count; lines = lines } (listRead next xs)
 unfolding listRead
 list-held next count lines xs p q = rw (p, q)

@@ -1,5 +1,5 @@
 -- The tests on what was read of a job are those of the job, and the first row that applies is its refusal.
-use Prim.Native.Nat.{ℕ, _≤_, _<_}
+use Prim.Native.Nat.{ℕ, _≤_}
 use mathlib.Core.Path.{_≡_, refl, sym, _∙_, ap, ap₂}
 use mathlib.Core.List.{List, [], _∷_}
 use mathlib.Core.Bool.{Bool, true, false, _&&_, not, true≢false}
@@ -7,7 +7,7 @@ use mathlib.Core.Option.{Option, none, some}
 use native.Mathlib.Omega.{arith}
 use lib.Dec.{leb, ltb}
 use lib.ListN.{length, drop}
-use borrow.Author.Tests.{leb-true, leb-false, le-leb, lt-leb}
+use borrow.Author.Tests.{leb-true, leb-false, le-leb}
 use Rattle.rules.specs.declared.StockRecord.{StockRecord}
 use Rattle.rules.specs.declared.OrderLine.{OrderLine}
 use Rattle.rules.specs.declared.Refusal.{Refusal}
@@ -25,7 +25,6 @@ use Rattle.jobfile.specs.declared.raw.RawJob.{RawJob}
 use Rattle.jobfile.specs.declared.Verdict.{Verdict}
 use Rattle.jobfile.specs.declared.ReadJob.{ReadJob}
 use Rattle.jobfile.specs.Ready.{StockReady, ListReady}
-use Rattle.jobfile.specs.Marking.{cellTwice}
 use Rattle.jobfile.specs.Kept.{noRecord, noLine, jobValue, rawOf}
 use Rattle.jobfile.specs.Answer.{verdictOf, Decides, checkedAs, checkedOf, answerTo}
 use Rattle.jobfile.proofs.Cells.{cells-bounded}
@@ -51,6 +50,10 @@ list-ready v e =
     record { count = leb-true (v .orders) 8 (t .0); list = t .1 }
 
 module _ (job : Job) where
+  -- the job with other records and lines
+  abbrev among : List StockRecord → List OrderLine → Job
+  among records lines = record { layout = job .layout; policy = job .policy; stock = records; lines = lines }
+
   -- all records are kept
   whole-stock : length (job .stock) ≤ 384 → jobOf (jobValue job) .stock ≡ job .stock
   unfolding jobOf jobValue
@@ -64,7 +67,7 @@ module _ (job : Job) where
   -- the whole job is kept
   whole-job : length (job .stock) ≤ 384 → length (job .lines) ≤ 8 → jobOf (jobValue job) ≡ job
   unfolding jobOf jobValue
-  whole-job h l = ap₂ (λ (records : List StockRecord) (lines : List OrderLine). record { layout = job .layout; policy = job .policy; stock = records; lines = lines }) (whole-stock h) (whole-lines l)
+  whole-job h l = ap₂ among (whole-stock h) (whole-lines l)
 
   -- the test of the stock is that of the job
   stock-same : stockTest (jobValue job) ≡ stockInBounds job
@@ -72,7 +75,7 @@ module _ (job : Job) where
   stock-same = go (leb (length (job .stock)) 384) refl
     where
       go : (b : Bool) → leb (length (job .stock)) 384 ≡ b → b && stockInBounds (jobOf (jobValue job)) ≡ stockInBounds job
-      go true e = ap (λ (records : List StockRecord). stockInBounds (record { layout = job .layout; policy = job .policy; stock = records; lines = job .lines })) (whole-stock (leb-true (length (job .stock)) 384 e))
+      go true e = ap (λ (records : List StockRecord). stockInBounds (among records (job .lines))) (whole-stock (leb-true (length (job .stock)) 384 e))
       go false e = rw (stockInBounds, e)
 
   -- the test of the list is that of the job
@@ -81,7 +84,7 @@ module _ (job : Job) where
   list-same = go (leb (length (job .lines)) 8) refl
     where
       go : (b : Bool) → leb (length (job .lines)) 8 ≡ b → b && listInBounds (jobOf (jobValue job)) ≡ listInBounds job
-      go true e = ap (λ (lines : List OrderLine). listInBounds (record { layout = job .layout; policy = job .policy; stock = job .stock; lines = lines })) (whole-lines (leb-true (length (job .lines)) 8 e))
+      go true e = ap (λ (lines : List OrderLine). listInBounds (among (job .stock) lines)) (whole-lines (leb-true (length (job .lines)) 8 e))
       go false e = rw (listInBounds, within, e, le-leb 1 (length (job .lines)) (omega (arith, leb-false (length (job .lines)) 8 e)))
 
 -- the outcomes of the tests on what was read are those of the tests on the job
@@ -114,15 +117,21 @@ module _ (raw : RawJob) (job : Job) (e : raw ≡ rawOf (some job)) where
 
     articles-on : listTest (raw .job) ≡ true → anyTwo sameArticle (jobOf (raw .job) .lines) ≡ b → anyTwo sameArticle (job .lines) ≡ b
     unfolding rawOf
-    articles-on l t = ap (anyTwo sameArticle) (sym (whole-lines job (list-kept l))) ∙ sym (ap (λ (r : RawJob). anyTwo sameArticle (jobOf (r .job) .lines)) e) ∙ t
+    articles-on l t =
+        ap (anyTwo sameArticle) (sym (whole-lines job (list-kept l)))
+        ∙ sym (ap (λ (r : RawJob). anyTwo sameArticle (jobOf (r .job) .lines)) e) ∙ t
 
     weight-on : listTest (raw .job) ≡ true → ltb 256 (weight (jobOf (raw .job) .lines)) ≡ b → ltb 256 (weight (job .lines)) ≡ b
     unfolding rawOf
-    weight-on l t = ap (λ (lines : List OrderLine). ltb 256 (weight lines)) (sym (whole-lines job (list-kept l))) ∙ sym (ap (λ (r : RawJob). ltb 256 (weight (jobOf (r .job) .lines))) e) ∙ t
+    weight-on l t =
+        ap (λ (lines : List OrderLine). ltb 256 (weight lines)) (sym (whole-lines job (list-kept l)))
+        ∙ sym (ap (λ (r : RawJob). ltb 256 (weight (jobOf (r .job) .lines))) e) ∙ t
 
     short-on : stockTest (raw .job) ≡ true → listTest (raw .job) ≡ true → shortOfStock (jobOf (raw .job)) ≡ b → shortOfStock job ≡ b
     unfolding rawOf
-    short-on s l t = ap shortOfStock (sym (whole-job job (stock-kept s) (list-kept l))) ∙ sym (ap (λ (r : RawJob). shortOfStock (jobOf (r .job))) e) ∙ t
+    short-on s l t =
+        ap shortOfStock (sym (whole-job job (stock-kept s) (list-kept l)))
+        ∙ sym (ap (λ (r : RawJob). shortOfStock (jobOf (r .job))) e) ∙ t
 
 -- the refusal of the job that was read is that of the rows
 abbrev pub Rows : RawJob → (Job → List (Bool × Refusal)) → Type 0
@@ -142,7 +151,8 @@ module _ (raw : RawJob) (b : Bool) where
   unfolding jobRows
   row-stock h t job e = h job e ∙ rw (stock-on raw job e t)
 
-  pub row-cells : Past 2 raw → layoutInBounds (raw .job .layout) ≡ true → stockTest (raw .job) ≡ true → raw .twice ≡ b → Rows raw (λ (job : Job). (b, CellTwice) ∷ drop 3 (jobRows job))
+  pub row-cells : Past 2 raw → layoutInBounds (raw .job .layout) ≡ true → stockTest (raw .job) ≡ true → raw .twice ≡ b
+      → Rows raw (λ (job : Job). (b, CellTwice) ∷ drop 3 (jobRows job))
   unfolding jobRows
   row-cells h l s t job e = h job e ∙ rw (cells-on raw job e l s t)
 
@@ -150,15 +160,18 @@ module _ (raw : RawJob) (b : Bool) where
   unfolding jobRows
   row-list h t job e = h job e ∙ rw (list-on raw job e t)
 
-  pub row-articles : Past 4 raw → listTest (raw .job) ≡ true → anyTwo sameArticle (jobOf (raw .job) .lines) ≡ b → Rows raw (λ (job : Job). (b, ArticleTwice) ∷ drop 5 (jobRows job))
+  pub row-articles : Past 4 raw → listTest (raw .job) ≡ true → anyTwo sameArticle (jobOf (raw .job) .lines) ≡ b
+      → Rows raw (λ (job : Job). (b, ArticleTwice) ∷ drop 5 (jobRows job))
   unfolding jobRows
   row-articles h l t job e = h job e ∙ rw (articles-on raw job e l t)
 
-  pub row-weight : Past 5 raw → listTest (raw .job) ≡ true → ltb 256 (weight (jobOf (raw .job) .lines)) ≡ b → Rows raw (λ (job : Job). (b, TooHeavy) ∷ drop 6 (jobRows job))
+  pub row-weight : Past 5 raw → listTest (raw .job) ≡ true → ltb 256 (weight (jobOf (raw .job) .lines)) ≡ b
+      → Rows raw (λ (job : Job). (b, TooHeavy) ∷ drop 6 (jobRows job))
   unfolding jobRows
   row-weight h l t job e = h job e ∙ rw (weight-on raw job e l t)
 
-  pub row-short : Past 6 raw → stockTest (raw .job) ≡ true → listTest (raw .job) ≡ true → shortOfStock (jobOf (raw .job)) ≡ b → Rows raw (λ (job : Job). (b, ShortOfStock) ∷ [])
+  pub row-short : Past 6 raw → stockTest (raw .job) ≡ true → listTest (raw .job) ≡ true → shortOfStock (jobOf (raw .job)) ≡ b
+      → Rows raw (λ (job : Job). (b, ShortOfStock) ∷ [])
   unfolding jobRows
   row-short h s l t job e = h job e ∙ rw (short-on raw job e s l t)
 
@@ -210,7 +223,8 @@ sound (some job) q = go (jobRefusal job) refl q
     go (some x) e q = not-admitted q
 
 -- the answer to the bytes, and what follows of it
-pub answered : (s : List ℕ) (r : ReadJob) → r ≡ answerTo (readJob s) → (checkedOf r ≡ checkBytes s) × ((r .verdict ≡ Verdict.Admitted → Sound (r .job)) × (r ≡ answerTo (readJob s)))
+pub answered : (s : List ℕ) (r : ReadJob) → r ≡ answerTo (readJob s)
+    → (checkedOf r ≡ checkBytes s) × ((r .verdict ≡ Verdict.Admitted → Sound (r .job)) × (r ≡ answerTo (readJob s)))
 answered s r e = (ap checkedOf e ∙ checked s, (λ q. rw e (sound (readJob s) (ap (λ (a : ReadJob). a .verdict) (sym e) ∙ q)), e))
 
 module _ (raw : RawJob) where

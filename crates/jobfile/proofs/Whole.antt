@@ -4,7 +4,6 @@ use mathlib.Core.Path.{_≡_, refl, sym, _∙_, ap, ap₂}
 use mathlib.Core.List.{List}
 use mathlib.Core.Bool.{Bool, true, false, true≢false}
 use mathlib.Core.Option.{Option, none, some}
-use native.Mathlib.Omega.{arith}
 use lib.Dec.{leb}
 use lib.ListN.{length, drop, drop-of-length-le}
 use borrow.Author.Tests.{le-leb, lt-leb}
@@ -29,12 +28,14 @@ pub record LinesRead {A R : Type 0} (s : List ℕ) (held : Cursor → List A →
 
 module _ {A R : Type 0} (s : List ℕ) (blank : R) (held : Cursor → List A → R) (ok : R → Bool) (place : R → Cursor) where
   -- lines that could not be read
-  missing : ((next : Cursor) (xs : List A) → ok (held next xs) ≡ true) → (reading : Reading (List A)) (r : R) → Answers s blank held reading r → ok r ≡ false → reading ≡ none
+  missing : ((next : Cursor) (xs : List A) → ok (held next xs) ≡ true)
+      → (reading : Reading (List A)) (r : R) → Answers s blank held reading r → ok r ≡ false → reading ≡ none
   missing holds none r h e = refl
   missing holds (some (xs, rest)) r h e = absurd (true≢false (sym (holds (h .0) xs) ∙ ap ok (sym (h .1)) ∙ e))
 
   -- lines that were read
-  there : ok blank ≡ false → ((next : Cursor) (xs : List A) → place (held next xs) ≡ next) → (reading : Reading (List A)) (r : R) → Answers s blank held reading r → ok r ≡ true → LinesRead s held place reading r
+  there : ok blank ≡ false → ((next : Cursor) (xs : List A) → place (held next xs) ≡ next)
+      → (reading : Reading (List A)) (r : R) → Answers s blank held reading r → ok r ≡ true → LinesRead s held place reading r
   there fails at none r h e = absurd (true≢false (sym e ∙ ap ok h ∙ fails))
   there fails at (some (xs, rest)) r h e =
       let same : h .0 ≡ place r = sym (at (h .0) xs) ∙ ap place (sym (h .1)) in
@@ -70,11 +71,19 @@ module _ (s : List ℕ) where
   list-there = there s noList listRead (λ (r : ListRead). r .ok) (λ (r : ListRead). r .next) refl (λ next xs. refl)
 
 -- what is kept of a job whose lines were read
-pub raw-held : (z : Layout) (policy : Policy) (a : StockRead) (b : ListRead) (records : List StockRecord) (lines : List OrderLine) (next last : Cursor) → a ≡ stockRead next records → b ≡ listRead last lines
-    → _≡_ {A = RawJob} record { ok = true; job = record { layout = z; policy = policy; records = a .count; stock = a .stock; orders = b .count; lines = b .lines }; twice = a .twice } (rawOf (some (record { layout = z; policy = policy; stock = records; lines = lines })))
+abbrev rawFrom : Layout → Policy → StockRead → ListRead → RawJob
+rawFrom z policy a b =
+    record {
+      ok = true;
+      job = record { layout = z; policy = policy; records = a .count; stock = a .stock; orders = b .count; lines = b .lines };
+      twice = a .twice;
+    }
+
+pub raw-held : (z : Layout) (policy : Policy) (a : StockRead) (b : ListRead) (records : List StockRecord) (lines : List OrderLine) (next last : Cursor)
+    → a ≡ stockRead next records → b ≡ listRead last lines
+    → rawFrom z policy a b ≡ rawOf (some (record { layout = z; policy = policy; stock = records; lines = lines }))
 unfolding rawOf jobValue stockRead listRead
-raw-held z policy a b records lines next last p q =
-    ap₂ (λ (v : StockRead) (w : ListRead). record { ok = true; job = record { layout = z; policy = policy; records = v .count; stock = v .stock; orders = w .count; lines = w .lines }; twice = v .twice }) p q
+raw-held z policy a b records lines next last p q = ap₂ (rawFrom z policy) p q
 
 -- too many bytes
 pub too-long : (s : List ℕ) → 16384 < length s → readJob s ≡ none

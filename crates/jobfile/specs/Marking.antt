@@ -1,6 +1,6 @@
 -- A cell in two stock records: each aisle's cells as bits of a number, tested and set as the records are read.
 use Prim.Native.Nat.{ℕ, _-_, _/_, _%_, _^_}
-use mathlib.Core.List.{List, [], _∷_}
+use mathlib.Core.List.{List}
 use mathlib.Core.Bool.{Bool, false, cond, _&&_, _||_}
 use lib.Bits.{bitOr}
 use lib.Dec.{eqb}

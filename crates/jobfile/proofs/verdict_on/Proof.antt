@@ -70,7 +70,8 @@ layout-in-bounds-requires c κs = search needs
 returns : tie.Need-returns
 returns c =
     let raw = c .before .before .before .before .args .raw in
-    refused raw LayoutBounds (row-layout raw false (sym (c .before .layout-in-bounds .ensures) ∙ not-true (c .before .layout-in-bounds .result) (c .if1 .taken)))
+    let r = c .before .layout-in-bounds in
+    refused raw LayoutBounds (row-layout raw false (sym (r .ensures) ∙ not-true (r .result) (c .if1 .taken)))
 
 stock-in-bounds-requires : tie.Need-stock-in-bounds-requires
 stock-in-bounds-requires c κs = search needs
@@ -79,7 +80,8 @@ returns-2 : tie.Need-returns-2
 returns-2 c =
     let at-stock = c .before .before in
     let raw = raw-1 at-stock in
-    refused raw StockBounds (row-stock raw false (past-layout at-stock) (sym (c .before .stock-in-bounds .ensures) ∙ not-true (c .before .stock-in-bounds .result) (c .if2 .taken)))
+    let r = c .before .stock-in-bounds in
+    refused raw StockBounds (row-stock raw false (past-layout at-stock) (sym (r .ensures) ∙ not-true (r .result) (c .if2 .taken)))
 
 returns-3 : tie.Need-returns-3
 returns-3 c =
@@ -94,7 +96,8 @@ returns-4 : tie.Need-returns-4
 returns-4 c =
     let at-list = c .before .before in
     let raw = raw-3 at-list in
-    refused raw ListBounds (row-list raw false (past-cells at-list) (sym (c .before .list-in-bounds .ensures) ∙ not-true (c .before .list-in-bounds .result) (c .if4 .taken)))
+    let r = c .before .list-in-bounds in
+    refused raw ListBounds (row-list raw false (past-cells at-list) (sym (r .ensures) ∙ not-true (r .result) (c .if4 .taken)))
 
 article-twice-requires : tie.Need-article-twice-requires
 article-twice-requires c κs = list-ready (raw-4 c .job) (list-true c)
@@ -125,14 +128,16 @@ returns-7 c =
     let at-short = c .before .before in
     let raw = raw-6 at-short in
     let at-list = at-short .before .before .before .before in
-    refused raw ShortOfStock (row-short raw true (past-weight at-short) (stock-true (at-list .before .before .before)) (list-true at-list) (sym (c .before .short-of-stock .ensures) ∙ c .if7 .taken))
+    let at-cells = at-list .before .before .before in
+    refused raw ShortOfStock (row-short raw true (past-weight at-short) (stock-true at-cells) (list-true at-list) (sym (c .before .short-of-stock .ensures) ∙ c .if7 .taken))
 
 returns-8 : tie.Need-returns-8
 returns-8 c =
     let at-short = c .before .before in
     let raw = raw-6 at-short in
     let at-list = at-short .before .before .before .before in
-    passed raw (row-short raw false (past-weight at-short) (stock-true (at-list .before .before .before)) (list-true at-list) (sym (c .before .short-of-stock .ensures) ∙ c .if7 .left))
+    let at-cells = at-list .before .before .before in
+    passed raw (row-short raw false (past-weight at-short) (stock-true at-cells) (list-true at-list) (sym (c .before .short-of-stock .ensures) ∙ c .if7 .left))
 
 pub verdict-on-spec : {M : Type 1} → statement M
 verdict-on-spec =

@@ -1,12 +1,5 @@
 -- `jobfile::raw::not_a_job_file` meets its contract: the value of a job that says nothing.
-use Prim.Native.Nat.{zero}
-use mathlib.Core.Bool.{false}
-use mathlib.Core.Path.{ap₂, sym, _∙_}
-use lib.ListN.{replicate}
 use borrow.Author.Needs.{needs}
-use Rattle.rules.specs.declared.StockRecord.{StockRecord}
-use Rattle.rules.specs.declared.OrderLine.{OrderLine}
-use Rattle.rules.specs.declared.Policy.the-variants.{Exact}
 use Rattle.jobfile.specs.Kept.{noRecord, noLine, jobValue, noJob, rawOf}
 use Rattle.jobfile.proofs.Storing.{padded-none}
 use Rattle.jobfile.proofs.raw.not_a_job_file.Statement.{statement}

@@ -53,7 +53,8 @@ stock-read c =
     stock-there (bytes (at-stock .before)) (stock-reading at-stock) (r .result) (r .ensures) (not-false (r .result .ok) (c .if2 .left))
 
 -- the D section was read
-list-read : (c : tie.Else3) → ListLines (bytes (c .before .before .before .before .before .before .before)) (list-reading (c .before .before)) (c .before .before .list-section .result)
+list-read : (c : tie.Else3)
+    → ListLines (bytes (c .before .before .before .before .before .before .before)) (list-reading (c .before .before)) (c .before .before .list-section .result)
 list-read c =
     let at-list = c .before .before in
     let r = at-list .list-section in
@@ -123,7 +124,8 @@ returns-5 c =
     let behind-stock = at-list .before .before in
     let behind-layout = behind-stock .before .before .before in
     let last = at-list .list-section .result .next .at in
-    c .not-a-job-file5 .ensures ∙ ap rawOf (sym (trailing (bytes behind-layout) (layout-read behind-layout) (stock-read behind-stock .read) last (list-read behind-list .read) (c .before .if4 .taken)))
+    let more = trailing (bytes behind-layout) (layout-read behind-layout) (stock-read behind-stock .read) last (list-read behind-list .read) (c .before .if4 .taken) in
+    c .not-a-job-file5 .ensures ∙ ap rawOf (sym more)
 
 returns-6 : tie.Need-returns-6
 returns-6 c =
@@ -135,10 +137,11 @@ returns-6 c =
     let behind-layout = at-stock .before in
     let stock = stock-read behind-stock in
     let list = list-read behind-list in
-    let last = at-list .list-section .result .next .at in
     let short = behind-layout .before .before .before .before .if1 .left in
-    raw-held (layout behind-layout) (policy behind-layout) (at-stock .stock-section .result) (at-list .list-section .result) (stock .xs) (list .xs) _ _ (stock .answer) (list .answer)
-    ∙ ap rawOf (sym (job-read (bytes behind-layout) (layout-read behind-layout) (stock .read) last (list .read) short (at-end .if4 .left)))
+    let records = at-stock .stock-section .result in
+    let lines = at-list .list-section .result in
+    raw-held (layout behind-layout) (policy behind-layout) records lines (stock .xs) (list .xs) _ _ (stock .answer) (list .answer)
+    ∙ ap rawOf (sym (job-read (bytes behind-layout) (layout-read behind-layout) (stock .read) (lines .next .at) (list .read) short (at-end .if4 .left)))
 
 pub read-raw-spec : {M : Type 1} → statement M
 read-raw-spec =

@@ -29,7 +29,8 @@ no-line-requires c κs = search needs
 loop-holds : tie.Need-loop-holds Inv-loop μ-loop
 loop-holds c =
     let x = c .before .before .args in
-    ([], lines-none readLine 8 noLine (x .count) (x .self .at) (now (x .s)) (replicate 8 (c .no-line .result)) (ap (λ (line : OrderLine). replicate 8 line) (c .no-line .ensures)))
+    let blanks = ap (λ (line : OrderLine). replicate 8 line) (c .no-line .ensures) in
+    ([], lines-none readLine 8 noLine (x .count) (x .self .at) (now (x .s)) (replicate 8 (c .no-line .result)) blanks)
 
 order-line-requires : tie.Need-order-line-requires Inv-loop μ-loop
 order-line-requires c κs = search needs
@@ -90,9 +91,10 @@ returns-2 c =
     let x = c .before .before .before .before .args in
     let s = now (x .s) in
     let xs = l .inv .0 in
+    let count = lines-counted readLine 8 noLine (x .count) (x .self .at) s (l .here .at) (l .i) (l .lines) xs (l .inv .1) (c .loop-test .left) in
     answer-some s noList listRead (readLines readLine (x .count) (drop (x .self .at) s)) _ xs (l .here)
     (lines-read readLine 8 noLine (x .count) (x .self .at) s (l .here .at) (l .i) (l .lines) xs (l .inv .1) (c .loop-test .left))
-    (list-held (l .here) (x .count) (l .lines) xs (lines-counted readLine 8 noLine (x .count) (x .self .at) s (l .here .at) (l .i) (l .lines) xs (l .inv .1) (c .loop-test .left)) (l .inv .1 .stored))
+    (list-held (l .here) (x .count) (l .lines) xs count (l .inv .1 .stored))
 
 pub order-lines-spec : {M : Type 1} → statement M
 order-lines-spec =
