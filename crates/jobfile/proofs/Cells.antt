@@ -27,11 +27,11 @@ abbrev bit : ℕ → ℕ → ℕ
 bit m k = (m / 2 ^ k) % 2
 
 -- testing a bit by shift and mask
-pub bit-tested : (m k : ℕ) → bitAnd (m / 2 ^ k) 1 ≡ bit m k
+bit-tested : (m k : ℕ) → bitAnd (m / 2 ^ k) 1 ≡ bit m k
 bit-tested m k = and-mask (m / 2 ^ k) 1
 
 -- one shifted to a bit of a u32
-pub one-shifted : (k : ℕ) → k < 32 → (1 * 2 ^ k) % 4294967296 ≡ 2 ^ k
+one-shifted : (k : ℕ) → k < 32 → (1 * 2 ^ k) % 4294967296 ≡ 2 ^ k
 one-shifted k h = shl-exact 1 k 32 (omega arith) (omega arith) ∙ one-mul (2 ^ k)
 
 -- the bits of a union
@@ -172,13 +172,27 @@ marks-more m [] x = refl
 marks-more m (y ∷ xs) x = marks-more (markOf m y) xs x
 
 -- the marks after a record that has a bit, and after one that has none
-pub mark-set : (m : Marks) (r : StockRecord) → hasBit r ≡ true → markOf m r ≡ record { seen = setSeen (m .seen) r; twice = m .twice || isSeen (m .seen) r }
+mark-set : (m : Marks) (r : StockRecord) → hasBit r ≡ true → markOf m r ≡ record { seen = setSeen (m .seen) r; twice = m .twice || isSeen (m .seen) r }
 unfolding markOf
 mark-set m r e = rw (markOf, e)
 
 pub mark-passed : (m : Marks) (r : StockRecord) → hasBit r ≡ false → markOf m r ≡ m
 unfolding markOf
 mark-passed m r e = rw (markOf, e)
+
+-- the marks as the code makes them: the bit is tested by shift and mask, and set by 'or' with one shifted to it
+abbrev marksMade : Marks → StockRecord → Marks
+marksMade m r =
+    let cells = getD (m .seen) (r .aisle - 1) 0 in
+    record {
+      seen = set (m .seen) (r .aisle - 1) (bitOr cells ((1 * 2 ^ (r .cell - 1)) % 4294967296));
+      twice = m .twice || eqb (bitAnd (cells / 2 ^ (r .cell - 1)) 1) 1;
+    }
+
+pub marks-made : (m : Marks) (r : StockRecord) → hasBit r ≡ true → marksMade m r ≡ markOf m r
+marks-made m r e =
+    let small : r .cell - 1 < 32 = omega (arith, in-marks r e .cell .1) in
+    rw (one-shifted (r .cell - 1) small, bit-tested (getD (m .seen) (r .aisle - 1) 0) (r .cell - 1)) (sym (mark-set m r e))
 
 -- a bit was found set: one was before, or a record's cell was seen before, or stands in two records
 abbrev TwiceBehind : Marks → List StockRecord → List StockRecord → Type 0

@@ -1,13 +1,11 @@
--- `jobfile::twice::mark` meets its contract: a bit is tested by shift and mask, and set by 'or' with one shifted to it.
-use Prim.Native.Nat.{_-_}
+-- `jobfile::twice::mark` meets its contract: the marks that it makes of a record with a bit are those of the definition.
 use mathlib.Core.Bool.{true}
 use mathlib.Core.Path.{_≡_, sym}
 use native.Mathlib.Omega.{arith}
-use lib.ListN.{getD}
 use borrow.Author.Needs.{needs}
 use borrow.Author.Tests.{not-true, not-false}
 use Rattle.jobfile.specs.Marking.{hasBit}
-use Rattle.jobfile.proofs.Cells.{InMarks, in-marks, mark-set, mark-passed, bit-tested, one-shifted}
+use Rattle.jobfile.proofs.Cells.{InMarks, in-marks, mark-passed, marks-made}
 use Rattle.jobfile.proofs.twice.mark.Statement.{statement}
 use Rattle.jobfile.proofs.twice.mark.Tie as tie
 
@@ -65,9 +63,7 @@ array-write-seen c = let bit = there c in omega arith
 returns-2 : tie.Need-returns-2
 returns-2 c =
     let x = c .before .before .before .before .before .before .before .args in
-    let cell = x .row .cell - 1 in
-    rw (one-shifted cell (omega (arith, there (c .before) .cell .1)), bit-tested (getD (x .marks .seen) (x .row .aisle - 1) 0) cell)
-    (sym (mark-set (x .marks) (x .row) (has-bit (c .before .before .before .before))))
+    marks-made (x .marks) (x .row) (has-bit (c .before .before .before .before))
 
 pub mark-spec : {M : Type 1} → statement M
 mark-spec =

@@ -23,7 +23,8 @@ unfolding readPolicy readPolicyAs
 returns c =
     let at-1 = c .before .before .before in
     let s = now (at-1 .before .before .before .args .s) in
-    rw (readPolicy, readPolicyAs, told (stepOf (policyWord Exact ++ (lineFeed ∷ [])) s) (at-1 .word .ensures) (c .before .next .given .1))
+    let is-exact = told (stepOf (policyWord Exact ++ (lineFeed ∷ [])) s) (at-1 .word .ensures) (c .before .next .given .1) in
+    rw (readPolicy, readPolicyAs, is-exact)
 
 enum-told : tie.Need-enum-told
 enum-told c = search needs
@@ -44,7 +45,8 @@ returns-2 c =
     let at-1 = at-2 .before .before .before .before in
     let s = now (at-1 .before .before .before .args .s) in
     let not-exact = told (stepOf (policyWord Exact ++ (lineFeed ∷ [])) s) (at-1 .word .ensures) (at-2 .before .before .enum-told .given .1) in
-    rw (readPolicy, readPolicyAs, not-exact, told (stepOf (policyWord Return ++ (lineFeed ∷ [])) s) (at-2 .word2 .ensures) (c .before .next2 .given .1))
+    let is-return = told (stepOf (policyWord Return ++ (lineFeed ∷ [])) s) (at-2 .word2 .ensures) (c .before .next2 .given .1) in
+    rw (readPolicy, readPolicyAs, not-exact, is-return)
 
 enum-told-2 : tie.Need-enum-told-2
 enum-told-2 c = search needs
@@ -67,7 +69,8 @@ returns-3 c =
     let s = now (at-1 .before .before .before .args .s) in
     let not-exact = told (stepOf (policyWord Exact ++ (lineFeed ∷ [])) s) (at-1 .word .ensures) (at-2 .before .before .enum-told .given .1) in
     let not-return = told (stepOf (policyWord Return ++ (lineFeed ∷ [])) s) (at-2 .word2 .ensures) (at-3 .before .before .enum-told2 .given .1) in
-    rw (readPolicy, readPolicyAs, not-exact, not-return, told (stepOf (policyWord Traversal ++ (lineFeed ∷ [])) s) (at-3 .word3 .ensures) (c .before .next3 .given .1))
+    let is-traversal = told (stepOf (policyWord Traversal ++ (lineFeed ∷ [])) s) (at-3 .word3 .ensures) (c .before .next3 .given .1) in
+    rw (readPolicy, readPolicyAs, not-exact, not-return, is-traversal)
 
 enum-told-3 : tie.Need-enum-told-3
 enum-told-3 c = search needs
@@ -92,7 +95,8 @@ returns-4 c =
     let not-exact = told (stepOf (policyWord Exact ++ (lineFeed ∷ [])) s) (at-1 .word .ensures) (at-2 .before .before .enum-told .given .1) in
     let not-return = told (stepOf (policyWord Return ++ (lineFeed ∷ [])) s) (at-2 .word2 .ensures) (at-3 .before .before .enum-told2 .given .1) in
     let not-traversal = told (stepOf (policyWord Traversal ++ (lineFeed ∷ [])) s) (at-3 .word3 .ensures) (at-4 .before .before .enum-told3 .given .1) in
-    rw (readPolicy, readPolicyAs, not-exact, not-return, not-traversal, told (stepOf (policyWord Midpoint ++ (lineFeed ∷ [])) s) (at-4 .word4 .ensures) (c .before .next4 .given .1))
+    let is-midpoint = told (stepOf (policyWord Midpoint ++ (lineFeed ∷ [])) s) (at-4 .word4 .ensures) (c .before .next4 .given .1) in
+    rw (readPolicy, readPolicyAs, not-exact, not-return, not-traversal, is-midpoint)
 
 enum-told-4 : tie.Need-enum-told-4
 enum-told-4 c = search needs
@@ -119,7 +123,8 @@ returns-5 c =
     let not-return = told (stepOf (policyWord Return ++ (lineFeed ∷ [])) s) (at-2 .word2 .ensures) (at-3 .before .before .enum-told2 .given .1) in
     let not-traversal = told (stepOf (policyWord Traversal ++ (lineFeed ∷ [])) s) (at-3 .word3 .ensures) (at-4 .before .before .enum-told3 .given .1) in
     let not-midpoint = told (stepOf (policyWord Midpoint ++ (lineFeed ∷ [])) s) (at-4 .word4 .ensures) (at-5 .before .before .enum-told4 .given .1) in
-    rw (readPolicy, readPolicyAs, not-exact, not-return, not-traversal, not-midpoint, told (stepOf (policyWord Composite ++ (lineFeed ∷ [])) s) (at-5 .word5 .ensures) (c .before .next5 .given .1))
+    let is-composite = told (stepOf (policyWord Composite ++ (lineFeed ∷ [])) s) (at-5 .word5 .ensures) (c .before .next5 .given .1) in
+    rw (readPolicy, readPolicyAs, not-exact, not-return, not-traversal, not-midpoint, is-composite)
 
 enum-told-5 : tie.Need-enum-told-5
 enum-told-5 c = search needs
@@ -137,7 +142,8 @@ returns-6 c =
     let not-return = told (stepOf (policyWord Return ++ (lineFeed ∷ [])) s) (at-2 .word2 .ensures) (at-3 .before .before .enum-told2 .given .1) in
     let not-traversal = told (stepOf (policyWord Traversal ++ (lineFeed ∷ [])) s) (at-3 .word3 .ensures) (at-4 .before .before .enum-told3 .given .1) in
     let not-midpoint = told (stepOf (policyWord Midpoint ++ (lineFeed ∷ [])) s) (at-4 .word4 .ensures) (at-5 .before .before .enum-told4 .given .1) in
-    rw (readPolicy, readPolicyAs, not-exact, not-return, not-traversal, not-midpoint, told (stepOf (policyWord Composite ++ (lineFeed ∷ [])) s) (at-5 .word5 .ensures) (c .enum-told5 .given .1))
+    let not-composite = told (stepOf (policyWord Composite ++ (lineFeed ∷ [])) s) (at-5 .word5 .ensures) (c .enum-told5 .given .1) in
+    rw (readPolicy, readPolicyAs, not-exact, not-return, not-traversal, not-midpoint, not-composite)
 
 pub policy-spec : {M : Type 1} → statement M
 policy-spec =
