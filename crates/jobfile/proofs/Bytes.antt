@@ -62,7 +62,8 @@ pub record ReadTo (s : List ℕ) (start at value : ℕ) : Type 0 where
   pub placed : at + length (leadingDigits (drop at s)) ≡ start + length (leadingDigits (drop start s))
 
 -- one digit more
-pub read-more : (s : List ℕ) (start at value more : ℕ) → ReadTo s start at value → at < length s → 48 ≤ getD s at 0 → getD s at 0 ≤ 57 → more ≡ min 65536 (value * 10 + (getD s at 0 - 48)) → ReadTo s start (at + 1) more
+pub read-more : (s : List ℕ) (start at value more : ℕ) → ReadTo s start at value → at < length s → 48 ≤ getD s at 0 → getD s at 0 ≤ 57
+    → more ≡ min 65536 (value * 10 + (getD s at 0 - 48)) → ReadTo s start (at + 1) more
 read-more s start at value more r h l m e =
     let d = digit-there s at h l m in
     let last = leadingDigits (drop (at + 1) s) in

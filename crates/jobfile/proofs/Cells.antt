@@ -1,26 +1,26 @@
--- Cells as bits: each aisle's cells as bits of a number, one set for each record that has been read.
+-- Cells as bits: what the marks say of the records that were read, and what that is within the bounds.
 use Prim.Native.Nat.{ℕ, zero, suc, _+_, _*_, _-_, _≤_, _<_, _/_, _%_, _^_, max}
 use mathlib.Core.Path.{_≡_, refl, sym, _∙_, ap, ap₂}
-use mathlib.Core.List.{List, [], _∷_}
-use mathlib.Core.Bool.{Bool, true, false, _||_, _&&_}
+use mathlib.Core.List.{List, [], _∷_, _++_}
+use mathlib.Core.Bool.{Bool, true, false, cond, _||_, _&&_}
 use native.Mathlib.Omega.{arith}
 use native.Mathlib.Nat.{div-self, div-eq-of-lt, zero-div, one-mul, mul-mod-right}
-use lib.Dec.{eqb, ltb}
+use lib.Dec.{eqb, ltb, leb}
 use lib.Bits.{bitAnd, bitOr, or-step, or-shr, and-mask}
 use lib.Pow.{pow-pos, pow-lt, pow-add, shl-exact, shl-shr}
-use lib.ListN.{length, getD, take, set, replicate, length-set, length-replicate}
+use lib.ListN.{length, getD, set, replicate, length-set, length-replicate}
 use lib.Seq.{getD-set-same, getD-set-other}
-use borrow.Author.Tests.{ltb-true, ltb-false, eq-eqb, ne-eqb, eqb-true, eqb-false}
+use borrow.Author.Tests.{leb-true, le-leb, ltb-true, ltb-false, eq-eqb, ne-eqb, eqb-true, eqb-false}
 use Rattle.rules.specs.declared.StockRecord.{StockRecord}
-use Rattle.rules.specs.Lists.{allOf, anyOf, anyTwo}
-use Rattle.rules.specs.Store.{layoutInBounds}
+use Rattle.rules.specs.Lists.{allOf, anyOf, anyTwo, select}
+use Rattle.rules.specs.Store.{within, layoutInBounds}
+use Rattle.rules.specs.Jobs.{Job}
+use Rattle.rules.specs.Refusals.{sameCell, recordInBounds, stockInBounds}
 use Rattle.rules.proofs.Admission.{layout-within, record-within}
+use Rattle.rules.proofs.Lists.{all-true, member-select}
 use Rattle.rules.proofs.Numbers.{both-true}
-use Rattle.rules.specs.Refusals.{sameCell, recordInBounds}
-use Rattle.values.specs.declared.JobValue.{JobValue}
-use Rattle.jobfile.specs.Ready.{storeOnly}
-use Rattle.jobfile.proofs.Left.{left, left-all, left-more, left-none}
-use Rattle.jobfile.proofs.Ranges.{noRecord}
+use Rattle.jobfile.specs.declared.twice.Marks.{Marks}
+use Rattle.jobfile.specs.Marking.{hasBit, cellTwice, noMarks, isSeen, setSeen, markOf}
 
 -- the bit k of a number
 abbrev bit : ℕ → ℕ → ℕ
@@ -89,25 +89,14 @@ module _ {A : Type 0} where
       regroup false true c d = sym (or-true c)
       regroup false false c d = refl
 
--- the cell of a record is marked
-abbrev marked : List ℕ → StockRecord → Bool
-marked seen r = eqb (bit (getD seen (r .aisle - 1) 0) (r .cell - 1)) 1
-
--- the marks with the cell of a record among them, as the code sets it
-abbrev pub mark : List ℕ → StockRecord → List ℕ
-mark seen r = set seen (r .aisle - 1) (bitOr (getD seen (r .aisle - 1) 0) ((1 * 2 ^ (r .cell - 1)) % 4294967296))
-
--- a record's cell that lies in the marks
-pub record InMarks (r : StockRecord) : Type 0 where
-  pub aisle : (1 ≤ r .aisle) × (r .aisle ≤ 16)
-  pub cell : (1 ≤ r .cell) × (r .cell ≤ 24)
-
 -- a bit after another was set
-bit-marked : (v c k : ℕ) → c < 32 → eqb (bit (bitOr v ((1 * 2 ^ c) % 4294967296)) k) 1 ≡ eqb (bit v k) 1 || eqb c k
-bit-marked v c k h = rw (one-shifted c h, bit-or v (2 ^ c) k) (go (eqb c k) refl)
+bit-marked : (v c k : ℕ) → eqb (bit (bitOr v (2 ^ c)) k) 1 ≡ eqb (bit v k) 1 || eqb c k
+bit-marked v c k = rw (bit-or v (2 ^ c) k) (go (eqb c k) refl)
   where
     go : (b : Bool) → eqb c k ≡ b → eqb (max (bit v k) (bit (2 ^ c) k)) 1 ≡ eqb (bit v k) 1 || b
-    go true e = let own : bit (2 ^ c) k ≡ 1 = ap (λ (j : ℕ). bit (2 ^ c) j) (sym (eqb-true c k e)) ∙ bit-own c in eq-eqb (max (bit v k) (bit (2 ^ c) k)) 1 (omega arith) ∙ sym (or-true (eqb (bit v k) 1))
+    go true e =
+        let own : bit (2 ^ c) k ≡ 1 = ap (λ (j : ℕ). bit (2 ^ c) j) (sym (eqb-true c k e)) ∙ bit-own c in
+        eq-eqb (max (bit v k) (bit (2 ^ c) k)) 1 (omega arith) ∙ sym (or-true (eqb (bit v k) 1))
     go false e =
         let other : bit (2 ^ c) k ≡ 0 = bit-other c k (eqb-false c k e) in
         let same : max (bit v k) (bit (2 ^ c) k) ≡ bit v k = omega arith in
@@ -121,93 +110,136 @@ eqb-from-one a b h l = go (eqb a b) refl
     go true e = eq-eqb (a - 1) (b - 1) (ap (λ (n : ℕ). n - 1) (eqb-true a b e))
     go false e = ne-eqb (a - 1) (b - 1) (λ q. eqb-false a b e (omega arith))
 
+-- a record's cell that has a bit
+pub record InMarks (r : StockRecord) : Type 0 where
+  pub aisle : (1 ≤ r .aisle) × (r .aisle ≤ 16)
+  pub cell : (1 ≤ r .cell) × (r .cell ≤ 24)
+
+-- what the test of a record's bit says
+pub in-marks : (r : StockRecord) → hasBit r ≡ true → InMarks r
+unfolding hasBit within
+in-marks r e =
+    let p = both-true (within 1 16 (r .aisle)) (within 1 24 (r .cell)) e in
+    let a = both-true (leb 1 (r .aisle)) (leb (r .aisle) 16) (p .0) in
+    let c = both-true (leb 1 (r .cell)) (leb (r .cell) 24) (p .1) in
+    record {
+      aisle = (leb-true 1 (r .aisle) (a .0), leb-true (r .aisle) 16 (a .1));
+      cell = (leb-true 1 (r .cell) (c .0), leb-true (r .cell) 24 (c .1));
+    }
+
 module _ (seen : List ℕ) (size : length seen ≡ 16) (x : StockRecord) (inside : InMarks x) where
-  -- after a record's cell was marked, its cell and those before are
-  mark-more : (r : StockRecord) → InMarks r → marked (mark seen x) r ≡ marked seen r || sameCell x r
+  -- after a record's bit was set, its cell is seen and those before are
+  seen-more : (r : StockRecord) → InMarks r → isSeen (setSeen seen x) r ≡ isSeen seen r || sameCell x r
   unfolding sameCell
-  mark-more r within = go (eqb (x .aisle) (r .aisle)) refl
+  seen-more r inner = go (eqb (x .aisle) (r .aisle)) refl
     where
-      go : (b : Bool) → eqb (x .aisle) (r .aisle) ≡ b → marked (mark seen x) r ≡ marked seen r || (b && eqb (x .cell) (r .cell))
+      go : (b : Bool) → eqb (x .aisle) (r .aisle) ≡ b → isSeen (setSeen seen x) r ≡ isSeen seen r || (b && eqb (x .cell) (r .cell))
       go true e =
           let q : r .aisle ≡ x .aisle = sym (eqb-true (x .aisle) (r .aisle) e) in
           let v = getD seen (x .aisle - 1) 0 in
-          rw (q, getD-set-same seen (x .aisle - 1) (bitOr v ((1 * 2 ^ (x .cell - 1)) % 4294967296)) 0 (omega (arith, size, inside .aisle .0, inside .aisle .1)), ← eqb-from-one (x .cell) (r .cell) (inside .cell .0) (within .cell .0))
-          (bit-marked v (x .cell - 1) (r .cell - 1) (omega (arith, inside .cell .1)))
+          let low : x .aisle - 1 < length seen = omega (arith, size, inside .aisle .0, inside .aisle .1) in
+          rw (q, getD-set-same seen (x .aisle - 1) (bitOr v (2 ^ (x .cell - 1))) 0 low, ← eqb-from-one (x .cell) (r .cell) (inside .cell .0) (inner .cell .0))
+          (bit-marked v (x .cell - 1) (r .cell - 1))
       go false e =
-          let n : r .aisle - 1 ≡ x .aisle - 1 → ⊥ = λ q. eqb-false (x .aisle) (r .aisle) e (omega (arith, inside .aisle .0, within .aisle .0)) in
-          rw (getD-set-other seen (x .aisle - 1) (r .aisle - 1) (bitOr (getD seen (x .aisle - 1) 0) ((1 * 2 ^ (x .cell - 1)) % 4294967296)) 0 n) (sym (or-false (marked seen r)))
+          let n : r .aisle - 1 ≡ x .aisle - 1 → ⊥ = λ q. eqb-false (x .aisle) (r .aisle) e (omega (arith, inside .aisle .0, inner .aisle .0)) in
+          rw (getD-set-other seen (x .aisle - 1) (r .aisle - 1) (bitOr (getD seen (x .aisle - 1) 0) (2 ^ (x .cell - 1))) 0 n) (sym (or-false (isSeen seen r)))
 
--- the cells of the records before i are marked: a cell stands twice if one from i on is marked, or stands twice from there on
-pub record CellsTo (job : JobValue) (seen : List ℕ) (i : ℕ) : Type 0 where
-  pub size : length seen ≡ 16
-  pub bounded : allOf (recordInBounds (storeOnly (job .layout))) (left (job .records) i (job .stock)) ≡ true
-  pub same : anyOf (marked seen) (left (job .records) i (job .stock)) || anyTwo sameCell (left (job .records) i (job .stock)) ≡ anyTwo sameCell (take (job .records) (job .stock))
+  -- some of the records is seen then
+  any-seen-more : (xs : List StockRecord)
+      → anyOf (isSeen (setSeen seen x)) (select hasBit xs) ≡ anyOf (isSeen seen) (select hasBit xs) || anyOf (sameCell x) (select hasBit xs)
+  any-seen-more xs =
+      any-or hasBit (isSeen seen) (sameCell x) (isSeen (setSeen seen x)) (select hasBit xs)
+      (all-true hasBit (select hasBit xs) .1 (λ r m. member-select hasBit xs .0 m .1))
+      (λ r e. seen-more r (in-marks r e))
 
--- no mark
-abbrev pub noMarks : List ℕ
-noMarks = replicate 16 0
-
--- no cell is marked
-none-marked : (r : StockRecord) → marked noMarks r ≡ false
-none-marked r = rw (zeros 16 (r .aisle - 1), zero-div (2 ^ (r .cell - 1)))
+-- no cell is seen
+none-seen : (r : StockRecord) → isSeen (noMarks .seen) r ≡ false
+none-seen r = rw (zeros 16 (r .aisle - 1), zero-div (2 ^ (r .cell - 1)))
   where
     zeros : (n j : ℕ) → _≡_ {A = ℕ} (getD (replicate n 0) j 0) 0
     zeros zero j = refl
     zeros (suc n) zero = refl
     zeros (suc n) (suc j) = zeros n j
 
-module _ (job : JobValue) (layout : layoutInBounds (job .layout) ≡ true) where
-  -- a record within the bounds lies in the marks
-  in-marks : (r : StockRecord) → recordInBounds (storeOnly (job .layout)) r ≡ true → InMarks r
-  in-marks r e =
-      let w = record-within (storeOnly (job .layout)) r .0 e in
-      let z = layout-within (job .layout) .0 layout in
-      omega (arith, w .aisle .0, w .aisle .1, w .cell .0, w .cell .1, z .aisles .1, z .cells .1)
+-- the marks behind all of the records
+abbrev pub marksBehind : Marks → List StockRecord → Marks
+marksBehind m [] = m
+marksBehind m (x ∷ xs) = marksBehind (markOf m x) xs
 
-  -- before the first record
-  pub cells-start : allOf (recordInBounds (storeOnly (job .layout))) (take (job .records) (job .stock)) ≡ true → CellsTo job noMarks 0
-  cells-start e = record {
-    size = length-replicate {A = ℕ} 16 0;
-    bounded = rw (left-all (job .records) (job .stock)) e;
-    same = rw (left-all (job .records) (job .stock), any-none (marked noMarks) (take (job .records) (job .stock)) none-marked);
-  }
+-- one record more
+pub marks-more : (m : Marks) (xs : List StockRecord) (x : StockRecord) → marksBehind m (xs ++ (x ∷ [])) ≡ markOf (marksBehind m xs) x
+marks-more m [] x = refl
+marks-more m (y ∷ xs) x = marks-more (markOf m y) xs x
 
-  -- behind the last record
-  pub cells-once : (seen : List ℕ) (i : ℕ) → CellsTo job seen i → job .records ≤ i → anyTwo sameCell (take (job .records) (job .stock)) ≡ false
-  cells-once seen i r h = sym (r .same) ∙ rw (left-none (job .records) i (job .stock) h)
+-- the marks after a record that has a bit, and after one that has none
+mark-set : (m : Marks) (r : StockRecord) → hasBit r ≡ true → markOf m r ≡ record { seen = setSeen (m .seen) r; twice = m .twice || isSeen (m .seen) r }
+unfolding markOf
+mark-set m r e = rw (markOf, e)
 
-  module _ (seen : List ℕ) (i : ℕ) (r : CellsTo job seen i) (h : i < job .records) (l : i < length (job .stock)) where
-    -- the record there
-    abbrev here : StockRecord
-    here = getD (job .stock) i noRecord
+pub mark-passed : (m : Marks) (r : StockRecord) → hasBit r ≡ false → markOf m r ≡ m
+unfolding markOf
+mark-passed m r e = rw (markOf, e)
 
-    -- those behind it
-    abbrev rest : List StockRecord
-    rest = left (job .records) (i + 1) (job .stock)
+-- the marks as the code makes them: the bit is tested by shift and mask, and set by 'or' with one shifted to it
+abbrev marksMade : Marks → StockRecord → Marks
+marksMade m r =
+    let cells = getD (m .seen) (r .aisle - 1) 0 in
+    record {
+      seen = set (m .seen) (r .aisle - 1) (bitOr cells ((1 * 2 ^ (r .cell - 1)) % 4294967296));
+      twice = m .twice || eqb (bitAnd (cells / 2 ^ (r .cell - 1)) 1) 1;
+    }
 
-    both : (recordInBounds (storeOnly (job .layout)) here ≡ true) × (allOf (recordInBounds (storeOnly (job .layout))) rest ≡ true)
-    both = both-true (recordInBounds (storeOnly (job .layout)) here) (allOf (recordInBounds (storeOnly (job .layout))) rest) (rw (left-more (job .records) i (job .stock) noRecord h l) at (r .bounded))
+pub marks-made : (m : Marks) (r : StockRecord) → hasBit r ≡ true → marksMade m r ≡ markOf m r
+marks-made m r e =
+    let small : r .cell - 1 < 32 = omega (arith, in-marks r e .cell .1) in
+    rw (one-shifted (r .cell - 1) small, bit-tested (getD (m .seen) (r .aisle - 1) 0) (r .cell - 1)) (sym (mark-set m r e))
 
-    pub here-in-marks : InMarks here
-    here-in-marks = in-marks here (both .0)
+-- a bit was found set: one was before, or a record's cell was seen before, or stands in two records
+abbrev TwiceBehind : Marks → List StockRecord → List StockRecord → Type 0
+TwiceBehind m xs bits = marksBehind m xs .twice ≡ m .twice || (anyOf (isSeen (m .seen)) bits || anyTwo sameCell bits)
 
-    -- what is known with the record there apart
-    apart : (marked seen here || anyOf (marked seen) rest) || (anyOf (sameCell here) rest || anyTwo sameCell rest) ≡ anyTwo sameCell (take (job .records) (job .stock))
-    apart = rw (left-more (job .records) i (job .stock) noRecord h l) at (r .same)
+twice-behind : (xs : List StockRecord) (m : Marks) → length (m .seen) ≡ 16 → TwiceBehind m xs (select hasBit xs)
+twice-behind [] m size = sym (or-false (m .twice))
+twice-behind (x ∷ xs) m size = go (hasBit x) refl (twice-behind xs)
+  where
+    regroup : (t k s c w : Bool) → (t || k) || ((s || c) || w) ≡ t || ((k || s) || (c || w))
+    regroup true k s c w = refl
+    regroup false true s c w = refl
+    regroup false false s c w = or-assoc s c w
 
-    -- its cell is marked
-    pub cell-again : bitAnd (getD seen (here .aisle - 1) 0 / 2 ^ (here .cell - 1)) 1 ≡ 1 → anyTwo sameCell (take (job .records) (job .stock)) ≡ true
-    cell-again e =
-        let m : marked seen here ≡ true = eq-eqb (bit (getD seen (here .aisle - 1) 0) (here .cell - 1)) 1 (sym (bit-tested (getD seen (here .aisle - 1) 0) (here .cell - 1)) ∙ e) in
-        sym apart ∙ rw m
+    go : (b : Bool) → hasBit x ≡ b → ((n : Marks) → length (n .seen) ≡ 16 → TwiceBehind n xs (select hasBit xs))
+        → TwiceBehind m (x ∷ xs) (cond b (x ∷ select hasBit xs) (select hasBit xs))
+    go true e rest =
+        let after : Marks = record { seen = setSeen (m .seen) x; twice = m .twice || isSeen (m .seen) x } in
+        let bits = select hasBit xs in
+        ap (λ (n : Marks). marksBehind n xs .twice) (mark-set m x e)
+        ∙ rest after (simp length-set size)
+        ∙ rw (any-seen-more (m .seen) size x (in-marks x e) xs)
+        (regroup (m .twice) (isSeen (m .seen) x) (anyOf (isSeen (m .seen)) bits) (anyOf (sameCell x) bits) (anyTwo sameCell bits))
+    go false e rest = ap (λ (n : Marks). marksBehind n xs .twice) (mark-passed m x e) ∙ rest m size
 
-    -- its cell is not marked
-    pub cell-new : (bitAnd (getD seen (here .aisle - 1) 0 / 2 ^ (here .cell - 1)) 1 ≡ 1 → ⊥) → CellsTo job (mark seen here) (i + 1)
-    cell-new e =
-        let m : marked seen here ≡ false = ne-eqb (bit (getD seen (here .aisle - 1) 0) (here .cell - 1)) 1 (λ q. e (bit-tested (getD seen (here .aisle - 1) 0) (here .cell - 1) ∙ q)) in
-        let more = any-or (recordInBounds (storeOnly (job .layout))) (marked seen) (sameCell here) (marked (mark seen here)) rest (both .1) (λ x t. mark-more seen (r .size) here here-in-marks x (in-marks x t)) in
-        record {
-          size = simp length-set (r .size);
-          bounded = both .1;
-          same = rw (more, or-assoc (anyOf (marked seen) rest) (anyOf (sameCell here) rest) (anyTwo sameCell rest)) (rw m at apart);
-        }
+-- the marks of the records that were read tell whether a cell stands in two of them
+pub cells-told : (xs : List StockRecord) → marksBehind noMarks xs .twice ≡ cellTwice xs
+unfolding cellTwice
+cells-told xs = twice-behind xs noMarks (length-replicate {A = ℕ} 16 0) ∙ rw (any-none (isSeen (noMarks .seen)) (select hasBit xs) none-seen)
+
+-- a stock within the bounds: a bit was found set if a cell stands in two records
+pub cells-bounded : (job : Job) → layoutInBounds (job .layout) ≡ true → stockInBounds job ≡ true → cellTwice (job .stock) ≡ anyTwo sameCell (job .stock)
+unfolding cellTwice hasBit within stockInBounds
+cells-bounded job layout stock =
+    let each = both-true (leb (length (job .stock)) 384) (allOf (recordInBounds job) (job .stock)) stock .1 in
+    ap (anyTwo sameCell) (whole (job .stock) each)
+  where
+    bit : (r : StockRecord) → recordInBounds job r ≡ true → hasBit r ≡ true
+    bit r e =
+        let w = record-within job r .0 e in
+        let z = layout-within (job .layout) .0 layout in
+        let aisle : r .aisle ≤ 16 = omega (arith, w .aisle .1, z .aisles .1) in
+        let cell : r .cell ≤ 24 = omega (arith, w .cell .1, z .cells .1) in
+        rw (le-leb 1 (r .aisle) (w .aisle .0), le-leb (r .aisle) 16 aisle, le-leb 1 (r .cell) (w .cell .0), le-leb (r .cell) 24 cell)
+
+    whole : (xs : List StockRecord) → allOf (recordInBounds job) xs ≡ true → select hasBit xs ≡ xs
+    whole [] h = refl
+    whole (x ∷ xs) h =
+        let p = both-true (recordInBounds job x) (allOf (recordInBounds job) xs) h in
+        rw (bit x (p .0)) (ap (λ (l : List StockRecord). x ∷ l) (whole xs (p .1)))

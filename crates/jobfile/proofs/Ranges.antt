@@ -7,8 +7,6 @@ use lib.Dec.{leb}
 use lib.ListN.{length, take}
 use lib.Seq.{length-take-le}
 use borrow.Author.Tests.{le-leb, lt-leb}
-use Rattle.rules.specs.declared.StockRecord.{StockRecord}
-use Rattle.rules.specs.declared.OrderLine.{OrderLine}
 use Rattle.rules.specs.Lists.{allOf}
 use Rattle.rules.specs.Store.{within}
 use Rattle.rules.specs.Refusals.{recordInBounds, stockInBounds, lineInBounds, listInBounds}
@@ -16,13 +14,6 @@ use Rattle.rules.proofs.Numbers.{both-true}
 use Rattle.values.specs.declared.JobValue.{JobValue}
 use Rattle.values.specs.Values.{jobOf}
 use Rattle.jobfile.specs.Ready.{storeOnly}
-
--- what is read past the end of an array
-abbrev pub noRecord : StockRecord
-noRecord = record { aisle = 0; cell = 0; article = 0; quantity = 0 }
-
-abbrev pub noLine : OrderLine
-noLine = record { article = 0; quantity = 0 }
 
 -- the arrays of a job by value have the room that they are declared with
 pub record Sized (job : JobValue) : Type 0 where

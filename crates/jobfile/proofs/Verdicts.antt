@@ -1,16 +1,13 @@
--- The tests on a job by value are those of the job that it holds, and the first that applies is the job's refusal.
-use Prim.Native.Nat.{ℕ, _≤_, _<_}
+-- The tests on what was read of a job are those of the job, and the first row that applies is its refusal.
+use Prim.Native.Nat.{ℕ, _≤_}
 use mathlib.Core.Path.{_≡_, refl, sym, _∙_, ap, ap₂}
 use mathlib.Core.List.{List, [], _∷_}
-use mathlib.Core.Bool.{Bool, true, false, _&&_, not}
-use mathlib.Core.Option.{none, some}
+use mathlib.Core.Bool.{Bool, true, false, _&&_, not, true≢false}
+use mathlib.Core.Option.{Option, none, some}
 use native.Mathlib.Omega.{arith}
 use lib.Dec.{leb, ltb}
-use lib.ListN.{length, take}
-use lib.Seq.{take-all}
-use borrow.Author.Tests.{leb-true, leb-false, le-leb, lt-leb}
-use Rattle.rules.specs.declared.Layout.{Layout}
-use Rattle.rules.specs.declared.Policy.{Policy}
+use lib.ListN.{length, drop}
+use borrow.Author.Tests.{leb-true, leb-false, le-leb}
 use Rattle.rules.specs.declared.StockRecord.{StockRecord}
 use Rattle.rules.specs.declared.OrderLine.{OrderLine}
 use Rattle.rules.specs.declared.Refusal.{Refusal}
@@ -23,110 +20,227 @@ use Rattle.rules.specs.Refusals.{recordInBounds, stockInBounds, sameCell, listI
 use Rattle.rules.proofs.Admission.{stock-within, list-within, admitted}
 use Rattle.rules.proofs.Numbers.{both-true}
 use Rattle.values.specs.declared.JobValue.{JobValue}
-use Rattle.jobfile.specs.declared.Verdict.{Verdict}
 use Rattle.values.specs.Values.{jobOf, Sound}
+use Rattle.jobfile.specs.declared.raw.RawJob.{RawJob}
+use Rattle.jobfile.specs.declared.Verdict.{Verdict}
+use Rattle.jobfile.specs.declared.ReadJob.{ReadJob}
 use Rattle.jobfile.specs.Ready.{StockReady, ListReady}
-use Rattle.jobfile.specs.Kept.{Keeps}
-use Rattle.jobfile.specs.Answer.{refusalOf, checkedAs}
+use Rattle.jobfile.specs.Kept.{noRecord, noLine, jobValue, rawOf}
+use Rattle.jobfile.specs.Answer.{verdictOf, Decides, checkedAs, checkedOf, answerTo}
+use Rattle.jobfile.proofs.Cells.{cells-bounded}
+use Rattle.jobfile.proofs.Storing.{padded-all}
 
-module _ (value : JobValue) (job : Job) (k : Keeps value job) where
-  -- all records were kept
-  same-stock : value .records ≤ 384 → take (value .records) (value .stock) ≡ job .stock
-  same-stock h = k .stock ∙ take-all 384 (job .stock) (omega (arith, k .records))
+-- the tests of the bounds, as they are made on a value
+abbrev pub stockTest : JobValue → Bool
+stockTest v = leb (v .records) 384 && stockInBounds (jobOf v)
 
-  -- all lines were kept
-  same-lines : value .orders ≤ 8 → take (value .orders) (value .lines) ≡ job .lines
-  same-lines h = k .lines ∙ take-all 8 (job .lines) (omega (arith, k .orders))
+abbrev pub listTest : JobValue → Bool
+listTest v = leb (v .orders) 8 && listInBounds (jobOf v)
 
-  -- the whole job was kept
-  same-job : value .records ≤ 384 → value .orders ≤ 8 → jobOf value ≡ job
-  unfolding jobOf
-  same-job h l =
-      ap₂ (λ (records : List StockRecord) (lines : List OrderLine). record { layout = value .layout; policy = value .policy; stock = records; lines = lines }) (same-stock h) (same-lines l)
-      ∙ ap₂ (λ (z : Layout) (p : Policy). record { layout = z; policy = p; stock = job .stock; lines = job .lines }) (k .layout) (k .policy)
+-- a stock that has passed its tests
+pub stock-ready : (v : JobValue) → layoutInBounds (v .layout) ≡ true → stockTest v ≡ true → StockReady v
+stock-ready v z e =
+    let t = both-true (leb (v .records) 384) (stockInBounds (jobOf v)) e in
+    record { count = leb-true (v .records) 384 (t .0); layout = z; stock = t .1 }
 
-  pub layout-same : layoutInBounds (value .layout) ≡ layoutInBounds (job .layout)
-  layout-same = ap layoutInBounds (k .layout)
+-- a list that has passed its tests
+pub list-ready : (v : JobValue) → listTest v ≡ true → ListReady v
+list-ready v e =
+    let t = both-true (leb (v .orders) 8) (listInBounds (jobOf v)) e in
+    record { count = leb-true (v .orders) 8 (t .0); list = t .1 }
 
-  pub stock-same : leb (value .records) 384 && stockInBounds (jobOf value) ≡ stockInBounds job
-  unfolding stockInBounds recordInBounds jobOf
-  stock-same = go (leb (value .records) 384) refl
+module _ (job : Job) where
+  -- the job with other records and lines
+  abbrev among : List StockRecord → List OrderLine → Job
+  among records lines = record { layout = job .layout; policy = job .policy; stock = records; lines = lines }
+
+  -- all records are kept
+  whole-stock : length (job .stock) ≤ 384 → jobOf (jobValue job) .stock ≡ job .stock
+  unfolding jobOf jobValue
+  whole-stock h = padded-all 384 noRecord (job .stock) h
+
+  -- all lines are kept
+  whole-lines : length (job .lines) ≤ 8 → jobOf (jobValue job) .lines ≡ job .lines
+  unfolding jobOf jobValue
+  whole-lines h = padded-all 8 noLine (job .lines) h
+
+  -- the whole job is kept
+  whole-job : length (job .stock) ≤ 384 → length (job .lines) ≤ 8 → jobOf (jobValue job) ≡ job
+  unfolding jobOf jobValue
+  whole-job h l = ap₂ among (whole-stock h) (whole-lines l)
+
+  -- the test of the stock is that of the job
+  stock-same : stockTest (jobValue job) ≡ stockInBounds job
+  unfolding stockInBounds recordInBounds jobOf jobValue
+  stock-same = go (leb (length (job .stock)) 384) refl
     where
-      go : (b : Bool) → leb (value .records) 384 ≡ b → b && stockInBounds (jobOf value) ≡ stockInBounds job
-      go true e =
-          ap₂ (λ (z : Layout) (records : List StockRecord). stockInBounds (record { layout = z; policy = job .policy; stock = records; lines = job .lines })) (k .layout) (same-stock (leb-true (value .records) 384 e))
-      go false e = rw (stockInBounds, lt-leb (length (job .stock)) 384 (omega (arith, k .records, leb-false (value .records) 384 e)))
+      go : (b : Bool) → leb (length (job .stock)) 384 ≡ b → b && stockInBounds (jobOf (jobValue job)) ≡ stockInBounds job
+      go true e = ap (λ (records : List StockRecord). stockInBounds (among records (job .lines))) (whole-stock (leb-true (length (job .stock)) 384 e))
+      go false e = rw (stockInBounds, e)
 
-  pub cells-same : value .records ≤ 384 → anyTwo sameCell (jobOf value .stock) ≡ anyTwo sameCell (job .stock)
-  unfolding jobOf
-  cells-same h = ap (anyTwo sameCell) (same-stock h)
-
-  pub list-same : leb (value .orders) 8 && listInBounds (jobOf value) ≡ listInBounds job
-  unfolding listInBounds within jobOf
-  list-same = go (leb (value .orders) 8) refl
+  -- the test of the list is that of the job
+  list-same : listTest (jobValue job) ≡ listInBounds job
+  unfolding listInBounds within jobOf jobValue
+  list-same = go (leb (length (job .lines)) 8) refl
     where
-      go : (b : Bool) → leb (value .orders) 8 ≡ b → b && listInBounds (jobOf value) ≡ listInBounds job
-      go true e = ap (λ (lines : List OrderLine). listInBounds (record { layout = job .layout; policy = job .policy; stock = job .stock; lines = lines })) (same-lines (leb-true (value .orders) 8 e))
-      go false e =
-          let many : 8 < length (job .lines) = omega (arith, k .orders, leb-false (value .orders) 8 e) in
-          rw (listInBounds, within, le-leb 1 (length (job .lines)) (omega arith), lt-leb (length (job .lines)) 8 many)
+      go : (b : Bool) → leb (length (job .lines)) 8 ≡ b → b && listInBounds (jobOf (jobValue job)) ≡ listInBounds job
+      go true e = ap (λ (lines : List OrderLine). listInBounds (among (job .stock) lines)) (whole-lines (leb-true (length (job .lines)) 8 e))
+      go false e = rw (listInBounds, within, e, le-leb 1 (length (job .lines)) (omega (arith, leb-false (length (job .lines)) 8 e)))
 
-  pub articles-same : value .orders ≤ 8 → anyTwo sameArticle (jobOf value .lines) ≡ anyTwo sameArticle (job .lines)
-  unfolding jobOf
-  articles-same h = ap (anyTwo sameArticle) (same-lines h)
+-- the outcomes of the tests on what was read are those of the tests on the job
+module _ (raw : RawJob) (job : Job) (e : raw ≡ rawOf (some job)) {b : Bool} where
+  layout-on : layoutInBounds (raw .job .layout) ≡ b → layoutInBounds (job .layout) ≡ b
+  unfolding rawOf jobValue
+  layout-on t = sym (ap (λ (r : RawJob). layoutInBounds (r .job .layout)) e) ∙ t
 
-  pub weight-same : value .orders ≤ 8 → ltb 256 (weight (jobOf value .lines)) ≡ ltb 256 (weight (job .lines))
-  unfolding jobOf
-  weight-same h = ap (λ (lines : List OrderLine). ltb 256 (weight lines)) (same-lines h)
+  stock-on : stockTest (raw .job) ≡ b → stockInBounds job ≡ b
+  unfolding rawOf
+  stock-on t = sym (stock-same job) ∙ sym (ap (λ (r : RawJob). stockTest (r .job)) e) ∙ t
 
-  pub short-same : value .records ≤ 384 → value .orders ≤ 8 → shortOfStock (jobOf value) ≡ shortOfStock job
-  short-same h l = ap shortOfStock (same-job h l)
+  list-on : listTest (raw .job) ≡ b → listInBounds job ≡ b
+  unfolding rawOf
+  list-on t = sym (list-same job) ∙ sym (ap (λ (r : RawJob). listTest (r .job)) e) ∙ t
 
--- the stock has passed its tests
-pub stock-ready : (value : JobValue) → layoutInBounds (value .layout) ≡ true → leb (value .records) 384 && stockInBounds (jobOf value) ≡ true → StockReady value
-stock-ready value z e =
-    let t = both-true (leb (value .records) 384) (stockInBounds (jobOf value)) e in
-    record { count = leb-true (value .records) 384 (t .0); layout = z; stock = t .1 }
+module _ (raw : RawJob) (job : Job) (e : raw ≡ rawOf (some job)) where
+  -- all records of a stock within the bounds are kept
+  stock-kept : stockTest (raw .job) ≡ true → length (job .stock) ≤ 384
+  stock-kept t = stock-within job .0 (stock-on raw job e t) .count
 
--- the list has passed its tests
-pub list-ready : (value : JobValue) → leb (value .orders) 8 && listInBounds (jobOf value) ≡ true → ListReady value
-list-ready value e =
-    let t = both-true (leb (value .orders) 8) (listInBounds (jobOf value)) e in
-    record { count = leb-true (value .orders) 8 (t .0); list = t .1 }
+  -- all lines of a list within the bounds are kept
+  list-kept : listTest (raw .job) ≡ true → length (job .lines) ≤ 8
+  list-kept t = list-within job .0 (list-on raw job e t) .count .1
 
--- the refusal of a job from the outcomes of its tests
-pub rows : (job : Job) {layout stock cells list articles heavy short : Bool}
-    → layoutInBounds (job .layout) ≡ layout → stockInBounds job ≡ stock → anyTwo sameCell (job .stock) ≡ cells → listInBounds job ≡ list
-    → anyTwo sameArticle (job .lines) ≡ articles → ltb 256 (weight (job .lines)) ≡ heavy → shortOfStock job ≡ short
-    → jobRefusal job ≡ firstRow ((not layout, LayoutBounds) ∷ (not stock, StockBounds) ∷ (cells, CellTwice) ∷ (not list, ListBounds) ∷ (articles, ArticleTwice) ∷ (heavy, TooHeavy) ∷ (short, ShortOfStock) ∷ [])
-unfolding jobRefusal jobRows
-rows job a b c d e f g = rw (jobRefusal, jobRows, a, b, c, d, e, f, g)
+  module _ {b : Bool} where
+    cells-on : layoutInBounds (raw .job .layout) ≡ true → stockTest (raw .job) ≡ true → raw .twice ≡ b → anyTwo sameCell (job .stock) ≡ b
+    unfolding rawOf
+    cells-on l s t = sym (cells-bounded job (layout-on raw job e l) (stock-on raw job e s)) ∙ sym (ap (λ (r : RawJob). r .twice) e) ∙ t
 
--- no job was read
-pub no-job : (s : List ℕ) → readJob s ≡ none → bad NotAJobFile ≡ checkBytes s
-unfolding checkBytes
-no-job s e = rw (checkBytes, e)
+    articles-on : listTest (raw .job) ≡ true → anyTwo sameArticle (jobOf (raw .job) .lines) ≡ b → anyTwo sameArticle (job .lines) ≡ b
+    unfolding rawOf
+    articles-on l t =
+        ap (anyTwo sameArticle) (sym (whole-lines job (list-kept l)))
+        ∙ sym (ap (λ (r : RawJob). anyTwo sameArticle (jobOf (r .job) .lines)) e) ∙ t
 
--- a job to which no refusal applies is held whole, and admitted
-admitted-whole : (value : JobValue) (job : Job) → Keeps value job → jobRefusal job ≡ none → (jobOf value ≡ job) × Sound value
-admitted-whole value job k e =
+    weight-on : listTest (raw .job) ≡ true → ltb 256 (weight (jobOf (raw .job) .lines)) ≡ b → ltb 256 (weight (job .lines)) ≡ b
+    unfolding rawOf
+    weight-on l t =
+        ap (λ (lines : List OrderLine). ltb 256 (weight lines)) (sym (whole-lines job (list-kept l)))
+        ∙ sym (ap (λ (r : RawJob). ltb 256 (weight (jobOf (r .job) .lines))) e) ∙ t
+
+    short-on : stockTest (raw .job) ≡ true → listTest (raw .job) ≡ true → shortOfStock (jobOf (raw .job)) ≡ b → shortOfStock job ≡ b
+    unfolding rawOf
+    short-on s l t =
+        ap shortOfStock (sym (whole-job job (stock-kept s) (list-kept l)))
+        ∙ sym (ap (λ (r : RawJob). shortOfStock (jobOf (r .job))) e) ∙ t
+
+-- the refusal of the job that was read is that of the rows
+abbrev pub Rows : RawJob → (Job → List (Bool × Refusal)) → Type 0
+Rows raw rows = (job : Job) → raw ≡ rawOf (some job) → jobRefusal job ≡ firstRow (rows job)
+
+-- it is that of the rows behind the first k
+abbrev pub Past : ℕ → RawJob → Type 0
+Past k raw = Rows raw (λ (job : Job). drop k (jobRows job))
+
+-- each row in its turn, with the outcome of its test
+module _ (raw : RawJob) (b : Bool) where
+  pub row-layout : layoutInBounds (raw .job .layout) ≡ b → Rows raw (λ (job : Job). (not b, LayoutBounds) ∷ drop 1 (jobRows job))
+  unfolding jobRefusal jobRows
+  row-layout t job e = rw (jobRefusal, jobRows, layout-on raw job e t)
+
+  pub row-stock : Past 1 raw → stockTest (raw .job) ≡ b → Rows raw (λ (job : Job). (not b, StockBounds) ∷ drop 2 (jobRows job))
+  unfolding jobRows
+  row-stock h t job e = h job e ∙ rw (stock-on raw job e t)
+
+  pub row-cells : Past 2 raw → layoutInBounds (raw .job .layout) ≡ true → stockTest (raw .job) ≡ true → raw .twice ≡ b
+      → Rows raw (λ (job : Job). (b, CellTwice) ∷ drop 3 (jobRows job))
+  unfolding jobRows
+  row-cells h l s t job e = h job e ∙ rw (cells-on raw job e l s t)
+
+  pub row-list : Past 3 raw → listTest (raw .job) ≡ b → Rows raw (λ (job : Job). (not b, ListBounds) ∷ drop 4 (jobRows job))
+  unfolding jobRows
+  row-list h t job e = h job e ∙ rw (list-on raw job e t)
+
+  pub row-articles : Past 4 raw → listTest (raw .job) ≡ true → anyTwo sameArticle (jobOf (raw .job) .lines) ≡ b
+      → Rows raw (λ (job : Job). (b, ArticleTwice) ∷ drop 5 (jobRows job))
+  unfolding jobRows
+  row-articles h l t job e = h job e ∙ rw (articles-on raw job e l t)
+
+  pub row-weight : Past 5 raw → listTest (raw .job) ≡ true → ltb 256 (weight (jobOf (raw .job) .lines)) ≡ b
+      → Rows raw (λ (job : Job). (b, TooHeavy) ∷ drop 6 (jobRows job))
+  unfolding jobRows
+  row-weight h l t job e = h job e ∙ rw (weight-on raw job e l t)
+
+  pub row-short : Past 6 raw → stockTest (raw .job) ≡ true → listTest (raw .job) ≡ true → shortOfStock (jobOf (raw .job)) ≡ b
+      → Rows raw (λ (job : Job). (b, ShortOfStock) ∷ [])
+  unfolding jobRows
+  row-short h s l t job e = h job e ∙ rw (short-on raw job e s l t)
+
+-- the row that applies gives the verdict
+pub refused : (raw : RawJob) (x : Refusal) → ((job : Job) → raw ≡ rawOf (some job) → jobRefusal job ≡ some x) → Decides raw (Verdict.Refused x)
+unfolding Decides
+refused raw x h = λ job e. sym (ap verdictOf (h job e))
+
+-- no row applies
+pub passed : (raw : RawJob) → ((job : Job) → raw ≡ rawOf (some job) → jobRefusal job ≡ none) → Decides raw Verdict.Admitted
+unfolding Decides
+passed raw h = λ job e. sym (ap verdictOf (h job e))
+
+-- a job to which no refusal applies is kept whole, and admitted
+admitted-whole : (job : Job) → jobRefusal job ≡ none → (jobOf (jobValue job) ≡ job) × Sound (jobValue job)
+unfolding jobValue
+admitted-whole job e =
     let a = admitted job .0 e in
-    let records : value .records ≤ 384 = omega (arith, k .records, stock-within job .0 (a .stock) .count) in
-    let orders : value .orders ≤ 8 = omega (arith, k .orders, list-within job .0 (a .list) .count .1) in
-    let same = same-job value job k records orders in
+    let records = stock-within job .0 (a .stock) .count in
+    let orders = list-within job .0 (a .list) .count .1 in
+    let same = whole-job job records orders in
     (same, record { record-count = records; order-count = orders; admitted = rw same a })
 
--- a verdict that admits the job
-pub admitted-sound : (value : JobValue) (job : Job) → Keeps value job → (verdict : Verdict) → refusalOf verdict ≡ jobRefusal job → verdict ≡ Verdict.Admitted → Sound value
-admitted-sound value job k verdict e q = admitted-whole value job k (sym e ∙ ap refusalOf q) .1
+-- what the answer comes to is what the bytes come to
+checked : (s : List ℕ) → checkedOf (answerTo (readJob s)) ≡ checkBytes s
+unfolding checkBytes checkJob answerTo
+checked s = go (readJob s)
+  where
+    verdict : (job : Job) (o : Option Refusal) → jobRefusal job ≡ o → checkedAs (jobValue job) (verdictOf o) ≡ elim o [ none ↦ good job | some x ↦ bad x ]
+    verdict job none e = ap good (admitted-whole job e .0)
+    verdict job (some x) e = refl
 
--- a job was read
-pub job-checked : (s : List ℕ) (value : JobValue) (job : Job) → readJob s ≡ some job → Keeps value job → (verdict : Verdict) → refusalOf verdict ≡ jobRefusal job → checkedAs value verdict ≡ checkBytes s
-unfolding checkBytes checkJob
-job-checked s value job r k Verdict.Admitted e =
-    rw (checkBytes, r, checkJob, ← e) (ap good (admitted-whole value job k (sym e) .0))
-job-checked s value job r k (Verdict.Refused x) e = rw (checkBytes, r, checkJob, ← e)
+    go : (o : Option Job) → checkedOf (answerTo o) ≡ elim o [ none ↦ bad NotAJobFile | some job ↦ checkJob job ]
+    go none = refl
+    go (some job) = verdict job (jobRefusal job) refl
 
 -- a refused job is not admitted
-pub not-admitted : {C : Type 0} {r : Refusal} → Verdict.Refused r ≡ Verdict.Admitted → C
+not-admitted : {C : Type 0} {x : Refusal} → Verdict.Refused x ≡ Verdict.Admitted → C
 not-admitted e = let z : _≡_ {A = ℕ} 0 1 = cc in absurd (omega arith)
+
+-- an admitted job is sound
+sound : (o : Option Job) → answerTo o .verdict ≡ Verdict.Admitted → Sound (answerTo o .job)
+unfolding answerTo
+sound none q = not-admitted q
+sound (some job) q = go (jobRefusal job) refl q
+  where
+    go : (o : Option Refusal) → jobRefusal job ≡ o → verdictOf o ≡ Verdict.Admitted → Sound (jobValue job)
+    go none e q = admitted-whole job e .1
+    go (some x) e q = not-admitted q
+
+-- the answer to the bytes, and what follows of it
+pub answered : (s : List ℕ) (r : ReadJob) → r ≡ answerTo (readJob s)
+    → (checkedOf r ≡ checkBytes s) × ((r .verdict ≡ Verdict.Admitted → Sound (r .job)) × (r ≡ answerTo (readJob s)))
+answered s r e = (ap checkedOf e ∙ checked s, (λ q. rw e (sound (readJob s) (ap (λ (a : ReadJob). a .verdict) (sym e) ∙ q)), e))
+
+module _ (raw : RawJob) where
+  -- no job was read
+  pub no-job-read : (o : Option Job) → raw ≡ rawOf o → raw .ok ≡ false → _≡_ {A = ReadJob} record { verdict = Verdict.Refused NotAJobFile; job = raw .job } (answerTo o)
+  unfolding rawOf answerTo
+  no-job-read none e n = ap (λ (r : RawJob). record { verdict = Verdict.Refused NotAJobFile; job = r .job }) e
+  no-job-read (some job) e n = absurd (true≢false (ap (λ (r : RawJob). r .ok) (sym e) ∙ n))
+
+  -- a job was read
+  pub job-there : (o : Option Job) → raw ≡ rawOf o → raw .ok ≡ true → (job : Job) × (o ≡ some job) × (raw ≡ rawOf (some job))
+  unfolding rawOf
+  job-there none e y = absurd (true≢false (sym y ∙ ap (λ (r : RawJob). r .ok) e))
+  job-there (some job) e y = (job, refl, e)
+
+  -- the verdict on it
+  pub job-decided : (job : Job) → raw ≡ rawOf (some job) → (v : Verdict) → Decides raw v → _≡_ {A = ReadJob} record { verdict = v; job = raw .job } (answerTo (some job))
+  unfolding rawOf answerTo Decides
+  job-decided job e v d = ap₂ (λ (r : RawJob) (u : Verdict). record { verdict = u; job = r .job }) e (d job e)

@@ -1,23 +1,34 @@
--- The answer to job bytes: the job by value, or the first refusal that applies.
+-- The answer to job bytes: the verdict and the job by value.
 use mathlib.Core.Path.{_≡_}
 use mathlib.Core.Option.{Option, none, some}
 use Rattle.rules.specs.declared.Refusal.{Refusal}
+use Rattle.rules.specs.declared.Refusal.the-variants.{NotAJobFile}
 use Rattle.rules.specs.Jobs.{Job}
 use Rattle.rules.specs.Refusals.{jobRefusal, Checked, good, bad}
 use Rattle.values.specs.declared.JobValue.{JobValue}
+use Rattle.values.specs.Values.{jobOf}
+use Rattle.jobfile.specs.declared.raw.RawJob.{RawJob}
 use Rattle.jobfile.specs.declared.Verdict.{Verdict}
 use Rattle.jobfile.specs.declared.ReadJob.{ReadJob}
-use Rattle.values.specs.Values.{jobOf}
-use Rattle.jobfile.specs.Kept.{Keeps}
+use Rattle.jobfile.specs.Kept.{jobValue, noJob, rawOf}
 
--- the refusal that a verdict names
-abbrev pub refusalOf : Verdict → Option Refusal
-refusalOf Verdict.Admitted = none
-refusalOf (Verdict.Refused x) = some x
+-- the verdict that names a refusal, or none
+abbrev pub verdictOf : Option Refusal → Verdict
+verdictOf none = Verdict.Admitted
+verdictOf (some x) = Verdict.Refused x
 
--- a verdict is that on every job which the value holds
-unfoldable pub Decides : JobValue → Verdict → Type 0
-Decides value verdict = (job : Job) → Keeps value job → refusalOf verdict ≡ jobRefusal job
+-- a job was read
+unfoldable pub Holds : RawJob → Type 0
+Holds raw = (job : Job) × (raw ≡ rawOf (some job))
+
+-- the verdict on the job that was read
+unfoldable pub Decides : RawJob → Verdict → Type 0
+Decides raw verdict = (job : Job) → raw ≡ rawOf (some job) → verdict ≡ verdictOf (jobRefusal job)
+
+-- the answer to a job file, or to bytes that are none
+unfoldable pub answerTo : Option Job → ReadJob
+answerTo none = record { verdict = Verdict.Refused NotAJobFile; job = jobValue noJob }
+answerTo (some job) = record { verdict = verdictOf (jobRefusal job); job = jobValue job }
 
 -- what a verdict on a job by value comes to
 abbrev pub checkedAs : JobValue → Verdict → Checked

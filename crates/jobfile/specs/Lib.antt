@@ -1,4 +1,5 @@
 pub mod Places
 pub mod Ready
+pub mod Marking
 pub mod Kept
 pub mod Answer

@@ -1,8 +1,7 @@
 // The job cursor: a place in the job's bytes. Its methods read what stands there and hand back the value and the next cursor.
 ghost use mathlib.Core.Path.{_≡_};
-ghost use Prim.Native.Nat.{_+_, min};
-ghost use lib.ListN.{length, drop};
-ghost use Rattle.rules.specs.JobFile.{space, lineFeed, leadingDigits, valueOf, readByte, readField, readHeader, readWord};
+ghost use lib.ListN.{drop};
+ghost use Rattle.rules.specs.JobFile.{readByte, readField, readHeader, readWord};
 ghost use Rattle.jobfile.specs.Places.{digitsAt, stepOf, fieldOf};
 
 // A place in the job's bytes.

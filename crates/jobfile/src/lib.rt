@@ -7,12 +7,14 @@ mod raw;
 mod sections;
 mod twice;
 
+use crate::raw::RawJob;
 use rules::Refusal;
 use values::JobValue;
 ghost use mathlib.Core.Path.{_≡_};
+ghost use Rattle.rules.specs.JobFile.{readJob};
 ghost use Rattle.rules.specs.Refusals.{checkBytes};
 ghost use Rattle.values.specs.Values.{Sound};
-ghost use Rattle.jobfile.specs.Answer.{Decides, checkedOf};
+ghost use Rattle.jobfile.specs.Answer.{Holds, Decides, checkedOf, answerTo};
 
 // What becomes of a job: no refusal applies to it, or the first that does.
 pub enum Verdict {
@@ -20,16 +22,19 @@ pub enum Verdict {
     Refused(Refusal),
 }
 
-// The answer to job bytes. If the job is admitted, it is that of the bytes; if it is refused, nothing is said of `job`.
+// The answer to job bytes: the verdict, and the job with its first 384 records and its first 8 lines, refused or not. Where
+// there is no job file, the job is blank.
 pub struct ReadJob {
     pub verdict: Verdict,
     pub job: JobValue,
 }
 
 // The first refusal that applies to a job, in the order of the table.
-fn verdict_on(job: JobValue) -> Verdict
-    ensures { λ r. ⌜ Decides job r ⌝ }
+fn verdict_on(raw: RawJob) -> Verdict
+    requires { ⌜ Holds raw ⌝ }
+    ensures { λ r. ⌜ Decides raw r ⌝ }
 {
+    let job = raw.job;
     let z = job.layout;
     if !bounds::layout_in_bounds(z) {
         return Verdict::Refused(Refusal::LayoutBounds);
@@ -37,7 +42,7 @@ fn verdict_on(job: JobValue) -> Verdict
     if !bounds::stock_in_bounds(job) {
         return Verdict::Refused(Refusal::StockBounds);
     }
-    if twice::cell_twice(job) {
+    if raw.twice {
         return Verdict::Refused(Refusal::CellTwice);
     }
     if !bounds::list_in_bounds(job) {
@@ -59,6 +64,7 @@ fn verdict_on(job: JobValue) -> Verdict
 pub fn read_job(bytes: &[u8]) -> ReadJob
     ensures { λ r. ⌜ checkedOf r ≡ checkBytes (now (bytes .entry)) ⌝ }
     ensures { λ r. ⌜ (r .verdict ≡ Verdict.Admitted → Sound (r .job)) ⌝ }
+    ensures { λ r. ⌜ r ≡ answerTo (readJob (now (bytes .entry))) ⌝ }
 {
     let raw = raw::read_raw(bytes);
     let job = raw.job;
@@ -66,6 +72,6 @@ pub fn read_job(bytes: &[u8]) -> ReadJob
         let verdict = Verdict::Refused(Refusal::NotAJobFile);
         return ReadJob { verdict, job };
     }
-    let verdict = verdict_on(job);
+    let verdict = verdict_on(raw);
     ReadJob { verdict, job }
 }

@@ -7,18 +7,21 @@ use rules::Layout;
 use rules::Policy;
 use values::JobValue;
 ghost use mathlib.Core.Path.{_≡_};
-ghost use mathlib.Core.Bool.{false};
-ghost use Rattle.jobfile.specs.Kept.{RawOf};
+ghost use mathlib.Core.Option.{none};
+ghost use Rattle.rules.specs.JobFile.{readJob};
+ghost use Rattle.jobfile.specs.Kept.{rawOf};
 
-// A job as it stands in a job file, with the first 384 records and the first 8 lines of it; or no job file.
+// A job as it stands in a job file, with the first 384 records and the first 8 lines of it, and whether a cell stands in two
+// records; or no job file.
 pub struct RawJob {
     pub ok: bool,
     pub job: JobValue,
+    pub twice: bool,
 }
 
 // The answer where there is no job file.
 fn not_a_job_file() -> RawJob
-    ensures { λ r. ⌜ r .ok ≡ false ⌝ }
+    ensures { λ r. ⌜ r ≡ rawOf none ⌝ }
 {
     let stock = [no_record(); 384];
     let lines = [no_line(); 8];
@@ -39,12 +42,16 @@ fn not_a_job_file() -> RawJob
         orders: 0,
         lines,
     };
-    RawJob { ok: false, job }
+    RawJob {
+        ok: false,
+        job,
+        twice: false,
+    }
 }
 
 // The bytes as a job.
 pub fn read_raw(s: &[u8]) -> RawJob
-    ensures { λ r. ⌜ RawOf (now (s .entry)) (r .ok) (r .job) ⌝ }
+    ensures { λ r. ⌜ r ≡ rawOf (readJob (now (s .entry))) ⌝ }
 {
     if 16384 < s.len() {
         return not_a_job_file();
@@ -57,12 +64,13 @@ pub fn read_raw(s: &[u8]) -> RawJob
     if !records.ok {
         return not_a_job_file();
     }
-    let behind = Cursor { at: records.next };
+    let behind = records.next;
     let list = behind.list_section(s);
     if !list.ok {
         return not_a_job_file();
     }
-    if list.next < s.len() {
+    let last = list.next;
+    if last.at < s.len() {
         return not_a_job_file();
     }
     let stock = records.stock;
@@ -75,5 +83,9 @@ pub fn read_raw(s: &[u8]) -> RawJob
         orders: list.count,
         lines,
     };
-    RawJob { ok: true, job }
+    RawJob {
+        ok: true,
+        job,
+        twice: records.twice,
+    }
 }

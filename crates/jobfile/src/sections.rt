@@ -4,33 +4,37 @@ use crate::cursor::Field;
 use crate::lines::LayoutLine;
 use crate::lines::ListLine;
 use crate::lines::RecordLine;
+use crate::twice::mark;
+use crate::twice::no_marks;
 use rules::OrderLine;
 use rules::StockRecord;
 ghost use mathlib.Core.Path.{_≡_};
 ghost use lib.ListN.{drop};
 ghost use Rattle.rules.specs.JobFile.{readRecord, readLine, readLines, readSection, readLayoutSection, letterS, letterD};
-ghost use Rattle.jobfile.specs.Kept.{kept, keptOf};
+ghost use Rattle.jobfile.specs.Kept.{noRecord, noLine, noStock, noList, stockRead, listRead, Answers};
 ghost use Rattle.jobfile.specs.Places.{layoutOf};
 
-// The stock records that were read: whether all lines were, the next place, their number and the first 384 of them.
+// The stock records that were read: whether all lines were, the place behind them, their number, the first 384 of them, and
+// whether a cell stands in two.
 pub struct StockRead {
     pub ok: bool,
-    pub next: usize,
+    pub next: Cursor,
     pub count: usize,
     pub stock: [StockRecord; 384],
+    pub twice: bool,
 }
 
-// The order lines that were read: whether all lines were, the next place, their number and the first 8 of them.
+// The order lines that were read: whether all lines were, the place behind them, their number and the first 8 of them.
 pub struct ListRead {
     pub ok: bool,
-    pub next: usize,
+    pub next: Cursor,
     pub count: usize,
     pub lines: [OrderLine; 8],
 }
 
 // No stock record.
 pub fn no_record() -> StockRecord
-    ensures { λ r. ⌜ r ≡ record { aisle = 0; cell = 0; article = 0; quantity = 0 } ⌝ }
+    ensures { λ r. ⌜ r ≡ noRecord ⌝ }
 {
     StockRecord {
         aisle: 0,
@@ -42,7 +46,7 @@ pub fn no_record() -> StockRecord
 
 // No order line.
 pub fn no_line() -> OrderLine
-    ensures { λ r. ⌜ r ≡ record { article = 0; quantity = 0 } ⌝ }
+    ensures { λ r. ⌜ r ≡ noLine ⌝ }
 {
     OrderLine {
         article: 0,
@@ -50,80 +54,94 @@ pub fn no_line() -> OrderLine
     }
 }
 
+// The answer where the stock records cannot be read.
+fn no_stock() -> StockRead
+    ensures { λ r. ⌜ r ≡ noStock ⌝ }
+{
+    let stock = [no_record(); 384];
+    let next = Cursor { at: 0 };
+    StockRead {
+        ok: false,
+        next,
+        count: 0,
+        stock,
+        twice: false,
+    }
+}
+
+// The answer where the order lines cannot be read.
+fn no_list() -> ListRead
+    ensures { λ r. ⌜ r ≡ noList ⌝ }
+{
+    let lines = [no_line(); 8];
+    let next = Cursor { at: 0 };
+    ListRead {
+        ok: false,
+        next,
+        count: 0,
+        lines,
+    }
+}
+
 impl Cursor {
-    // The given number of stock records.
+    // The given number of stock records; each one's cell is marked as it is read.
     fn stock_records(self, s: &[u8], count: usize) -> StockRead
-        ensures { λ r. ⌜ keptOf (now (s .entry)) (r .ok) (r .next) (r .count) (r .stock) ≡ kept 384 (readLines readRecord count (drop (self .at) (now (s .entry)))) ⌝ }
+        ensures { λ r. ⌜ Answers (now (s .entry)) noStock stockRead (readLines readRecord count (drop (self .at) (now (s .entry)))) r ⌝ }
     {
         let mut stock = [no_record(); 384];
-        let mut at = self.at;
+        let mut marks = no_marks();
+        let mut here = self;
         let mut i = 0;
         while i < count {
-            let line = Cursor { at };
-            let RecordLine::Read(row, next) = line.stock_record(s) else {
-                return StockRead {
-                    ok: false,
-                    next: at,
-                    count,
-                    stock,
-                };
+            let RecordLine::Read(row, next) = here.stock_record(s) else {
+                return no_stock();
             };
             if i < 384 {
                 stock[i] = row;
             }
-            at = next.at;
+            marks = mark(marks, row);
+            here = next;
             i += 1;
         }
         StockRead {
             ok: true,
-            next: at,
+            next: here,
             count,
             stock,
+            twice: marks.twice,
         }
     }
 
     // The S section.
     pub fn stock_section(self, s: &[u8]) -> StockRead
-        ensures { λ r. ⌜ keptOf (now (s .entry)) (r .ok) (r .next) (r .count) (r .stock) ≡ kept 384 (readSection letterS readRecord (drop (self .at) (now (s .entry)))) ⌝ }
+        ensures { λ r. ⌜ Answers (now (s .entry)) noStock stockRead (readSection letterS readRecord (drop (self .at) (now (s .entry)))) r ⌝ }
     {
         let Field::Number(count, first) = self.header(s, 83) else {
-            let stock = [no_record(); 384];
-            return StockRead {
-                ok: false,
-                next: 0,
-                count: 0,
-                stock,
-            };
+            return no_stock();
         };
         first.stock_records(s, count)
     }
 
     // The given number of order lines.
     fn order_lines(self, s: &[u8], count: usize) -> ListRead
-        ensures { λ r. ⌜ keptOf (now (s .entry)) (r .ok) (r .next) (r .count) (r .lines) ≡ kept 8 (readLines readLine count (drop (self .at) (now (s .entry)))) ⌝ }
+        ensures { λ r. ⌜ Answers (now (s .entry)) noList listRead (readLines readLine count (drop (self .at) (now (s .entry)))) r ⌝ }
     {
         let mut lines = [no_line(); 8];
-        let mut at = self.at;
+        let mut here = self;
         let mut i = 0;
         while i < count {
-            let line = Cursor { at };
-            let ListLine::Read(row, next) = line.order_line(s) else {
-                return ListRead {
-                    ok: false,
-                    next: at,
-                    count,
-                    lines,
-                };
+            let ListLine::Read(row, next) = here.order_line(s) else {
+                return no_list();
             };
             if i < 8 {
                 lines[i] = row;
             }
-            at = next.at;
+            here = next;
             i += 1;
         }
         ListRead {
             ok: true,
-            next: at,
+            next: here,
             count,
             lines,
         }
@@ -131,16 +149,10 @@ impl Cursor {
 
     // The D section.
     pub fn list_section(self, s: &[u8]) -> ListRead
-        ensures { λ r. ⌜ keptOf (now (s .entry)) (r .ok) (r .next) (r .count) (r .lines) ≡ kept 8 (readSection letterD readLine (drop (self .at) (now (s .entry)))) ⌝ }
+        ensures { λ r. ⌜ Answers (now (s .entry)) noList listRead (readSection letterD readLine (drop (self .at) (now (s .entry)))) r ⌝ }
     {
         let Field::Number(count, first) = self.header(s, 68) else {
-            let lines = [no_line(); 8];
-            return ListRead {
-                ok: false,
-                next: 0,
-                count: 0,
-                lines,
-            };
+            return no_list();
         };
         first.order_lines(s, count)
     }

@@ -1,36 +1,47 @@
 -- `jobfile::read_job` meets its contract: what was read, and the verdict on it.
-use mathlib.Core.Bool.{Bool}
-use mathlib.Core.Path.{subst}
+use Prim.Native.Nat.{ℕ}
+use mathlib.Core.List.{List}
+use mathlib.Core.Option.{some}
+use mathlib.Core.Path.{_≡_, ap, sym, _∙_}
 use borrow.Author.Needs.{needs}
 use borrow.Author.Tests.{not-true, not-false}
 use denote.Ref.{now}
-use Rattle.jobfile.specs.Answer.{Decides}
-use Rattle.jobfile.specs.Kept.{RawOf}
-use Rattle.jobfile.proofs.Verdicts.{no-job, not-admitted, admitted-sound, job-checked}
+use Rattle.rules.specs.Jobs.{Job}
+use Rattle.rules.specs.JobFile.{readJob}
+use Rattle.jobfile.specs.Kept.{rawOf}
+use Rattle.jobfile.specs.Answer.{Holds, answerTo}
+use Rattle.jobfile.proofs.Verdicts.{answered, no-job-read, job-there, job-decided}
 use Rattle.jobfile.proofs.read_job.Statement.{statement}
 use Rattle.jobfile.proofs.read_job.Tie as tie
+
+abbrev bytes : tie.Else1 → List ℕ
+bytes c = now (c .before .before .before .before .before .args .bytes)
+
+-- a job was read of the bytes
+job-read : (c : tie.Else1) → (job : Job) × (readJob (bytes c) ≡ some job) × (c .before .before .before .read-raw .result ≡ rawOf (some job))
+job-read c =
+    let r = c .before .before .before .read-raw in
+    job-there (r .result) (readJob (bytes c)) (r .ensures) (not-false (r .result .ok) (c .if1 .left))
 
 read-raw-requires : tie.Need-read-raw-requires
 read-raw-requires c κs = search needs
 
 returns : tie.Need-returns
-returns c = let s = now (c .before .before .before .before .before .args .bytes) in
-    let raw = c .before .before .before .read-raw in
-    let told = subst (λ (b : Bool). RawOf s b (raw .result .job)) (not-true (raw .result .ok) (c .if1 .taken)) (raw .ensures) in
-    (no-job s told, λ q. not-admitted q)
+returns c =
+    let s = now (c .before .before .before .before .before .args .bytes) in
+    let r = c .before .before .before .read-raw in
+    answered s _ (no-job-read (r .result) (readJob s) (r .ensures) (not-true (r .result .ok) (c .if1 .taken)))
 
 verdict-on-requires : tie.Need-verdict-on-requires
-verdict-on-requires c κs = search needs
+unfolding Holds
+verdict-on-requires c κs = let t = job-read c in (t .0, t .2)
 
 returns-2 : tie.Need-returns-2
-unfolding Decides
-returns-2 c = let s = now (c .before .before .before .before .before .before .args .bytes) in
-    let raw = c .before .before .before .before .read-raw in
-    let value = raw .result .job in
-    let told = subst (λ (b : Bool). RawOf s b value) (not-false (raw .result .ok) (c .before .if1 .left)) (raw .ensures) in
-    let job = told .0 in
-    let first = c .verdict-on .ensures job (told .2) in
-    (job-checked s value job (told .1) (told .2) (c .verdict-on .result) first, admitted-sound value job (told .2) (c .verdict-on .result) first)
+returns-2 c =
+    let at-verdict = c .before in
+    let raw = at-verdict .before .before .before .read-raw .result in
+    let t = job-read at-verdict in
+    answered (bytes at-verdict) _ (job-decided raw (t .0) (t .2) (c .verdict-on .result) (c .verdict-on .ensures) ∙ ap answerTo (sym (t .1)))
 
 pub read-job-spec : {M : Type 1} → statement M
 read-job-spec = tie.close (tie.spec read-raw-requires returns verdict-on-requires returns-2)

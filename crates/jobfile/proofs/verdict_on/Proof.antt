@@ -1,91 +1,143 @@
--- `jobfile::verdict_on` meets its contract: each test on the value is that on the job it holds; the first that applies is the refusal.
-use mathlib.Core.Path.{refl, sym, _∙_}
+-- `jobfile::verdict_on` meets its contract: the rows of the table in their order, each with the outcome of its test.
+use mathlib.Core.Bool.{true, false}
+use mathlib.Core.Path.{_≡_, sym, _∙_}
 use borrow.Author.Needs.{needs}
 use borrow.Author.Tests.{not-true, not-false}
-use Rattle.jobfile.specs.Answer.{Decides}
-use Rattle.jobfile.specs.Ready.{StockReady, ListReady}
-use Rattle.jobfile.proofs.Verdicts.{layout-same, stock-same, cells-same, list-same, articles-same, weight-same, short-same, stock-ready, list-ready, rows}
+use Rattle.rules.specs.declared.Refusal.the-variants.{LayoutBounds, StockBounds, CellTwice, ListBounds, ArticleTwice, TooHeavy, ShortOfStock}
+use Rattle.rules.specs.Store.{layoutInBounds}
+use Rattle.jobfile.specs.declared.raw.RawJob.{RawJob}
+use Rattle.jobfile.proofs.Verdicts.{stockTest, listTest, stock-ready, list-ready, Past, row-layout, row-stock, row-cells, row-list, row-articles, row-weight, row-short, refused, passed}
 use Rattle.jobfile.proofs.verdict_on.Statement.{statement}
 use Rattle.jobfile.proofs.verdict_on.Tie as tie
 
--- the stock has passed its tests
-stock-passed : (c : tie.Else2) → StockReady (c .before .before .before .before .before .args .job)
-stock-passed c = let x = c .before .before .before .before .before in stock-ready (x .args .job) (sym (c .before .before .before .layout-in-bounds .ensures) ∙ not-false (c .before .before .before .layout-in-bounds .result) (c .before .before .if1 .left)) (sym (c .before .stock-in-bounds .ensures) ∙ not-false (c .before .stock-in-bounds .result) (c .if2 .left))
+-- what was read, seen from behind each test
+abbrev raw-1 : tie.Else1 → RawJob
+raw-1 c = c .before .before .before .before .args .raw
 
--- the list has passed its tests
-list-passed : (c : tie.Else4) → ListReady (c .before .before .before .before .before .before .before .before .before .args .job)
-list-passed c = let x = c .before .before .before .before .before .before .before .before .before in list-ready (x .args .job) (sym (c .before .list-in-bounds .ensures) ∙ not-false (c .before .list-in-bounds .result) (c .if4 .left))
+abbrev raw-2 : tie.Else2 → RawJob
+raw-2 c = raw-1 (c .before .before)
+
+abbrev raw-3 : tie.Else3 → RawJob
+raw-3 c = raw-2 (c .before)
+
+abbrev raw-4 : tie.Else4 → RawJob
+raw-4 c = raw-3 (c .before .before)
+
+abbrev raw-5 : tie.Else5 → RawJob
+raw-5 c = raw-4 (c .before .before)
+
+abbrev raw-6 : tie.Else6 → RawJob
+raw-6 c = raw-5 (c .before .before)
+
+-- the tests that the others rely on have been passed
+layout-true : (c : tie.Else1) → layoutInBounds (raw-1 c .job .layout) ≡ true
+layout-true c = sym (c .before .layout-in-bounds .ensures) ∙ not-false (c .before .layout-in-bounds .result) (c .if1 .left)
+
+stock-true : (c : tie.Else2) → stockTest (raw-2 c .job) ≡ true
+stock-true c = sym (c .before .stock-in-bounds .ensures) ∙ not-false (c .before .stock-in-bounds .result) (c .if2 .left)
+
+list-true : (c : tie.Else4) → listTest (raw-4 c .job) ≡ true
+list-true c = sym (c .before .list-in-bounds .ensures) ∙ not-false (c .before .list-in-bounds .result) (c .if4 .left)
+
+-- behind each test the rows up to it do not apply
+past-layout : (c : tie.Else1) → Past 1 (raw-1 c)
+past-layout c = row-layout (raw-1 c) true (layout-true c)
+
+past-stock : (c : tie.Else2) → Past 2 (raw-2 c)
+past-stock c = row-stock (raw-2 c) true (past-layout (c .before .before)) (stock-true c)
+
+past-cells : (c : tie.Else3) → Past 3 (raw-3 c)
+past-cells c =
+    let at-cells = c .before in
+    row-cells (raw-3 c) false (past-stock at-cells) (layout-true (at-cells .before .before)) (stock-true at-cells) (c .if3 .left)
+
+past-list : (c : tie.Else4) → Past 4 (raw-4 c)
+past-list c = row-list (raw-4 c) true (past-cells (c .before .before)) (list-true c)
+
+past-articles : (c : tie.Else5) → Past 5 (raw-5 c)
+past-articles c =
+    let at-articles = c .before .before in
+    row-articles (raw-5 c) false (past-list at-articles) (list-true at-articles) (sym (c .before .article-twice .ensures) ∙ c .if5 .left)
+
+past-weight : (c : tie.Else6) → Past 6 (raw-6 c)
+past-weight c =
+    let at-weight = c .before .before in
+    row-weight (raw-6 c) false (past-articles at-weight) (list-true (at-weight .before .before)) (sym (c .before .too-heavy .ensures) ∙ c .if6 .left)
 
 layout-in-bounds-requires : tie.Need-layout-in-bounds-requires
 layout-in-bounds-requires c κs = search needs
 
 returns : tie.Need-returns
-unfolding Decides
-returns c = let v = c .before .before .before .args .job in
-    λ job k. sym (rows job (sym (layout-same v job k) ∙ sym (c .before .layout-in-bounds .ensures) ∙ not-true (c .before .layout-in-bounds .result) (c .if1 .taken)) refl refl refl refl refl refl)
+returns c =
+    let raw = c .before .before .before .before .args .raw in
+    let r = c .before .layout-in-bounds in
+    refused raw LayoutBounds (row-layout raw false (sym (r .ensures) ∙ not-true (r .result) (c .if1 .taken)))
 
 stock-in-bounds-requires : tie.Need-stock-in-bounds-requires
 stock-in-bounds-requires c κs = search needs
 
 returns-2 : tie.Need-returns-2
-unfolding Decides
-returns-2 c = let v = c .before .before .before .before .before .args .job in
-    λ job k. sym (rows job (sym (layout-same v job k) ∙ sym (c .before .before .before .layout-in-bounds .ensures) ∙ not-false (c .before .before .before .layout-in-bounds .result) (c .before .before .if1 .left)) (sym (stock-same v job k) ∙ sym (c .before .stock-in-bounds .ensures) ∙ not-true (c .before .stock-in-bounds .result) (c .if2 .taken)) refl refl refl refl refl)
-
-cell-twice-requires : tie.Need-cell-twice-requires
-cell-twice-requires c κs = stock-passed c
+returns-2 c =
+    let at-stock = c .before .before in
+    let raw = raw-1 at-stock in
+    let r = c .before .stock-in-bounds in
+    refused raw StockBounds (row-stock raw false (past-layout at-stock) (sym (r .ensures) ∙ not-true (r .result) (c .if2 .taken)))
 
 returns-3 : tie.Need-returns-3
-unfolding Decides
-returns-3 c = let v = c .before .before .before .before .before .before .before .args .job in
-    let stock = stock-passed (c .before .before) in
-    λ job k. sym (rows job (sym (layout-same v job k) ∙ sym (c .before .before .before .before .before .layout-in-bounds .ensures) ∙ not-false (c .before .before .before .before .before .layout-in-bounds .result) (c .before .before .before .before .if1 .left)) (sym (stock-same v job k) ∙ sym (c .before .before .before .stock-in-bounds .ensures) ∙ not-false (c .before .before .before .stock-in-bounds .result) (c .before .before .if2 .left)) (sym (cells-same v job k (stock .count)) ∙ sym (c .before .cell-twice .ensures) ∙ c .if3 .taken) refl refl refl refl)
+returns-3 c =
+    let at-cells = c .before in
+    let raw = raw-2 at-cells in
+    refused raw CellTwice (row-cells raw true (past-stock at-cells) (layout-true (at-cells .before .before)) (stock-true at-cells) (c .if3 .taken))
 
 list-in-bounds-requires : tie.Need-list-in-bounds-requires
 list-in-bounds-requires c κs = search needs
 
 returns-4 : tie.Need-returns-4
-unfolding Decides
-returns-4 c = let v = c .before .before .before .before .before .before .before .before .before .args .job in
-    let stock = stock-passed (c .before .before .before .before) in
-    λ job k. sym (rows job (sym (layout-same v job k) ∙ sym (c .before .before .before .before .before .before .before .layout-in-bounds .ensures) ∙ not-false (c .before .before .before .before .before .before .before .layout-in-bounds .result) (c .before .before .before .before .before .before .if1 .left)) (sym (stock-same v job k) ∙ sym (c .before .before .before .before .before .stock-in-bounds .ensures) ∙ not-false (c .before .before .before .before .before .stock-in-bounds .result) (c .before .before .before .before .if2 .left)) (sym (cells-same v job k (stock .count)) ∙ sym (c .before .before .before .cell-twice .ensures) ∙ c .before .before .if3 .left) (sym (list-same v job k) ∙ sym (c .before .list-in-bounds .ensures) ∙ not-true (c .before .list-in-bounds .result) (c .if4 .taken)) refl refl refl)
+returns-4 c =
+    let at-list = c .before .before in
+    let raw = raw-3 at-list in
+    let r = c .before .list-in-bounds in
+    refused raw ListBounds (row-list raw false (past-cells at-list) (sym (r .ensures) ∙ not-true (r .result) (c .if4 .taken)))
 
 article-twice-requires : tie.Need-article-twice-requires
-article-twice-requires c κs = list-passed c
+article-twice-requires c κs = list-ready (raw-4 c .job) (list-true c)
 
 returns-5 : tie.Need-returns-5
-unfolding Decides
-returns-5 c = let v = c .before .before .before .before .before .before .before .before .before .before .before .args .job in
-    let stock = stock-passed (c .before .before .before .before .before .before) in
-    let list = list-passed (c .before .before) in
-    λ job k. sym (rows job (sym (layout-same v job k) ∙ sym (c .before .before .before .before .before .before .before .before .before .layout-in-bounds .ensures) ∙ not-false (c .before .before .before .before .before .before .before .before .before .layout-in-bounds .result) (c .before .before .before .before .before .before .before .before .if1 .left)) (sym (stock-same v job k) ∙ sym (c .before .before .before .before .before .before .before .stock-in-bounds .ensures) ∙ not-false (c .before .before .before .before .before .before .before .stock-in-bounds .result) (c .before .before .before .before .before .before .if2 .left)) (sym (cells-same v job k (stock .count)) ∙ sym (c .before .before .before .before .before .cell-twice .ensures) ∙ c .before .before .before .before .if3 .left) (sym (list-same v job k) ∙ sym (c .before .before .before .list-in-bounds .ensures) ∙ not-false (c .before .before .before .list-in-bounds .result) (c .before .before .if4 .left)) (sym (articles-same v job k (list .count)) ∙ sym (c .before .article-twice .ensures) ∙ c .if5 .taken) refl refl)
+returns-5 c =
+    let at-articles = c .before .before in
+    let raw = raw-4 at-articles in
+    refused raw ArticleTwice (row-articles raw true (past-list at-articles) (list-true at-articles) (sym (c .before .article-twice .ensures) ∙ c .if5 .taken))
 
 too-heavy-requires : tie.Need-too-heavy-requires
-too-heavy-requires c κs = list-passed (c .before .before)
+too-heavy-requires c κs = list-ready (raw-5 c .job) (list-true (c .before .before))
 
 returns-6 : tie.Need-returns-6
-unfolding Decides
-returns-6 c = let v = c .before .before .before .before .before .before .before .before .before .before .before .before .before .args .job in
-    let stock = stock-passed (c .before .before .before .before .before .before .before .before) in
-    let list = list-passed (c .before .before .before .before) in
-    λ job k. sym (rows job (sym (layout-same v job k) ∙ sym (c .before .before .before .before .before .before .before .before .before .before .before .layout-in-bounds .ensures) ∙ not-false (c .before .before .before .before .before .before .before .before .before .before .before .layout-in-bounds .result) (c .before .before .before .before .before .before .before .before .before .before .if1 .left)) (sym (stock-same v job k) ∙ sym (c .before .before .before .before .before .before .before .before .before .stock-in-bounds .ensures) ∙ not-false (c .before .before .before .before .before .before .before .before .before .stock-in-bounds .result) (c .before .before .before .before .before .before .before .before .if2 .left)) (sym (cells-same v job k (stock .count)) ∙ sym (c .before .before .before .before .before .before .before .cell-twice .ensures) ∙ c .before .before .before .before .before .before .if3 .left) (sym (list-same v job k) ∙ sym (c .before .before .before .before .before .list-in-bounds .ensures) ∙ not-false (c .before .before .before .before .before .list-in-bounds .result) (c .before .before .before .before .if4 .left)) (sym (articles-same v job k (list .count)) ∙ sym (c .before .before .before .article-twice .ensures) ∙ c .before .before .if5 .left) (sym (weight-same v job k (list .count)) ∙ sym (c .before .too-heavy .ensures) ∙ c .if6 .taken) refl)
+returns-6 c =
+    let at-weight = c .before .before in
+    let raw = raw-5 at-weight in
+    refused raw TooHeavy (row-weight raw true (past-articles at-weight) (list-true (at-weight .before .before)) (sym (c .before .too-heavy .ensures) ∙ c .if6 .taken))
 
 short-of-stock-requires : tie.Need-short-of-stock-requires
-short-of-stock-requires c κs = (stock-passed (c .before .before .before .before .before .before .before .before), list-passed (c .before .before .before .before))
+short-of-stock-requires c κs =
+    let at-list = c .before .before .before .before in
+    let at-cells = at-list .before .before .before in
+    (stock-ready (raw-6 c .job) (layout-true (at-cells .before .before)) (stock-true at-cells), list-ready (raw-6 c .job) (list-true at-list))
 
 returns-7 : tie.Need-returns-7
-unfolding Decides
-returns-7 c = let v = c .before .before .before .before .before .before .before .before .before .before .before .before .before .before .before .args .job in
-    let stock = stock-passed (c .before .before .before .before .before .before .before .before .before .before) in
-    let list = list-passed (c .before .before .before .before .before .before) in
-    λ job k. sym (rows job (sym (layout-same v job k) ∙ sym (c .before .before .before .before .before .before .before .before .before .before .before .before .before .layout-in-bounds .ensures) ∙ not-false (c .before .before .before .before .before .before .before .before .before .before .before .before .before .layout-in-bounds .result) (c .before .before .before .before .before .before .before .before .before .before .before .before .if1 .left)) (sym (stock-same v job k) ∙ sym (c .before .before .before .before .before .before .before .before .before .before .before .stock-in-bounds .ensures) ∙ not-false (c .before .before .before .before .before .before .before .before .before .before .before .stock-in-bounds .result) (c .before .before .before .before .before .before .before .before .before .before .if2 .left)) (sym (cells-same v job k (stock .count)) ∙ sym (c .before .before .before .before .before .before .before .before .before .cell-twice .ensures) ∙ c .before .before .before .before .before .before .before .before .if3 .left) (sym (list-same v job k) ∙ sym (c .before .before .before .before .before .before .before .list-in-bounds .ensures) ∙ not-false (c .before .before .before .before .before .before .before .list-in-bounds .result) (c .before .before .before .before .before .before .if4 .left)) (sym (articles-same v job k (list .count)) ∙ sym (c .before .before .before .before .before .article-twice .ensures) ∙ c .before .before .before .before .if5 .left) (sym (weight-same v job k (list .count)) ∙ sym (c .before .before .before .too-heavy .ensures) ∙ c .before .before .if6 .left) (sym (short-same v job k (stock .count) (list .count)) ∙ sym (c .before .short-of-stock .ensures) ∙ c .if7 .taken))
+returns-7 c =
+    let at-short = c .before .before in
+    let raw = raw-6 at-short in
+    let at-list = at-short .before .before .before .before in
+    let at-cells = at-list .before .before .before in
+    refused raw ShortOfStock (row-short raw true (past-weight at-short) (stock-true at-cells) (list-true at-list) (sym (c .before .short-of-stock .ensures) ∙ c .if7 .taken))
 
 returns-8 : tie.Need-returns-8
-unfolding Decides
-returns-8 c = let v = c .before .before .before .before .before .before .before .before .before .before .before .before .before .before .before .args .job in
-    let stock = stock-passed (c .before .before .before .before .before .before .before .before .before .before) in
-    let list = list-passed (c .before .before .before .before .before .before) in
-    λ job k. sym (rows job (sym (layout-same v job k) ∙ sym (c .before .before .before .before .before .before .before .before .before .before .before .before .before .layout-in-bounds .ensures) ∙ not-false (c .before .before .before .before .before .before .before .before .before .before .before .before .before .layout-in-bounds .result) (c .before .before .before .before .before .before .before .before .before .before .before .before .if1 .left)) (sym (stock-same v job k) ∙ sym (c .before .before .before .before .before .before .before .before .before .before .before .stock-in-bounds .ensures) ∙ not-false (c .before .before .before .before .before .before .before .before .before .before .before .stock-in-bounds .result) (c .before .before .before .before .before .before .before .before .before .before .if2 .left)) (sym (cells-same v job k (stock .count)) ∙ sym (c .before .before .before .before .before .before .before .before .before .cell-twice .ensures) ∙ c .before .before .before .before .before .before .before .before .if3 .left) (sym (list-same v job k) ∙ sym (c .before .before .before .before .before .before .before .list-in-bounds .ensures) ∙ not-false (c .before .before .before .before .before .before .before .list-in-bounds .result) (c .before .before .before .before .before .before .if4 .left)) (sym (articles-same v job k (list .count)) ∙ sym (c .before .before .before .before .before .article-twice .ensures) ∙ c .before .before .before .before .if5 .left) (sym (weight-same v job k (list .count)) ∙ sym (c .before .before .before .too-heavy .ensures) ∙ c .before .before .if6 .left) (sym (short-same v job k (stock .count) (list .count)) ∙ sym (c .before .short-of-stock .ensures) ∙ c .if7 .left))
+returns-8 c =
+    let at-short = c .before .before in
+    let raw = raw-6 at-short in
+    let at-list = at-short .before .before .before .before in
+    let at-cells = at-list .before .before .before in
+    passed raw (row-short raw false (past-weight at-short) (stock-true at-cells) (list-true at-list) (sym (c .before .short-of-stock .ensures) ∙ c .if7 .left))
 
 pub verdict-on-spec : {M : Type 1} → statement M
 verdict-on-spec =
@@ -95,7 +147,6 @@ verdict-on-spec =
     returns
     stock-in-bounds-requires
     returns-2
-    cell-twice-requires
     returns-3
     list-in-bounds-requires
     returns-4

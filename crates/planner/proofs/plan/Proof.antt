@@ -15,7 +15,7 @@ good-bytes c = ap (checkedAs (c .before .before .read-job .result .job)) (sym (c
 
 -- and no refusal applies to it
 sound : (c : tie.After-enum-told) → Sound (c .before .before .read-job .result .job)
-sound c = c .before .before .read-job .ensures .1 (c .enum-told .given .1)
+sound c = c .before .before .read-job .ensures .1 .0 (c .enum-told .given .1)
 
 returns : tie.Need-returns
 returns c =

@@ -1,5 +1,5 @@
 -- `jobfile::amounts::all_stock` meets its contract: the sum over the records before i, and those from i on, are all the stock.
-use Prim.Native.Nat.{_-_}
+use Prim.Native.Nat.{_-_, _<_}
 use mathlib.Core.Logic.{⊎-elim}
 use mathlib.Core.Path.{_≡_}
 use native.Mathlib.Omega.{arith}
@@ -29,7 +29,12 @@ element-copy-out-row : tie.Need-element-copy-out-row Inv-loop μ-loop
 element-copy-out-row c = omega (arith, c .before .before .pre .count)
 
 add-sum : tie.Need-add-sum Inv-loop μ-loop
-add-sum c = let x = c .before .before .before .before .before .before in let l = c .before .before .before .before .before .loop in omega (arith, record-small (x .args .t1) (x .args .article) (l .sum) (l .i) (l .inv) (c .before .before .before .before .loop-test .taken) (omega (arith, size x, x .pre .count)), l .inv .small, x .pre .count)
+add-sum c =
+    let in-loop = c .before .before .before .before in
+    let x = in-loop .before .before in
+    let l = in-loop .before .loop in
+    let room : l .i < length (x .args .t1 .stock) = omega (arith, size x, x .pre .count) in
+    omega (arith, record-small (x .args .t1) (x .args .article) (l .sum) (l .i) (l .inv) (in-loop .loop-test .taken) room, l .inv .small, x .pre .count)
 
 add-i : tie.Need-add-i Inv-loop μ-loop
 add-i c = omega (arith, c .before .before .before .before .before .pre .count)
@@ -38,10 +43,16 @@ loop-less : tie.Need-loop-less Inv-loop μ-loop
 loop-less c = omega arith
 
 loop-again : tie.Need-loop-again Inv-loop μ-loop
-loop-again c = let x = c .before .before .before .before .before in
-    let l = c .before .before .before .before .loop in
-    let t = c .before .before .before .loop-test .taken in
-    ⊎-elim (λ w. rw (w .2) (stock-hit (x .args .t1) (x .args .article) (l .sum) (l .i) (l .inv) t (omega (arith, size x, x .pre .count)) (w .0 .taken))) (λ w. rw (w .1) (stock-miss (x .args .t1) (x .args .article) (l .sum) (l .i) (l .inv) t (omega (arith, size x, x .pre .count)) (w .0 .left))) (c .if1 .came)
+loop-again c =
+    let in-loop = c .before .before .before in
+    let x = in-loop .before .before in
+    let l = in-loop .before .loop in
+    let t = in-loop .loop-test .taken in
+    let room : l .i < length (x .args .t1 .stock) = omega (arith, size x, x .pre .count) in
+    ⊎-elim
+    (λ w. rw (w .2) (stock-hit (x .args .t1) (x .args .article) (l .sum) (l .i) (l .inv) t room (w .0 .taken)))
+    (λ w. rw (w .1) (stock-miss (x .args .t1) (x .args .article) (l .sum) (l .i) (l .inv) t room (w .0 .left)))
+    (c .if1 .came)
 
 returns : tie.Need-returns Inv-loop μ-loop
 returns c = let x = c .before .before in let l = c .before .loop in stock-summed (x .args .t1) (x .args .article) (l .sum) (l .i) (l .inv) (c .loop-test .left)

@@ -29,14 +29,29 @@ element-copy-out-line : tie.Need-element-copy-out-line Inv-loop μ-loop
 element-copy-out-line c = omega (arith, c .before .before .pre .count)
 
 add-product : tie.Need-add-product Inv-loop μ-loop
-add-product c = let x = c .before .before .before .before in let l = c .before .before .before .loop in omega (arith, quantity-small (x .args .t1 .lines) (x .args .t1 .orders) (l .product) (l .i) (l .inv) (c .before .before .loop-test .taken) (omega (arith, size x, x .pre .count)))
+add-product c =
+    let in-loop = c .before .before in
+    let x = in-loop .before .before in
+    let l = in-loop .before .loop in
+    let job = x .args .t1 in
+    omega (arith, quantity-small (job .lines) (job .orders) (l .product) (l .i) (l .inv) (in-loop .loop-test .taken) (omega (arith, size x, x .pre .count)))
 
 mul-product : tie.Need-mul-product Inv-loop μ-loop
-mul-product c = let x = c .before .before .before .before in let l = c .before .before .before .loop in omega (arith, product-small (x .args .t1 .lines) (x .args .t1 .orders) (l .product) (l .i) (l .inv) (c .before .before .loop-test .taken) (omega (arith, size x, x .pre .count)))
+mul-product c =
+    let in-loop = c .before .before in
+    let x = in-loop .before .before in
+    let l = in-loop .before .loop in
+    let job = x .args .t1 in
+    omega (arith, product-small (job .lines) (job .orders) (l .product) (l .i) (l .inv) (in-loop .loop-test .taken) (omega (arith, size x, x .pre .count)))
 
 returns : tie.Need-returns Inv-loop μ-loop
 unfolding jobOf
-returns c = let x = c .before .before .before .before .before in let l = c .before .before .before .before .loop in sym (weight-heavy (x .args .t1 .lines) (x .args .t1 .orders) (l .product) (l .i) (l .inv) (c .before .before .before .loop-test .taken) (omega (arith, size x, x .pre .count)) (c .if1 .taken))
+returns c =
+    let in-loop = c .before .before .before in
+    let x = in-loop .before .before in
+    let l = in-loop .before .loop in
+    let job = x .args .t1 in
+    sym (weight-heavy (job .lines) (job .orders) (l .product) (l .i) (l .inv) (in-loop .loop-test .taken) (omega (arith, size x, x .pre .count)) (c .if1 .taken))
 
 add-i : tie.Need-add-i Inv-loop μ-loop
 add-i c = omega (arith, c .before .before .before .before .before .pre .count)
@@ -45,7 +60,12 @@ loop-less : tie.Need-loop-less Inv-loop μ-loop
 loop-less c = omega arith
 
 loop-again : tie.Need-loop-again Inv-loop μ-loop
-loop-again c = let x = c .before .before .before .before .before in let l = c .before .before .before .before .loop in weight-more (x .args .t1 .lines) (x .args .t1 .orders) (l .product) (l .i) (l .inv) (c .before .before .before .loop-test .taken) (omega (arith, size x, x .pre .count)) (c .if1 .left)
+loop-again c =
+    let in-loop = c .before .before .before in
+    let x = in-loop .before .before in
+    let l = in-loop .before .loop in
+    let job = x .args .t1 in
+    weight-more (job .lines) (job .orders) (l .product) (l .i) (l .inv) (in-loop .loop-test .taken) (omega (arith, size x, x .pre .count)) (c .if1 .left)
 
 returns-2 : tie.Need-returns-2 Inv-loop μ-loop
 unfolding jobOf

@@ -27,7 +27,12 @@ is-within-requires-7 c κs = search needs
 
 returns : tie.Need-returns
 unfolding layoutInBounds
-returns c = rw (layoutInBounds, ← c .before .before .before .before .before .before .is-within .ensures, ← c .before .before .before .before .before .is-within2 .ensures, ← c .before .before .before .before .is-within3 .ensures, ← c .before .before .before .is-within4 .ensures, ← c .before .before .is-within5 .ensures, ← c .before .is-within6 .ensures, ← c .is-within7 .ensures)
+returns c =
+    let front = c .before .before .before .before in
+    let aisles = front .before .before .is-within .ensures in
+    let cells = front .before .is-within2 .ensures in
+    let back = c .before .before in
+    rw (layoutInBounds, ← aisles, ← cells, ← front .is-within3 .ensures, ← back .before .is-within4 .ensures, ← back .is-within5 .ensures, ← c .before .is-within6 .ensures, ← c .is-within7 .ensures)
 
 pub layout-in-bounds-spec : {M : Type 1} → statement M
 layout-in-bounds-spec =

@@ -8,7 +8,8 @@ use borrow.Author.Tests.{not-true, not-false}
 use Rattle.rules.specs.Lists.{allOf}
 use Rattle.rules.specs.Refusals.{lineInBounds}
 use Rattle.jobfile.proofs.Left.{left-all, AllFrom, all-hold, all-fails, all-more}
-use Rattle.jobfile.proofs.Ranges.{Sized, noLine, list-many, list-empty, list-tested}
+use Rattle.jobfile.specs.Kept.{noLine}
+use Rattle.jobfile.proofs.Ranges.{Sized, list-many, list-empty, list-tested}
 use Rattle.jobfile.proofs.bounds.list_in_bounds.Statement.{statement}
 use Rattle.jobfile.proofs.bounds.list_in_bounds.Tie as tie
 
@@ -41,11 +42,17 @@ line-in-bounds-requires : tie.Need-line-in-bounds-requires Inv-loop μ-loop
 line-in-bounds-requires c κs = search needs
 
 returns-3 : tie.Need-returns-3 Inv-loop μ-loop
-returns-3 c = let x = c .before .before .before .before .before .before .before in
+returns-3 c =
+    let in-loop = c .before .before .before in
+    let counted = in-loop .before .before in
+    let x = counted .before .before in
     let job = x .args .t1 in
-    let l = c .before .before .before .before .loop in
+    let l = in-loop .before .loop in
     let r = c .before .line-in-bounds in
-    sym (list-tested job (sized x) (c .before .before .before .before .before .if2 .left) (c .before .before .before .before .before .before .if1 .left) ∙ all-fails lineInBounds (job .orders) (job .lines) (allOf lineInBounds (take (job .orders) (job .lines))) (l .i) noLine (c .before .before .before .loop-test .taken) (omega (arith, sized x .lines)) (l .inv) (sym (r .ensures) ∙ not-true (r .result) (c .if3 .taken)))
+    let all = allOf lineInBounds (take (job .orders) (job .lines)) in
+    let here = sym (r .ensures) ∙ not-true (r .result) (c .if3 .taken) in
+    sym (list-tested job (sized x) (counted .if2 .left) (counted .before .if1 .left)
+    ∙ all-fails lineInBounds (job .orders) (job .lines) all (l .i) noLine (in-loop .loop-test .taken) (omega (arith, sized x .lines)) (l .inv) here)
 
 add-i : tie.Need-add-i Inv-loop μ-loop
 add-i c = omega arith
@@ -54,17 +61,25 @@ loop-less : tie.Need-loop-less Inv-loop μ-loop
 loop-less c = omega arith
 
 loop-again : tie.Need-loop-again Inv-loop μ-loop
-loop-again c = let x = c .before .before .before .before .before .before .before in
+loop-again c =
+    let in-loop = c .before .before .before in
+    let x = in-loop .before .before .before .before in
     let job = x .args .t1 in
-    let l = c .before .before .before .before .loop in
+    let l = in-loop .before .loop in
     let r = c .before .line-in-bounds in
-    all-more lineInBounds (job .orders) (job .lines) (allOf lineInBounds (take (job .orders) (job .lines))) (l .i) noLine (c .before .before .before .loop-test .taken) (omega (arith, sized x .lines)) (l .inv) (sym (r .ensures) ∙ not-false (r .result) (c .if3 .left))
+    let all = allOf lineInBounds (take (job .orders) (job .lines)) in
+    let here = sym (r .ensures) ∙ not-false (r .result) (c .if3 .left) in
+    all-more lineInBounds (job .orders) (job .lines) all (l .i) noLine (in-loop .loop-test .taken) (omega (arith, sized x .lines)) (l .inv) here
 
 returns-4 : tie.Need-returns-4 Inv-loop μ-loop
-returns-4 c = let x = c .before .before .before .before in
+returns-4 c =
+    let counted = c .before .before in
+    let x = counted .before .before in
     let job = x .args .t1 in
     let l = c .before .loop in
-    sym (list-tested job (sized x) (c .before .before .if2 .left) (c .before .before .before .if1 .left) ∙ all-hold lineInBounds (job .orders) (job .lines) (allOf lineInBounds (take (job .orders) (job .lines))) (l .i) (l .inv) (c .loop-test .left))
+    let all = allOf lineInBounds (take (job .orders) (job .lines)) in
+    sym (list-tested job (sized x) (counted .if2 .left) (counted .before .if1 .left)
+    ∙ all-hold lineInBounds (job .orders) (job .lines) all (l .i) (l .inv) (c .loop-test .left))
 
 pub list-in-bounds-spec : {M : Type 1} → statement M
 list-in-bounds-spec =

@@ -9,7 +9,8 @@ use Rattle.rules.specs.Lists.{allOf}
 use Rattle.rules.specs.Refusals.{recordInBounds}
 use Rattle.jobfile.specs.Ready.{storeOnly}
 use Rattle.jobfile.proofs.Left.{left-all, AllFrom, all-hold, all-fails, all-more}
-use Rattle.jobfile.proofs.Ranges.{Sized, noRecord, stock-many, stock-tested}
+use Rattle.jobfile.specs.Kept.{noRecord}
+use Rattle.jobfile.proofs.Ranges.{Sized, stock-many, stock-tested}
 use Rattle.jobfile.proofs.bounds.stock_in_bounds.Statement.{statement}
 use Rattle.jobfile.proofs.bounds.stock_in_bounds.Tie as tie
 
@@ -39,11 +40,18 @@ record-in-bounds-requires : tie.Need-record-in-bounds-requires Inv-loop μ-loop
 record-in-bounds-requires c κs = search needs
 
 returns-2 : tie.Need-returns-2 Inv-loop μ-loop
-returns-2 c = let x = c .before .before .before .before .before .before .before in
+returns-2 c =
+    let in-loop = c .before .before .before in
+    let counted = in-loop .before .before .before in
+    let x = counted .before in
     let job = x .args .t1 in
-    let l = c .before .before .before .before .loop in
+    let l = in-loop .before .loop in
     let r = c .before .record-in-bounds in
-    sym (stock-tested job (sized x) (c .before .before .before .before .before .before .if1 .left) ∙ all-fails (recordInBounds (storeOnly (job .layout))) (job .records) (job .stock) (allOf (recordInBounds (storeOnly (job .layout))) (take (job .records) (job .stock))) (l .i) noRecord (c .before .before .before .loop-test .taken) (omega (arith, sized x .stock)) (l .inv) (sym (r .ensures) ∙ not-true (r .result) (c .if2 .taken)))
+    let test = recordInBounds (storeOnly (job .layout)) in
+    let all = allOf test (take (job .records) (job .stock)) in
+    let here = sym (r .ensures) ∙ not-true (r .result) (c .if2 .taken) in
+    sym (stock-tested job (sized x) (counted .if1 .left)
+    ∙ all-fails test (job .records) (job .stock) all (l .i) noRecord (in-loop .loop-test .taken) (omega (arith, sized x .stock)) (l .inv) here)
 
 add-i : tie.Need-add-i Inv-loop μ-loop
 add-i c = omega arith
@@ -52,17 +60,26 @@ loop-less : tie.Need-loop-less Inv-loop μ-loop
 loop-less c = omega arith
 
 loop-again : tie.Need-loop-again Inv-loop μ-loop
-loop-again c = let x = c .before .before .before .before .before .before .before in
+loop-again c =
+    let in-loop = c .before .before .before in
+    let x = in-loop .before .before .before .before in
     let job = x .args .t1 in
-    let l = c .before .before .before .before .loop in
+    let l = in-loop .before .loop in
     let r = c .before .record-in-bounds in
-    all-more (recordInBounds (storeOnly (job .layout))) (job .records) (job .stock) (allOf (recordInBounds (storeOnly (job .layout))) (take (job .records) (job .stock))) (l .i) noRecord (c .before .before .before .loop-test .taken) (omega (arith, sized x .stock)) (l .inv) (sym (r .ensures) ∙ not-false (r .result) (c .if2 .left))
+    let test = recordInBounds (storeOnly (job .layout)) in
+    let all = allOf test (take (job .records) (job .stock)) in
+    let here = sym (r .ensures) ∙ not-false (r .result) (c .if2 .left) in
+    all-more test (job .records) (job .stock) all (l .i) noRecord (in-loop .loop-test .taken) (omega (arith, sized x .stock)) (l .inv) here
 
 returns-3 : tie.Need-returns-3 Inv-loop μ-loop
-returns-3 c = let x = c .before .before .before .before in
+returns-3 c =
+    let counted = c .before .before .before in
+    let x = counted .before in
     let job = x .args .t1 in
     let l = c .before .loop in
-    sym (stock-tested job (sized x) (c .before .before .before .if1 .left) ∙ all-hold (recordInBounds (storeOnly (job .layout))) (job .records) (job .stock) (allOf (recordInBounds (storeOnly (job .layout))) (take (job .records) (job .stock))) (l .i) (l .inv) (c .loop-test .left))
+    let test = recordInBounds (storeOnly (job .layout)) in
+    let all = allOf test (take (job .records) (job .stock)) in
+    sym (stock-tested job (sized x) (counted .if1 .left) ∙ all-hold test (job .records) (job .stock) all (l .i) (l .inv) (c .loop-test .left))
 
 pub stock-in-bounds-spec : {M : Type 1} → statement M
 stock-in-bounds-spec =

@@ -25,10 +25,18 @@ cast-b : tie.Need-cast-b Inv-loop μ-loop
 cast-b c = omega (arith, c .shared-slice-known .given (c .before .before .loop .at))
 
 returns : tie.Need-returns Inv-loop μ-loop
-returns c = let l = c .before .before .before .loop in let x = c .before .before .before .before .args in read-over (now (x .s)) (x .start) (l .at) (l .value) (l .inv) (below-digits (now (x .s)) (l .at) (c .before .before .loop-test .taken) (c .if1 .taken))
+returns c =
+    let at-loop = c .before .before .before in
+    let l = at-loop .loop in
+    let x = at-loop .before .args in
+    read-over (now (x .s)) (x .start) (l .at) (l .value) (l .inv) (below-digits (now (x .s)) (l .at) (c .before .before .loop-test .taken) (c .if1 .taken))
 
 returns-2 : tie.Need-returns-2 Inv-loop μ-loop
-returns-2 c = let l = c .before .before .before .before .loop in let x = c .before .before .before .before .before .args in read-over (now (x .s)) (x .start) (l .at) (l .value) (l .inv) (above-digits (now (x .s)) (l .at) (c .before .before .before .loop-test .taken) (c .if2 .taken))
+returns-2 c =
+    let at-loop = c .before .before .before .before in
+    let l = at-loop .loop in
+    let x = at-loop .before .args in
+    read-over (now (x .s)) (x .start) (l .at) (l .value) (l .inv) (above-digits (now (x .s)) (l .at) (c .before .before .before .loop-test .taken) (c .if2 .taken))
 
 mul-value : tie.Need-mul-value Inv-loop μ-loop
 mul-value c = omega arith
@@ -43,7 +51,11 @@ loop-less : tie.Need-loop-less Inv-loop μ-loop
 loop-less c = omega arith
 
 loop-again : tie.Need-loop-again Inv-loop μ-loop
-loop-again c = let l = c .before .before .before .before .before .loop in let x = c .before .before .before .before .before .before .args in read-more (now (x .s)) (x .start) (l .at) (l .value) (c .if3 .value) (l .inv) (omega arith) (omega arith) (omega arith) (⊎-elim (λ w. omega arith) (λ w. omega arith) (c .if3 .came))
+loop-again c =
+    let at-loop = c .before .before .before .before .before in
+    let l = at-loop .loop in
+    let x = at-loop .before .args in
+    read-more (now (x .s)) (x .start) (l .at) (l .value) (c .if3 .value) (l .inv) (omega arith) (omega arith) (omega arith) (⊎-elim (λ w. omega arith) (λ w. omega arith) (c .if3 .came))
 
 returns-3 : tie.Need-returns-3 Inv-loop μ-loop
 returns-3 c = let l = c .before .loop in let x = c .before .before .args in read-over (now (x .s)) (x .start) (l .at) (l .value) (l .inv) (past-digits (now (x .s)) (l .at) (c .loop-test .left))

@@ -9,7 +9,7 @@ use Rattle.rules.specs.Lists.{anyOf}
 use Rattle.rules.specs.Refusals.{sameArticle}
 use Rattle.rules.specs.declared.OrderLine.{OrderLine}
 use Rattle.jobfile.proofs.Left.{left, AnyFrom, any-fails, any-holds, any-more}
-use Rattle.jobfile.proofs.Ranges.{noLine}
+use Rattle.jobfile.specs.Kept.{noLine}
 use Rattle.jobfile.proofs.twice.article_from.Statement.{statement}
 use Rattle.jobfile.proofs.twice.article_from.Tie as tie
 
@@ -34,10 +34,13 @@ array-copy-out-other c = omega (arith, c .before .before .pre)
 
 returns : tie.Need-returns Inv-loop μ-loop
 unfolding sameArticle
-returns c = let x = c .before .before .before .before .before in
-    let l = c .before .before .before .before .loop in
+returns c =
+    let in-loop = c .before .before .before in
+    let x = in-loop .before .before in
+    let l = in-loop .before .loop in
     let a = x .args in
-    sym (any-holds (sameArticle (a .line)) (a .count) (a .t1) (anyOf (sameArticle (a .line)) (left (a .count) (a .from) (a .t1))) (l .i) noLine (c .before .before .before .loop-test .taken) (omega (arith, x .pre, size x)) (l .inv) (eq-eqb _ _ (c .if1 .taken)))
+    let all = anyOf (sameArticle (a .line)) (left (a .count) (a .from) (a .t1)) in
+    sym (any-holds (sameArticle (a .line)) (a .count) (a .t1) all (l .i) noLine (in-loop .loop-test .taken) (omega (arith, x .pre, size x)) (l .inv) (eq-eqb _ _ (c .if1 .taken)))
 
 add-i : tie.Need-add-i Inv-loop μ-loop
 add-i c = omega (arith, c .before .before .before .before .before .pre)
@@ -47,10 +50,13 @@ loop-less c = omega arith
 
 loop-again : tie.Need-loop-again Inv-loop μ-loop
 unfolding sameArticle
-loop-again c = let x = c .before .before .before .before .before in
-    let l = c .before .before .before .before .loop in
+loop-again c =
+    let in-loop = c .before .before .before in
+    let x = in-loop .before .before in
+    let l = in-loop .before .loop in
     let a = x .args in
-    any-more (sameArticle (a .line)) (a .count) (a .t1) (anyOf (sameArticle (a .line)) (left (a .count) (a .from) (a .t1))) (l .i) noLine (c .before .before .before .loop-test .taken) (omega (arith, x .pre, size x)) (l .inv) (ne-eqb _ _ (c .if1 .left))
+    let all = anyOf (sameArticle (a .line)) (left (a .count) (a .from) (a .t1)) in
+    any-more (sameArticle (a .line)) (a .count) (a .t1) all (l .i) noLine (in-loop .loop-test .taken) (omega (arith, x .pre, size x)) (l .inv) (ne-eqb _ _ (c .if1 .left))
 
 returns-2 : tie.Need-returns-2 Inv-loop μ-loop
 unfolding sameArticle

@@ -1,15 +1,13 @@
 -- `jobfile::twice::article_twice` meets its contract: the answer is that of the lines from i on.
 use Prim.Native.Nat.{_-_}
-use mathlib.Core.Path.{_≡_, sym, ap}
-use mathlib.Core.Bool.{Bool}
+use mathlib.Core.Path.{_≡_, sym, _∙_, ap}
 use native.Mathlib.Omega.{arith}
 use lib.ListN.{length, length-map, take}
 use Rattle.rules.specs.Lists.{anyTwo}
 use Rattle.rules.specs.Refusals.{sameArticle}
 use Rattle.values.specs.Values.{jobOf}
 use Rattle.jobfile.proofs.Left.{left-all, TwoFrom, two-none, two-found, two-more}
-use Rattle.jobfile.proofs.Told.{told}
-use Rattle.jobfile.proofs.Ranges.{noLine}
+use Rattle.jobfile.specs.Kept.{noLine}
 use Rattle.jobfile.proofs.twice.article_twice.Statement.{statement}
 use Rattle.jobfile.proofs.twice.article_twice.Tie as tie
 
@@ -40,11 +38,14 @@ article-from-requires c κs = c .before .before .before .before .pre .count
 
 returns : tie.Need-returns Inv-loop μ-loop
 unfolding jobOf
-returns c = let x = c .before .before .before .before .before .before in
-    let l = c .before .before .before .before .loop in
+returns c =
+    let in-loop = c .before .before .before in
+    let x = in-loop .before .before .before in
+    let l = in-loop .before .loop in
     let job = x .args .job in
-    let r = c .before .article-from in
-    sym (two-found sameArticle (job .orders) (job .lines) (anyTwo sameArticle (take (job .orders) (job .lines))) (l .i) noLine (c .before .before .before .loop-test .taken) (omega (arith, size x, x .pre .count)) (l .inv) (told (λ (b : Bool). b) (r .ensures) (c .if1 .taken)))
+    let all = anyTwo sameArticle (take (job .orders) (job .lines)) in
+    let here = sym (c .before .article-from .ensures) ∙ c .if1 .taken in
+    sym (two-found sameArticle (job .orders) (job .lines) all (l .i) noLine (in-loop .loop-test .taken) (omega (arith, size x, x .pre .count)) (l .inv) here)
 
 add-i : tie.Need-add-i Inv-loop μ-loop
 add-i c = omega (arith, c .before .before .before .before .before .before .pre .count)
@@ -53,11 +54,14 @@ loop-less : tie.Need-loop-less Inv-loop μ-loop
 loop-less c = omega arith
 
 loop-again : tie.Need-loop-again Inv-loop μ-loop
-loop-again c = let x = c .before .before .before .before .before .before in
-    let l = c .before .before .before .before .loop in
+loop-again c =
+    let in-loop = c .before .before .before in
+    let x = in-loop .before .before .before in
+    let l = in-loop .before .loop in
     let job = x .args .job in
-    let r = c .before .article-from in
-    two-more sameArticle (job .orders) (job .lines) (anyTwo sameArticle (take (job .orders) (job .lines))) (l .i) noLine (c .before .before .before .loop-test .taken) (omega (arith, size x, x .pre .count)) (l .inv) (told (λ (b : Bool). b) (r .ensures) (c .if1 .left))
+    let all = anyTwo sameArticle (take (job .orders) (job .lines)) in
+    let here = sym (c .before .article-from .ensures) ∙ c .if1 .left in
+    two-more sameArticle (job .orders) (job .lines) all (l .i) noLine (in-loop .loop-test .taken) (omega (arith, size x, x .pre .count)) (l .inv) here
 
 returns-2 : tie.Need-returns-2 Inv-loop μ-loop
 unfolding jobOf

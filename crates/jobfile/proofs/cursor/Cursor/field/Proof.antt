@@ -1,5 +1,6 @@
 -- `jobfile::cursor::Cursor::field` meets its contract: each test that fails says that the digits are no number; else the separator decides.
-use Prim.Native.Nat.{_+_, _<_, min}
+use Prim.Native.Nat.{ℕ, _+_, _<_, min}
+use mathlib.Core.List.{List}
 use mathlib.Core.Logic.{⊎-elim}
 use mathlib.Core.Option.{some}
 use mathlib.Core.Path.{_≡_, sym, ap}
@@ -15,19 +16,30 @@ use Rattle.jobfile.proofs.Told.{told}
 use Rattle.jobfile.proofs.cursor.Cursor.field.Statement.{statement}
 use Rattle.jobfile.proofs.cursor.Cursor.field.Tie as tie
 
+-- the bytes from the start on
+abbrev rest : tie.After-digits-from → List ℕ
+rest c = drop (c .before .before .args .self .at) (now (c .before .before .args .s))
+
 -- what the digits' run tells
-value-told : (c : tie.After-digits-from) → c .digits-from .result .value ≡ min 65536 (valueOf 0 (leadingDigits (drop (c .before .before .args .self .at) (now (c .before .before .args .s)))))
+value-told : (c : tie.After-digits-from) → c .digits-from .result .value ≡ min 65536 (valueOf 0 (leadingDigits (rest c)))
 unfolding digitsAt
 value-told c = ap (λ (d : Digits). d .value) (c .digits-from .ensures)
 
-end-told : (c : tie.After-digits-from) → c .digits-from .result .end ≡ c .before .before .args .self .at + length (leadingDigits (drop (c .before .before .args .self .at) (now (c .before .before .args .s))))
+end-told : (c : tie.After-digits-from) → c .digits-from .result .end ≡ c .before .before .args .self .at + length (leadingDigits (rest c))
 unfolding digitsAt
 end-told c = ap (λ (d : Digits). d .end) (c .digits-from .ensures)
 
 -- the number is read up to its separator
-number : (c : tie.Joined4) → readField (c .before .before .before .before .before .before .args .sep) (drop (c .before .before .before .before .before .before .args .self .at) (now (c .before .before .before .before .before .before .args .s))) ≡ (readByte (c .before .before .before .before .before .before .args .sep) (drop (c .before .before .before .before .digits-from .result .end) (now (c .before .before .before .before .before .before .args .s))) >>= λ r. some (c .before .before .before .before .digits-from .result .value, r .1))
-number c = let x = c .before .before .before .before .before .before .args in
+abbrev Number : tie.After-digits-from → Type 0
+Number d =
+    let x = d .before .before .args in
+    let run = d .digits-from .result in
+    readField (x .sep) (rest d) ≡ (readByte (x .sep) (drop (run .end) (now (x .s))) >>= λ r. some (run .value, r .1))
+
+number : (c : tie.Joined4) → Number (c .before .before .before .before)
+number c =
     let d = c .before .before .before .before in
+    let x = d .before .before .args in
     let s = now (x .s) in
     let ds = leadingDigits (drop (x .self .at) s) in
     let e : d .digits-from .result .end ≡ x .self .at + length ds = end-told d in
@@ -54,10 +66,16 @@ sub-if4 : tie.Need-sub-if4
 sub-if4 c = omega (arith, end-told (c .before .before .before))
 
 shared-slice-read-if5 : tie.Need-shared-slice-read-if5
-shared-slice-read-if5 c = let x = c .before .before .before .before .before .before .before .args in within-bytes (now (x .s)) (x .self .at) (x .sep) (omega (arith, end-told (c .before .before .before .before .before)))
+shared-slice-read-if5 c =
+    let d = c .before .before .before .before .before in
+    let x = d .before .before .args in
+    within-bytes (now (x .s)) (x .self .at) (x .sep) (omega (arith, end-told d))
 
 returns-4 : tie.Need-returns-4
-returns-4 c = let x = c .before .before .before .before .before .before .before .before .args in sym (field-zero (now (x .s)) (x .self .at) (x .sep) (omega (arith, end-told (c .before .before .before .before .before .before))) (c .if5 .taken))
+returns-4 c =
+    let d = c .before .before .before .before .before .before in
+    let x = d .before .before .args in
+    sym (field-zero (now (x .s)) (x .self .at) (x .sep) (omega (arith, end-told d)) (c .if5 .taken))
 
 byte-requires : tie.Need-byte-requires
 byte-requires c κs = search needs

@@ -19,7 +19,10 @@ enum-told c = search needs
 
 returns : tie.Need-returns
 unfolding readHeader
-returns c = let x = c .before .before .before .before .args in let s = now (x .s) in rw (readHeader, told (stepOf (x .letter) s) (c .before .before .byte .ensures) (c .enum-told .given .1))
+returns c =
+    let at-1 = c .before .before in
+    let x = at-1 .before .before .args in
+    rw (readHeader, told (stepOf (x .letter) (now (x .s))) (at-1 .byte .ensures) (c .enum-told .given .1))
 
 byte-requires-2 : tie.Need-byte-requires-2
 byte-requires-2 c κs = search needs
@@ -32,14 +35,25 @@ enum-told-2 c = search needs
 
 returns-2 : tie.Need-returns-2
 unfolding readHeader
-returns-2 c = let x = c .before .before .before .before .before .before .before .before .args in let s = now (x .s) in rw (readHeader, told (stepOf (x .letter) s) (c .before .before .before .before .before .before .byte .ensures) (c .before .before .before .before .first .given .1), told (stepOf 32 s) (c .before .before .byte2 .ensures) (c .enum-told2 .given .1))
+returns-2 c =
+    let at-2 = c .before .before in
+    let at-1 = at-2 .before .before .before .before in
+    let x = at-1 .before .before .args in
+    let letter = told (stepOf (x .letter) (now (x .s))) (at-1 .byte .ensures) (at-2 .before .before .first .given .1) in
+    rw (readHeader, letter, told (stepOf 32 (now (x .s))) (at-2 .byte2 .ensures) (c .enum-told2 .given .1))
 
 field-requires : tie.Need-field-requires
 field-requires c κs = search needs
 
 returns-3 : tie.Need-returns-3
 unfolding readHeader
-returns-3 c = let x = c .before .before .before .before .before .before .before .before .before .before .args in let s = now (x .s) in rw (readHeader, told (stepOf (x .letter) s) (c .before .before .before .before .before .before .before .before .byte .ensures) (c .before .before .before .before .before .before .first .given .1), told (stepOf 32 s) (c .before .before .before .before .byte2 .ensures) (c .before .before .count .given .1), sym (c .field .ensures))
+returns-3 c =
+    let at-2 = c .before .before .before .before in
+    let at-1 = at-2 .before .before .before .before in
+    let x = at-1 .before .before .args in
+    let letter = told (stepOf (x .letter) (now (x .s))) (at-1 .byte .ensures) (at-2 .before .before .first .given .1) in
+    let gap = told (stepOf 32 (now (x .s))) (at-2 .byte2 .ensures) (c .before .before .count .given .1) in
+    rw (readHeader, letter, gap, sym (c .field .ensures))
 
 pub header-spec : {M : Type 1} → statement M
 header-spec =

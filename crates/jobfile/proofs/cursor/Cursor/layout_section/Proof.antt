@@ -24,13 +24,25 @@ unfolding readLayoutSection
 returns c = let s = now (c .before .before .before .before .args .s) in rw (readLayoutSection, told (fieldOf s) (c .before .before .header .ensures) (c .enum-told .given .1))
 
 returns-2 : tie.Need-returns-2
-returns-2 c = let x = c .before .before .before .before .before .before .args in let s = now (x .s) in let n = c .before .before .count .given .0 in sym (layout-other (drop (x .self .at) s) (n .0) (drop (n .1 .0 .at) s) (told (fieldOf s) (c .before .before .before .before .header .ensures) (c .before .before .count .given .1)) (c .if1 .taken))
+returns-2 c =
+    let count = c .before .before in
+    let at-count = count .before .before in
+    let x = at-count .before .before .args in
+    let s = now (x .s) in
+    let n = count .count .given in
+    sym (layout-other (drop (x .self .at) s) (n .0 .0) (drop (n .0 .1 .0 .at) s) (told (fieldOf s) (at-count .header .ensures) (n .1)) (c .if1 .taken))
 
 layout-requires : tie.Need-layout-requires
 layout-requires c κs = search needs
 
 returns-3 : tie.Need-returns-3
-returns-3 c = let x = c .before .before .before .before .before .before .before .args in let s = now (x .s) in let n = c .before .before .before .count .given .0 in c .layout .ensures ∙ sym (layout-one (drop (x .self .at) s) (n .0) (drop (n .1 .0 .at) s) (told (fieldOf s) (c .before .before .before .before .before .header .ensures) (c .before .before .before .count .given .1)) (c .before .if1 .left))
+returns-3 c =
+    let count = c .before .before .before in
+    let at-count = count .before .before in
+    let x = at-count .before .before .args in
+    let s = now (x .s) in
+    let n = count .count .given in
+    c .layout .ensures ∙ sym (layout-one (drop (x .self .at) s) (n .0 .0) (drop (n .0 .1 .0 .at) s) (told (fieldOf s) (at-count .header .ensures) (n .1)) (c .before .if1 .left))
 
 pub layout-section-spec : {M : Type 1} → statement M
 layout-section-spec =

@@ -16,19 +16,25 @@ enum-known-count c = search needs
 enum-told : tie.Need-enum-told
 enum-told c = search needs
 
-no-line-requires : tie.Need-no-line-requires
-no-line-requires c κs = search needs
+no-list-requires : tie.Need-no-list-requires
+no-list-requires c κs = search needs
 
 returns : tie.Need-returns
 unfolding readSection
-returns c = let s = now (c .before .before .before .before .before .args .s) in rw (readSection, told (fieldOf s) (c .before .before .before .header .ensures) (c .before .enum-told .given .1))
+returns c =
+    let at-count = c .before .before .before in
+    let s = now (at-count .before .before .args .s) in
+    rw (readSection, told (fieldOf s) (at-count .header .ensures) (c .before .enum-told .given .1)) (c .no-list .ensures)
 
 order-lines-requires : tie.Need-order-lines-requires
 order-lines-requires c κs = search needs
 
 returns-2 : tie.Need-returns-2
 unfolding readSection
-returns-2 c = let s = now (c .before .before .before .before .before .before .args .s) in rw (readSection, told (fieldOf s) (c .before .before .before .before .header .ensures) (c .before .before .count .given .1)) (c .order-lines .ensures)
+returns-2 c =
+    let at-count = c .before .before .before .before in
+    let s = now (at-count .before .before .args .s) in
+    rw (readSection, told (fieldOf s) (at-count .header .ensures) (c .before .before .count .given .1)) (c .order-lines .ensures)
 
 pub list-section-spec : {M : Type 1} → statement M
 list-section-spec =
@@ -37,7 +43,7 @@ list-section-spec =
     header-requires
     enum-known-count
     enum-told
-    no-line-requires
+    no-list-requires
     returns
     order-lines-requires
     returns-2)

@@ -18,7 +18,10 @@ enum-told c = search needs
 
 returns : tie.Need-returns
 unfolding readLine
-returns c = let x = c .before .before .before .before .args in let s = now (x .s) in rw (readLine, told (fieldOf s) (c .before .before .field .ensures) (c .enum-told .given .1))
+returns c =
+    let at-1 = c .before .before in
+    let s = now (at-1 .before .before .args .s) in
+    rw (readLine, told (fieldOf s) (at-1 .field .ensures) (c .enum-told .given .1))
 
 field-requires-2 : tie.Need-field-requires-2
 field-requires-2 c κs = search needs
@@ -31,11 +34,21 @@ enum-told-2 c = search needs
 
 returns-2 : tie.Need-returns-2
 unfolding readLine
-returns-2 c = let x = c .before .before .before .before .before .before .before .before .args in let s = now (x .s) in rw (readLine, told (fieldOf s) (c .before .before .before .before .before .before .field .ensures) (c .before .before .before .before .article .given .1), told (fieldOf s) (c .before .before .field2 .ensures) (c .enum-told2 .given .1))
+returns-2 c =
+    let at-2 = c .before .before in
+    let at-1 = at-2 .before .before .before .before in
+    let s = now (at-1 .before .before .args .s) in
+    let article = told (fieldOf s) (at-1 .field .ensures) (at-2 .before .before .article .given .1) in
+    rw (readLine, article, told (fieldOf s) (at-2 .field2 .ensures) (c .enum-told2 .given .1))
 
 returns-3 : tie.Need-returns-3
 unfolding readLine
-returns-3 c = let x = c .before .before .before .before .before .before .before .before .before .args in let s = now (x .s) in rw (readLine, told (fieldOf s) (c .before .before .before .before .before .before .before .field .ensures) (c .before .before .before .before .before .article .given .1), told (fieldOf s) (c .before .before .before .field2 .ensures) (c .before .quantity .given .1))
+returns-3 c =
+    let at-2 = c .before .before .before in
+    let at-1 = at-2 .before .before .before .before in
+    let s = now (at-1 .before .before .args .s) in
+    let article = told (fieldOf s) (at-1 .field .ensures) (at-2 .before .before .article .given .1) in
+    rw (readLine, article, told (fieldOf s) (at-2 .field2 .ensures) (c .before .quantity .given .1))
 
 pub order-line-spec : {M : Type 1} → statement M
 order-line-spec =

@@ -1,28 +1,36 @@
 -- `jobfile::cursor::Cursor::order_lines` meets its contract: the loop keeps what was read in front of what is left.
 use Prim.Native.Nat.{_-_}
+use mathlib.Core.List.{List, [], _∷_, _++_}
 use mathlib.Core.Logic.{⊎-elim}
+use mathlib.Core.Path.{ap, _∙_}
 use native.Mathlib.Omega.{arith}
-use lib.ListN.{replicate, length-replicate}
+use lib.ListN.{drop, replicate}
 use borrow.Author.Needs.{needs}
 use denote.Ref.{now}
-use Rattle.rules.specs.JobFile.{readLine}
+use Rattle.rules.specs.declared.OrderLine.{OrderLine}
+use Rattle.rules.specs.JobFile.{readLine, readLines}
 use Rattle.jobfile.specs.Places.{lineOf}
-use Rattle.jobfile.proofs.Storing.{LinesTo, lines-none, lines-fail, lines-stored, lines-passed, lines-read}
+use Rattle.jobfile.specs.Kept.{noLine, noList, listRead}
+use Rattle.jobfile.proofs.Storing.{LinesTo, lines-none, lines-fail, lines-stored, lines-passed, lines-more, lines-read, lines-counted, answer-none, answer-some, list-held}
 use Rattle.jobfile.proofs.Told.{told}
 use Rattle.jobfile.proofs.cursor.Cursor.order_lines.Statement.{statement}
 use Rattle.jobfile.proofs.cursor.Cursor.order_lines.Tie as tie
 
+-- some lines have been read, up to here, and the first of them are stored
 abbrev Inv-loop : tie.InvT-loop
-Inv-loop s count lines₀ at₀ i₀ lines at i = LinesTo readLine 8 count at₀ s at i lines
+Inv-loop s count lines₀ here₀ i₀ lines here i = (xs : List OrderLine) × LinesTo readLine 8 noLine count (here₀ .at) s (here .at) i lines xs
 
 abbrev μ-loop : tie.MeasureT-loop
-μ-loop s count lines₀ at₀ i₀ lines at i = count - i
+μ-loop s count lines₀ here₀ i₀ lines here i = count - i
 
 no-line-requires : tie.Need-no-line-requires Inv-loop μ-loop
 no-line-requires c κs = search needs
 
 loop-holds : tie.Need-loop-holds Inv-loop μ-loop
-loop-holds c = let x = c .before .before .args in lines-none readLine 8 (x .count) (x .self .at) (now (x .s)) (replicate 8 (c .no-line .result)) (length-replicate 8 (c .no-line .result))
+loop-holds c =
+    let x = c .before .before .args in
+    let blanks = ap (λ (line : OrderLine). replicate 8 line) (c .no-line .ensures) in
+    ([], lines-none readLine 8 noLine (x .count) (x .self .at) (now (x .s)) (replicate 8 (c .no-line .result)) blanks)
 
 order-line-requires : tie.Need-order-line-requires Inv-loop μ-loop
 order-line-requires c κs = search needs
@@ -33,8 +41,20 @@ enum-known-row c = search needs
 enum-told : tie.Need-enum-told Inv-loop μ-loop
 enum-told c = search needs
 
+no-list-requires : tie.Need-no-list-requires Inv-loop μ-loop
+no-list-requires c κs = search needs
+
 returns : tie.Need-returns Inv-loop μ-loop
-returns c = let x = c .before .before .before .before .before .before .before .args in let l = c .before .before .before .before .loop in lines-fail readLine 8 (x .count) (x .self .at) (now (x .s)) (l .at) (l .i) (l .lines) (l .inv) (c .before .before .before .loop-test .taken) (told (lineOf (now (x .s))) (c .before .before .order-line .ensures) (c .enum-told .given .1)) (l .at) (x .count)
+returns c =
+    let at-line = c .before .before .before in
+    let in-loop = at-line .before in
+    let l = in-loop .before .loop in
+    let xs = l .inv .0 in
+    let x = in-loop .before .before .before .before .args in
+    let s = now (x .s) in
+    let e = told (lineOf s) (at-line .order-line .ensures) (c .before .enum-told .given .1) in
+    answer-none s noList listRead (readLines readLine (x .count) (drop (x .self .at) s)) (c .no-list .result)
+    (lines-fail readLine 8 noLine (x .count) (x .self .at) s (l .here .at) (l .i) (l .lines) xs (l .inv .1) (in-loop .loop-test .taken) e) (c .no-list .ensures)
 
 mul-lines : tie.Need-mul-lines Inv-loop μ-loop
 mul-lines c = omega arith
@@ -49,15 +69,32 @@ loop-less : tie.Need-loop-less Inv-loop μ-loop
 loop-less c = omega arith
 
 loop-again : tie.Need-loop-again Inv-loop μ-loop
-loop-again c = let x = c .before .before .before .before .before .before .before .before .before .args in
-    let l = c .before .before .before .before .before .before .loop in
-    let row = c .before .before .row .given .0 in
-    let e = told (lineOf (now (x .s))) (c .before .before .before .before .order-line .ensures) (c .before .before .row .given .1) in
-    let t = c .before .before .before .before .before .loop-test .taken in
-    ⊎-elim (λ w. rw (w .1) (lines-stored readLine 8 (x .count) (x .self .at) (now (x .s)) (l .at) (l .i) (l .lines) (l .inv) t (row .0) (row .1 .0 .at) e (w .0 .taken))) (λ w. rw (w .1) (lines-passed readLine 8 (x .count) (x .self .at) (now (x .s)) (l .at) (l .i) (l .lines) (l .inv) t (row .0) (row .1 .0 .at) e (w .0 .left))) (c .if1 .came)
+loop-again c =
+    let row = c .before .before .row .given in
+    let at-line = c .before .before .before .before in
+    let in-loop = at-line .before in
+    let l = in-loop .before .loop in
+    let xs = l .inv .0 in
+    let x = in-loop .before .before .before .before .args in
+    let s = now (x .s) in
+    let e = told (lineOf s) (at-line .order-line .ensures) (row .1) in
+    let stored = lines-stored readLine 8 noLine (x .count) (x .self .at) s (l .here .at) (l .i) (l .lines) xs (l .inv .1) (row .0 .0) in
+    let passed = lines-passed readLine 8 noLine (x .count) (x .self .at) s (l .here .at) (l .i) (l .lines) xs (l .inv .1) (row .0 .0) in (
+      xs ++ (row .0 .0 ∷ []),
+      lines-more readLine 8 noLine (x .count) (x .self .at) s (l .here .at) (l .i) (l .lines) xs (l .inv .1) (in-loop .loop-test .taken) (row .0 .0) (row .0 .1 .0 .at) e
+          (⊎-elim (λ w. w .1 ∙ stored (w .0 .taken)) (λ w. w .1 ∙ passed (w .0 .left)) (c .if1 .came)),
+    )
 
 returns-2 : tie.Need-returns-2 Inv-loop μ-loop
-returns-2 c = let x = c .before .before .before .before .args in let l = c .before .loop in lines-read readLine 8 (x .count) (x .self .at) (now (x .s)) (l .at) (l .i) (l .lines) (l .inv) (c .loop-test .left)
+returns-2 c =
+    let l = c .before .loop in
+    let x = c .before .before .before .before .args in
+    let s = now (x .s) in
+    let xs = l .inv .0 in
+    let count = lines-counted readLine 8 noLine (x .count) (x .self .at) s (l .here .at) (l .i) (l .lines) xs (l .inv .1) (c .loop-test .left) in
+    answer-some s noList listRead (readLines readLine (x .count) (drop (x .self .at) s)) _ xs (l .here)
+    (lines-read readLine 8 noLine (x .count) (x .self .at) s (l .here .at) (l .i) (l .lines) xs (l .inv .1) (c .loop-test .left))
+    (list-held (l .here) (x .count) (l .lines) xs count (l .inv .1 .stored))
 
 pub order-lines-spec : {M : Type 1} → statement M
 order-lines-spec =
@@ -70,6 +107,7 @@ order-lines-spec =
     order-line-requires
     enum-known-row
     enum-told
+    no-list-requires
     returns
     mul-lines
     array-set-from-lines

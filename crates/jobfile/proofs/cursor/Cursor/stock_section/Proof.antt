@@ -16,19 +16,25 @@ enum-known-count c = search needs
 enum-told : tie.Need-enum-told
 enum-told c = search needs
 
-no-record-requires : tie.Need-no-record-requires
-no-record-requires c κs = search needs
+no-stock-requires : tie.Need-no-stock-requires
+no-stock-requires c κs = search needs
 
 returns : tie.Need-returns
 unfolding readSection
-returns c = let s = now (c .before .before .before .before .before .args .s) in rw (readSection, told (fieldOf s) (c .before .before .before .header .ensures) (c .before .enum-told .given .1))
+returns c =
+    let at-count = c .before .before .before in
+    let s = now (at-count .before .before .args .s) in
+    rw (readSection, told (fieldOf s) (at-count .header .ensures) (c .before .enum-told .given .1)) (c .no-stock .ensures)
 
 stock-records-requires : tie.Need-stock-records-requires
 stock-records-requires c κs = search needs
 
 returns-2 : tie.Need-returns-2
 unfolding readSection
-returns-2 c = let s = now (c .before .before .before .before .before .before .args .s) in rw (readSection, told (fieldOf s) (c .before .before .before .before .header .ensures) (c .before .before .count .given .1)) (c .stock-records .ensures)
+returns-2 c =
+    let at-count = c .before .before .before .before in
+    let s = now (at-count .before .before .args .s) in
+    rw (readSection, told (fieldOf s) (at-count .header .ensures) (c .before .before .count .given .1)) (c .stock-records .ensures)
 
 pub stock-section-spec : {M : Type 1} → statement M
 stock-section-spec =
@@ -37,7 +43,7 @@ stock-section-spec =
     header-requires
     enum-known-count
     enum-told
-    no-record-requires
+    no-stock-requires
     returns
     stock-records-requires
     returns-2)

@@ -19,7 +19,10 @@ loop-holds : tie.Need-loop-holds Inv-loop μ-loop
 loop-holds c = let x = c .args in sym (behind-nothing (readWord (now (x .w)) (drop (x .self .at) (now (x .s)))))
 
 returns : tie.Need-returns Inv-loop μ-loop
-returns c = let l = c .before .before .loop in let x = c .before .before .before .args in sym (word-over (now (x .w)) (now (x .s)) (x .self .at) (l .at) (l .i) (l .inv) (c .before .loop-test .taken) (c .if1 .taken))
+returns c =
+    let l = c .before .before .loop in
+    let x = c .before .before .before .args in
+    sym (word-over (now (x .w)) (now (x .s)) (x .self .at) (l .at) (l .i) (l .inv) (c .before .loop-test .taken) (c .if1 .taken))
 
 shared-slice-read-if2 : tie.Need-shared-slice-read-if2 Inv-loop μ-loop
 shared-slice-read-if2 c = omega arith
@@ -28,7 +31,11 @@ shared-slice-read-if2-2 : tie.Need-shared-slice-read-if2-2 Inv-loop μ-loop
 shared-slice-read-if2-2 c = omega arith
 
 returns-2 : tie.Need-returns-2 Inv-loop μ-loop
-returns-2 c = let l = c .before .before .before .before .before .loop in let x = c .before .before .before .before .before .before .args in sym (word-other (now (x .w)) (now (x .s)) (x .self .at) (l .at) (l .i) (l .inv) (omega arith) (omega arith) (c .if2 .taken))
+returns-2 c =
+    let at-loop = c .before .before .before .before .before in
+    let l = at-loop .loop in
+    let x = at-loop .before .args in
+    sym (word-other (now (x .w)) (now (x .s)) (x .self .at) (l .at) (l .i) (l .inv) (omega arith) (omega arith) (c .if2 .taken))
 
 add-at : tie.Need-add-at Inv-loop μ-loop
 add-at c = omega arith
@@ -40,7 +47,11 @@ loop-less : tie.Need-loop-less Inv-loop μ-loop
 loop-less c = omega arith
 
 loop-again : tie.Need-loop-again Inv-loop μ-loop
-loop-again c = let l = c .before .before .before .before .before .loop in let x = c .before .before .before .before .before .before .args in word-more (now (x .w)) (now (x .s)) (x .self .at) (l .at) (l .i) (l .inv) (omega arith) (omega arith) (c .if2 .left)
+loop-again c =
+    let at-loop = c .before .before .before .before .before in
+    let l = at-loop .loop in
+    let x = at-loop .before .args in
+    word-more (now (x .w)) (now (x .s)) (x .self .at) (l .at) (l .i) (l .inv) (omega arith) (omega arith) (c .if2 .left)
 
 returns-3 : tie.Need-returns-3 Inv-loop μ-loop
 returns-3 c = let l = c .before .loop in let x = c .before .before .args in sym (word-read (now (x .w)) (now (x .s)) (x .self .at) (l .at) (l .i) (l .inv) (c .loop-test .left))
