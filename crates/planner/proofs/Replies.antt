@@ -22,13 +22,13 @@ module _ (job : Job) (before work : List ℕ) where
   -- a sheet space that is shorter than the text
   pub replied-short : length before < length (sheetText job) → Replied (written job before work) (Refused SheetSpace) before
   unfolding written refused
-  replied-short h = rw (lt-ltb (length before) (length (sheetText job)) h) (record { reply = refl; sheet = refl })
+  replied-short h = rw (lt-ltb (length before) (length (sheetText job)) h, written) (record { reply = refl; sheet = refl })
 
   -- a sheet space with the text in front
   pub replied-written : (after : List ℕ) (n : ℕ) → length (sheetText job) ≤ length before → Written (sheetText job) before after n → Replied (written job before work) (Served n) after
   unfolding written served
   replied-written after n h w =
-      rw (le-ltb (length before) (length (sheetText job)) h) (record { reply = ap Served (w .count); sheet = w .bytes })
+      rw (le-ltb (length before) (length (sheetText job)) h, written) (record { reply = ap Served (w .count); sheet = w .bytes })
 
   -- either way the work area is all zero
   written-clears : replicate (length work) 0 ≡ written job before work .work
@@ -60,8 +60,8 @@ module _ (bytes before work : List ℕ) where
     answer-written job e = go (ltb (length before) (length (sheetText job))) refl
       where
         go : (t : Bool) → ltb (length before) (length (sheetText job)) ≡ t → answer bytes before work ≡ written job before work
-        go true t = rw t (answer-long bytes before work h job (sym e) (ltb-true (length before) (length (sheetText job)) t))
-        go false t = rw t (answer-served bytes before work h job (sym e) (ltb-false (length before) (length (sheetText job)) t))
+        go true t = rw (t, written) (answer-long bytes before work h job (sym e) (ltb-true (length before) (length (sheetText job)) t))
+        go false t = rw (t, written) (answer-served bytes before work h job (sym e) (ltb-false (length before) (length (sheetText job)) t))
 
     -- and the work area is all zero
     pub answered-written : (job : Job) (r : Reply) (after zeros : List ℕ) → good job ≡ checkBytes bytes →

@@ -13,7 +13,7 @@ use Rattle.rules.specs.JobFile.{numeral, field, header, layoutText, recordText,
 use Rattle.rules.specs.JobFile.{isDigit, isNumber, readField, readHeader, readPolicyAs, readPolicy, readLayout, readRecord, readLine, readSection, readLayoutSection, readSections, readJob}
 use Rattle.rules.specs.Refusals.{jobRefusal, workLimit}
 use Rattle.rules.specs.Answers.{sheetLimit, answer}
-use Rattle.rules.specs.Examples.{stocked, _of_, alpha, cases}
+use Rattle.rules.specs.Examples.{stocked, _⨯_, alpha, cases}
 use Rattle.rules.proofs.Admission.{admitted}
 use Rattle.rules.proofs.Cases.{cases-hold}
 use Rattle.planner.proofs.Space.{sheet-suffices}
@@ -24,7 +24,7 @@ use Rattle.promises.proofs.Shown.{best, shown}
 
 -- the job of the cases 3 and 4
 abbrev twoSevens : Policy → Job
-twoSevens = alpha ((2 of 7) ∷ [])
+twoSevens = alpha ((7 ⨯ 2) ∷ [])
 
 -- every served call shows one text
 abbrev OneSheet : List ℕ → Type 0
@@ -48,7 +48,7 @@ the-sheet text one job read passes = go (replicate sheetLimit 0) (replicate work
 
 -- both files can be read
 file-read : (readJob (jobText (twoSevens Exact)) ≡ some (twoSevens Exact)) × (readJob (jobText (twoSevens Traversal)) ≡ some (twoSevens Traversal))
-unfolding _of_ stocked alpha jobText numeral field header layoutText recordText lineText sectionText isDigit isNumber readField readHeader readPolicyAs readPolicy readLayout readRecord readLine readSection readLayoutSection readSections readJob
+unfolding _⨯_ stocked alpha jobText numeral field header layoutText recordText lineText sectionText isDigit isNumber readField readHeader readPolicyAs readPolicy readLayout readRecord readLine readSection readLayoutSection readSections readJob
 file-read = (refl, refl)
 
 -- "one fixed sheet for all jobs"

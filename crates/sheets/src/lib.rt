@@ -1,6 +1,6 @@
 // The sheet: what is picked, and the text of a plan, written into lent space section by section.
 pub mod lines;
 pub mod picks;
-pub mod sections;
+mod sections;
 pub mod sheet;
 pub mod text;
