@@ -8,6 +8,8 @@ use mathlib.Core.Logic.{_⊎_, _↔_}
 use mathlib.Core.List.{List, [], _++_}
 use lib.ListN.{length, take}
 use Rattle.rules.specs.declared.Layout.{Layout}
+use Rattle.rules.specs.declared.Policy.{Policy}
+use Rattle.rules.specs.declared.Policy.the-variants.{Exact}
 use Rattle.rules.specs.declared.Refusal.{Refusal}
 use Rattle.rules.specs.declared.Refusal.the-variants.{WorkArea, ShortOfStock, SheetSpace}
 use Rattle.rules.specs.declared.Reply.the-variants.{Served, Refused}
@@ -20,12 +22,15 @@ use Rattle.rules.specs.Walks.{Walk, ClosedWalk, walkTreads}
 use Rattle.rules.specs.Picks.{picksOf}
 use Rattle.rules.specs.Refusals.{numberOf, Admitted}
 use Rattle.rules.specs.Answers.{answer, hostAnswer, sheetLimit, letterR, output}
-use Rattle.rules.specs.Examples.{AllHold, cases}
+use Rattle.rules.specs.Policies.{Allowed}
+use Rattle.rules.specs.Serving.{PlanServes}
+use Rattle.rules.specs.Examples.{AllHold, cases, ownCases}
 use Rattle.rules.proofs.Cases as Cases
 use Rattle.closedwalks.proofs.Statements.{walk-reads, plan-determined}
 use Rattle.promises.specs.Causes.{LineOutOfStock, OfJob, Cause, tableRow, FirstCause}
 use Rattle.promises.specs.Contents.{Content}
 use Rattle.promises.specs.Calls.{RefusedCall, ServedCall, Shows, Obeys, Shortest, TreadsAs, hostWork, hostGets, HostCall, PrintsSheet, PrintsRefusal}
+use Rattle.promises.proofs.Entering.{oneNine, throughAisleOne, entering-serves, entering-exact, entering-others}
 use Rattle.promises.proofs.Table.{job-file-read, refused-for, refused-by, served-for, served-by}
 use Rattle.promises.proofs.Shown.{refused-call, served-call, best, best-obeys, best-shortest, shown, shown-best}
 use Rattle.promises.proofs.PickRule
@@ -158,3 +163,11 @@ output-start = Program.output-start
 -- "Cases 1 to 14 are established as facts about the definitions, gathered into a table that one theorem covers."
 pub cases-hold : AllHold cases
 cases-hold = Cases.cases-hold
+
+-- what no case of document 01 pins is pinned by cases of our own, gathered into a second table
+pub own-cases-hold : AllHold ownCases
+own-cases-hold = Cases.own-cases-hold
+
+-- "an aisle holding no article of the list is VOID" under every policy but EXACT: a plan that serves the list and enters such an aisle
+pub entering-pinned : PlanServes (oneNine Exact) throughAisleOne × Allowed (oneNine Exact) throughAisleOne × ((policy : Policy) → (policy ≡ Exact → ⊥) → Allowed (oneNine policy) throughAisleOne → ⊥)
+entering-pinned = (entering-serves, entering-exact, entering-others)

@@ -8,5 +8,6 @@ pub mod Shown
 pub mod Varied
 pub mod Host
 pub mod Program
+pub mod Entering
 pub mod Demands
 pub mod Theory
