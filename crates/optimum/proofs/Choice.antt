@@ -68,10 +68,12 @@ module _ {A : Type 0} where
 
 -- the least of a list, element by element; `omega` reads `min`
 module _ {A : Type 0} (noWay : ℕ) where
+  -- the least is at most 'none'
   pub least-bound : (f : A → ℕ) (xs : List A) → leastOr noWay f xs ≤ noWay
   least-bound f [] = omega arith
   least-bound f (x ∷ xs) = omega (arith, least-bound f xs)
 
+  -- the least of two lists is the smaller of theirs
   pub least-append : (f : A → ℕ) (xs ys : List A) → leastOr noWay f (xs ++ ys) ≡ min (leastOr noWay f xs) (leastOr noWay f ys)
   least-append f [] ys = omega (arith, least-bound f ys)
   least-append f (x ∷ xs) ys = omega (arith, least-append f xs ys)
@@ -129,6 +131,7 @@ module _ {A B : Type 0} where
   least-map noWay f g [] = refl
   least-map noWay f g (x ∷ xs) = ap (min (f (g x))) (least-map noWay f g xs)
 
+  -- what is made of what was found
   abbrev pub mapFirst : (A → B) → Option A → Option B
   mapFirst g none = none
   mapFirst g (some x) = some (g x)

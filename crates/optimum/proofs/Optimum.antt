@@ -45,6 +45,7 @@ unfoldable pub tableChoice : Job → Option Rest
 tableChoice job = choose (routing job (allActions job)) (job .layout .aisles) 1 nothing (wholeDemand job)
 
 module _ (job : Job) (bounds : layoutInBounds (job .layout) ≡ true) where
+  -- the length of a plan of this job
   abbrev length-of : Plan → ℕ
   length-of = planLength (job .layout)
 
@@ -59,10 +60,12 @@ module _ (job : Job) (bounds : layoutInBounds (job .layout) ≡ true) where
         below = λ plan well. omega (arith, plan-length-49920 (job .layout) plan bounds well);
       }
 
+  -- by the bounds there is at least one aisle
   some-aisle : 1 ≤ job .layout .aisles
   some-aisle = layout-within (job .layout) .0 bounds .aisles .0
 
   module _ (plan : Plan) (serving : List·Memᴰ plan (servingPlans job)) where
+    -- as there is a serving plan, the first of the shortest is found, and it is the best plan
     best-found : firstShortest length-of (servingPlans job) ≡ some (bestPlan job)
     best-found = first-shortest-given length-of (servingPlans job) (bestPlan job) .1 (best-plan-first-shortest job plan serving)
 

@@ -30,6 +30,7 @@ module _ {A : Type 0} (noWay : ℕ) (ok : A → Bool) (len : A → ℕ) where
   abbrev found : List A → Option A
   found xs = firstShortest len (select ok xs)
 
+  -- each length is below 'none'
   abbrev Short : List A → Type 0
   Short xs = (x : A) → List·Memᴰ x xs → len x < noWay
 

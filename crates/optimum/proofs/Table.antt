@@ -15,6 +15,7 @@ use Rattle.optimum.specs.Table.{Rest, passagesBehind, onFrom, Problem, r
 use Rattle.optimum.specs.Table.{overPassage, afterAction, overAction, value, firstPassage, firstAction, choose}
 use Rattle.optimum.proofs.Choice.{least-bound, least-cong, least-step, first-step, first-at-cong, first-at-holds, on-cong, mapFirst}
 
+-- laws of what was found: in two steps, behind a way on, and as a way on
 mapFirst-mapFirst : {A B C : Type 0} (f : B → C) (g : A → B) (o : Option A) → mapFirst f (mapFirst g o) ≡ mapFirst (λ x. f (g x)) o
 mapFirst-mapFirst f g none = refl
 mapFirst-mapFirst f g (some x) = refl
@@ -32,6 +33,7 @@ abbrev onward : Action → Passage × Rest → Rest
 onward a t = (a, t .0) ∷ t .1
 
 module _ (P : Problem) where
+  -- 'none'
   abbrev noWay : ℕ
   noWay = P .cost .noWay
 
@@ -60,6 +62,7 @@ module _ (P : Problem) where
   abbrev actionWalked : ℕ → ℕ → P .State → P .Demand → Action → ℕ
   actionWalked n j s q a = actionThen P j a (leastOr noWay (wayAfter j s q a) (ways n j))
 
+  -- behind the last aisle there is one rest, and its cost is at most 'none'
   end-bound : (b : Bool) → min (cond b 0 noWay) noWay ≡ cond b 0 noWay
   end-bound true = omega arith
   end-bound false = omega arith
@@ -96,6 +99,7 @@ module _ (P : Problem) where
   value-least (suc n) j s q =
       least-cong noWay _ _ (action-least n j (value-least n (suc j)) s q) (P .candidates j) ∙ sym (actions-least n j s q)
 
+  -- as a least it is at most 'none'
   pub value-bound : (n j : ℕ) (s : P .State) (q : P .Demand) → value P n j s q ≤ noWay
   value-bound n j s q = rw value-least (least-bound noWay (restCost P j s q) (rests P n j))
 

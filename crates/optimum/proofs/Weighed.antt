@@ -44,9 +44,11 @@ pub record Weighs (job : Job) (c : Cost) (cost : Plan → ℕ) : Type 0 where
   pub below : (plan : Plan) → WellFormed (job .layout) plan → cost plan < c .noWay
 
 module _ (job : Job) (c : Cost) where
+  -- the table over all actions
   abbrev table : Problem
   table = weighed job c (allActions job)
 
+  -- 'none'
   abbrev noWay : ℕ
   noWay = c .noWay
 
@@ -79,6 +81,7 @@ module _ (job : Job) (c : Cost) where
           → map (onward a) (concatOf (λ p. map (λ rest. (p, rest)) following) passagesInOrder) ≡ map restOf (concatOf (λ p. map (prepend a p) plans) passagesInOrder)
       with-action a = map-concat _ _ passagesInOrder ∙ concat-cong _ _ (with-passage a) passagesInOrder ∙ sym (map-concat restOf _ passagesInOrder)
 
+  -- by induction on the aisles
   rests-plans : (n j : ℕ) → Paired n j
   unfolding allActions
   rests-plans zero j = singles (actionsOf (job .layout .cells))
@@ -90,6 +93,7 @@ module _ (job : Job) (c : Cost) where
   one-aisle true x y n = omega arith
   one-aisle false x y n = omega arith
 
+  -- behind the last aisle the sum is 0
   at-end : (b : Bool) → cond b 0 noWay ≡ cond b (min 0 noWay) noWay
   at-end true = omega arith
   at-end false = refl
@@ -99,12 +103,12 @@ module _ (job : Job) (c : Cost) where
   arrives j s q actions passages = isClosed (runFrom job j s actions passages) && met (demandAfter job j q actions)
 
   -- the cost of a rest: what it adds up to, if the machine accepts it and nothing is lacking; aisle by aisle
-  rest-cost : (actions : List Action) (passages : List Passage) (j : ℕ) (s : State) (q : List ℕ)
-      → restCost table j s q (pairUp actions passages) ≡ cond (arrives j s q actions passages) (min (costFrom c j actions passages) noWay) noWay
-  rest-cost [] passages j s q = at-end (isClosed s && met q)
-  rest-cost (a ∷ actions) passages j s q =
+  rest-cost : (candidates : ℕ → List Action) (actions : List Action) (passages : List Passage) (j : ℕ) (s : State) (q : List ℕ)
+      → restCost (weighed job c candidates) j s q (pairUp actions passages) ≡ cond (arrives j s q actions passages) (min (costFrom c j actions passages) noWay) noWay
+  rest-cost candidates [] passages j s q = at-end (isClosed s && met q)
+  rest-cost candidates (a ∷ actions) passages j s q =
       let p = headOr P00 passages in
-      let next = rest-cost actions (tail passages) (suc j) (passageStep job j p (actionStep job j a s)) (less q (gains job j a)) in
+      let next = rest-cost candidates actions (tail passages) (suc j) (passageStep job j p (actionStep job j a s)) (less q (gains job j a)) in
       ap (λ n. actionThen table j a (passageThen table j p n)) next
       ∙ one-aisle (arrives j s q (a ∷ actions) passages) (c .ofAction j a) (c .ofPassage j p) (costFrom c (suc j) actions (tail passages))
 
@@ -113,6 +117,7 @@ module _ (job : Job) (c : Cost) where
     abbrev start : ℕ
     start = value table (job .layout .aisles) 1 nothing (wholeDemand job)
 
+    -- all plans, and what each counts: its cost, or 'none' where it is not allowed or does not serve
     abbrev plans : List Plan
     plans = plansOf (job .layout .cells) (job .layout .aisles)
 
@@ -120,19 +125,23 @@ module _ (job : Job) (c : Cost) where
     planCounted = counted noWay (allowedServing job) cost
 
     -- the table counts a plan by its cost, or as 'none'
-    plan-counted : (plan : Plan) → WellFormed (job .layout) plan → restCost table 1 nothing (wholeDemand job) (restOf plan) ≡ planCounted plan
+    plan-counted : (candidates : ℕ → List Action) (plan : Plan) → WellFormed (job .layout) plan
+        → restCost (weighed job c candidates) 1 nothing (wholeDemand job) (restOf plan) ≡ planCounted plan
     unfolding restOf accepts
-    plan-counted plan well =
+    plan-counted candidates plan well =
         let its-cost : min (costFrom c 1 (plan .actions) (plan .passages)) noWay ≡ cost plan = omega (arith, weighs .adds-up plan well, weighs .below plan well) in
-        rest-cost (plan .actions) (plan .passages) 1 nothing (wholeDemand job)
+        rest-cost candidates (plan .actions) (plan .passages) 1 nothing (wholeDemand job)
         ∙ ap₂ (λ b n. cond (isClosed (runFrom job 1 nothing (plan .actions) (plan .passages)) && b) n noWay) (serves-met job plan) its-cost
 
+    -- the plans of the enumeration are well-formed
     agrees : (plan : Plan) → List·Memᴰ plan plans → restCost table 1 nothing (wholeDemand job) (restOf plan) ≡ planCounted plan
-    agrees plan m = plan-counted plan (enumeration-sound (job .layout) plan m)
+    agrees plan m = plan-counted (allActions job) plan (enumeration-sound (job .layout) plan m)
 
+    -- so each costs less than 'none'
     cheap : (plan : Plan) → List·Memᴰ plan plans → cost plan < noWay
     cheap plan m = weighs .below plan (enumeration-sound (job .layout) plan m)
 
+    -- the rests of all aisles are the plans; there is at least one aisle
     paired : rests table (job .layout .aisles) 1 ≡ map restOf plans
     paired = go (job .layout .aisles) some-aisle
       where

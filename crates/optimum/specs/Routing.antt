@@ -61,6 +61,7 @@ abbrev pub pairUp : List Action → List Passage → Rest
 pairUp [] passages = []
 pairUp (a ∷ actions) passages = (a, headOr P00 passages) ∷ pairUp actions (tail passages)
 
+-- the same of a whole plan
 unfoldable pub restOf : Plan → Rest
 restOf plan = pairUp (plan .actions) (plan .passages)
 

@@ -51,10 +51,11 @@ module _ (P : Problem) where
       (λ a. map (λ (t : Passage × Rest). (a, t .0) ∷ t .1) (concatOf (λ p. map (λ rest. (p, rest)) (rests n (suc j))) (passagesBehind (P .passages) n)))
       (P .candidates j)
 
-  -- the cost of an action of aisle j, or of the passage behind it, and of what follows
+  -- the cost of an action of aisle j and of what follows
   abbrev pub actionThen : ℕ → Action → ℕ → ℕ
   actionThen j a next = sumUpTo (P .cost .noWay) (P .cost .ofAction j a) next
 
+  -- the cost of the passage behind aisle j and of what follows
   abbrev pub passageThen : ℕ → Passage → ℕ → ℕ
   passageThen j p next = sumUpTo (P .cost .noWay) (P .cost .ofPassage j p) next
 
