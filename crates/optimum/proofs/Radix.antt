@@ -1,8 +1,8 @@
 -- The number of a demand below the weight and the demand of a number are inverse to each other. Assumes nothing.
-use Prim.Native.Nat.{ℕ, zero, suc, _+_, _*_, _-_, _/_, _%_, _≤_, _<_}
+use Prim.Native.Nat.{ℕ, suc, _+_, _*_, _-_, _/_, _%_, _<_}
 use native.Mathlib.Omega.{arith}
 use native.Mathlib.Nat.{mod-lt, mod-eq-of-lt, mod-add-div, div-eq-of-lt, add-mul-div-left, add-mul-mod-self-left, div-lt-iff-lt-mul, mul-comm, mul-le-mul-left, mul-suc}
-use mathlib.Core.Path.{_≡_, refl, sym, _∙_, ap, ap₂, subst}
+use mathlib.Core.Path.{_≡_, refl, sym, _∙_, ap, ap₂}
 use mathlib.Core.List.{List, [], _∷_, map}
 use lib.ListN.{length, length-map}
 use Rattle.rules.specs.declared.Action.{Action}
@@ -33,7 +33,8 @@ code-below (digit {r = r} {n = n} {rs = rs} {q = q} h w) = digit-below r n (code
 pub demand-of-code : {rs q : List ℕ} → Within rs q → demandOf rs (codeOf rs q) ≡ q
 demand-of-code none-left = refl
 demand-of-code (digit {r = r} {n = n} {rs = rs} {q = q} h w) =
-    ap₂ (λ x xs. x ∷ xs) (add-mul-mod-self-left n r (codeOf rs q) ∙ mod-eq-of-lt h) (ap (demandOf rs) (add-mul-div-left n (codeOf rs q) (omega arith) ∙ ap (λ k. k + codeOf rs q) (div-eq-of-lt h) ∙ omega arith) ∙ demand-of-code w)
+    let rest : (n + r * codeOf rs q) / r ≡ codeOf rs q = add-mul-div-left n (codeOf rs q) (omega arith) ∙ ap (λ k. k + codeOf rs q) (div-eq-of-lt h) ∙ omega arith in
+    ap₂ (λ x xs. x ∷ xs) (add-mul-mod-self-left n r (codeOf rs q) ∙ mod-eq-of-lt h) (ap (demandOf rs) rest ∙ demand-of-code w)
 
 -- the demand of a number is within the radices
 pub demand-within : {rs : List ℕ} → Positive rs → (c : ℕ) → Within rs (demandOf rs c)

@@ -1,32 +1,41 @@
 -- The first of the shortest among selected elements is the first that attains the least value, where an element that is
--- not selected counts as 'none'. Assumes nothing.
-use Prim.Native.Nat.{ℕ, min, _≤_, _<_}
+-- not selected counts as 'none'. Over any length and any 'none' above it. Assumes nothing.
+use Prim.Native.Nat.{ℕ, min, _<_}
 use native.Mathlib.Omega.{arith}
-use mathlib.Core.Path.{_≡_, refl, sym, _∙_, ap}
+use mathlib.Core.Path.{_≡_, refl, _∙_, ap}
 use mathlib.Core.List.{List, [], _∷_, List·Memᴰ, List·Memᴰ·head, List·Memᴰ·tail}
 use mathlib.Core.Bool.{Bool, true, false, cond}
 use mathlib.Core.Option.{Option, none, some}
 use lib.Dec.{eqb, leb}
 use borrow.Author.Tests.{eq-eqb, ne-eqb, leb-true, leb-false}
-use Rattle.rules.specs.Lists.{select, firstOf}
+use Rattle.rules.specs.Lists.{select}
 use Rattle.rules.specs.BestPlan.{shorterOf, firstShortest}
-use Rattle.optimum.specs.Least.{noTour, leastOf, firstAt}
+use Rattle.optimum.specs.Least.{leastOr, firstAt}
 use Rattle.optimum.proofs.Choice.{least-bound}
 
-module _ {A : Type 0} (ok : A → Bool) (len : A → ℕ) where
+module _ {A : Type 0} (noWay : ℕ) (ok : A → Bool) (len : A → ℕ) where
   -- the value of an element: its length, or 'none'
   abbrev pub counted : A → ℕ
-  counted x = cond (ok x) (len x) noTour
+  counted x = cond (ok x) (len x) noWay
 
   -- the length of what was found
   abbrev pub foundLength : Option A → ℕ
-  foundLength none = noTour
+  foundLength none = noWay
   foundLength (some x) = len x
 
-  abbrev Short : List A → Type 0
-  Short xs = (x : A) → List·Memᴰ x xs → len x < noTour
+  -- the least value, and the first of the shortest that are selected
+  abbrev least : List A → ℕ
+  least xs = leastOr noWay counted xs
 
-  shorter-length : (x : A) (o : Option A) → len x < noTour → len (shorterOf len x o) ≡ min (len x) (foundLength o)
+  abbrev found : List A → Option A
+  found xs = firstShortest len (select ok xs)
+
+  -- each length is below 'none'
+  abbrev Short : List A → Type 0
+  Short xs = (x : A) → List·Memᴰ x xs → len x < noWay
+
+  -- the shorter of two has the smaller length, by the test that chooses it
+  shorter-length : (x : A) (o : Option A) → len x < noWay → len (shorterOf len x o) ≡ min (len x) (foundLength o)
   unfolding shorterOf
   shorter-length x none h = omega arith
   shorter-length x (some y) h = go (leb (len x) (len y)) refl
@@ -36,16 +45,22 @@ module _ {A : Type 0} (ok : A → Bool) (len : A → ℕ) where
       go false e = omega (arith, leb-false (len x) (len y) e)
 
   -- the least value is the length of the first of the shortest
-  pub least-found : (xs : List A) → Short xs → leastOf counted xs ≡ foundLength (firstShortest len (select ok xs))
+  pub least-found : (xs : List A) → Short xs → least xs ≡ foundLength (found xs)
   least-found [] h = refl
   least-found (x ∷ xs) h = go (ok x) (least-found xs (λ y m. h y (List·Memᴰ·tail m)))
     where
-      go : (b : Bool) → leastOf counted xs ≡ foundLength (firstShortest len (select ok xs)) → min (cond b (len x) noTour) (leastOf counted xs) ≡ foundLength (firstShortest len (cond b (x ∷ select ok xs) (select ok xs)))
-      go true e = omega (arith, shorter-length x (firstShortest len (select ok xs)) (h x (List·Memᴰ·head refl)))
-      go false e = omega (arith, least-bound counted xs)
+      go : (b : Bool) → least xs ≡ foundLength (found xs)
+          → min (cond b (len x) noWay) (least xs) ≡ foundLength (firstShortest len (cond b (x ∷ select ok xs) (select ok xs)))
+      go true e = omega (arith, shorter-length x (found xs) (h x (List·Memᴰ·head refl)))
+      go false e = omega (arith, least-bound noWay counted xs)
+
+  -- the first that attains the least of xs is o, if that is not 'none'
+  abbrev Attains : List A → Option A → Type 0
+  Attains xs o = least xs < noWay → firstAt counted (least xs) xs ≡ o
 
   -- a selected element in front: it is found unless what follows is shorter
-  taken : (x : A) (xs : List A) (o : Option A) (v : ℕ) → len x < noTour → leastOf counted xs ≡ foundLength o → (leastOf counted xs < noTour → firstAt counted (leastOf counted xs) xs ≡ o) → v ≡ min (len x) (leastOf counted xs) → cond (eqb (len x) v) (some x) (firstAt counted v xs) ≡ some (shorterOf len x o)
+  taken : (x : A) (xs : List A) (o : Option A) (v : ℕ) → len x < noWay → least xs ≡ foundLength o → Attains xs o → v ≡ min (len x) (least xs)
+      → cond (eqb (len x) v) (some x) (firstAt counted v xs) ≡ some (shorterOf len x o)
   unfolding shorterOf
   taken x xs none v short e next is-least = rw (eq-eqb (len x) v (omega arith)) refl
   taken x xs (some y) v short e next is-least = go (leb (len x) (len y)) refl
@@ -53,17 +68,26 @@ module _ {A : Type 0} (ok : A → Bool) (len : A → ℕ) where
       go : (b : Bool) → leb (len x) (len y) ≡ b → cond (eqb (len x) v) (some x) (firstAt counted v xs) ≡ some (cond b x y)
       go true p = rw (eq-eqb (len x) v (omega (arith, leb-true (len x) (len y) p))) refl
       go false p =
-          let later : v ≡ leastOf counted xs = omega (arith, leb-false (len x) (len y) p) in
-          rw (ne-eqb (len x) v (λ q. omega (arith, leb-false (len x) (len y) p))) (ap (λ n. firstAt counted n xs) later ∙ next (omega (arith, leb-false (len x) (len y) p)))
+          let longer = leb-false (len x) (len y) p in
+          let later : v ≡ least xs = omega (arith, longer) in
+          rw (ne-eqb (len x) v (λ q. omega (arith, longer))) (ap (λ n. firstAt counted n xs) later ∙ next (omega (arith, longer)))
 
   -- and the first that attains it is the first of the shortest
-  pub first-found : (xs : List A) → Short xs → leastOf counted xs < noTour → firstAt counted (leastOf counted xs) xs ≡ firstShortest len (select ok xs)
+  pub first-found : (xs : List A) → Short xs → Attains xs (found xs)
   unfolding firstAt
   first-found [] h l = refl
   first-found (x ∷ xs) h l = go (ok x) refl l (first-found xs (λ y m. h y (List·Memᴰ·tail m)))
     where
-      go : (b : Bool) → ok x ≡ b → min (cond b (len x) noTour) (leastOf counted xs) < noTour → (leastOf counted xs < noTour → firstAt counted (leastOf counted xs) xs ≡ firstShortest len (select ok xs)) → cond (eqb (cond b (len x) noTour) (min (cond b (len x) noTour) (leastOf counted xs))) (some x) (firstAt counted (min (cond b (len x) noTour) (leastOf counted xs)) xs) ≡ firstShortest len (cond b (x ∷ select ok xs) (select ok xs))
-      go true e k next = taken x xs (firstShortest len (select ok xs)) _ (h x (List·Memᴰ·head refl)) (least-found xs (λ y m. h y (List·Memᴰ·tail m))) next refl
+      -- the value of x, and the least of the whole list, if x is selected and if not
+      here : Bool → ℕ
+      here b = cond b (len x) noWay
+
+      whole : Bool → ℕ
+      whole b = min (here b) (least xs)
+
+      go : (b : Bool) → ok x ≡ b → whole b < noWay → Attains xs (found xs)
+          → cond (eqb (here b) (whole b)) (some x) (firstAt counted (whole b) xs) ≡ firstShortest len (cond b (x ∷ select ok xs) (select ok xs))
+      go true e k next = taken x xs (found xs) _ (h x (List·Memᴰ·head refl)) (least-found xs (λ y m. h y (List·Memᴰ·tail m))) next refl
       go false e k next =
-          let later : min noTour (leastOf counted xs) ≡ leastOf counted xs = omega arith in
-          rw (ne-eqb noTour (min noTour (leastOf counted xs)) (λ q. omega arith), later) (next (omega arith))
+          let later : min noWay (least xs) ≡ least xs = omega arith in
+          rw (ne-eqb noWay (min noWay (least xs)) (λ q. omega arith), later) (next (omega arith))

@@ -1,7 +1,8 @@
--- The table of a job: the machine's states, the open demand, and the lengths of actions and passages.
-use Prim.Native.Nat.{ℕ}
+-- The table of a job: the machine's states, the open demand, and a cost; by length it is the router's.
+use Prim.Native.Nat.{ℕ, suc, _+_}
 use mathlib.Core.List.{List, [], _∷_, tail}
-use mathlib.Core.Bool.{Bool, _&&_}
+use mathlib.Core.Bool.{_&&_}
+use Rattle.rules.specs.declared.Layout.{Layout}
 use Rattle.rules.specs.declared.Action.{Action}
 use Rattle.rules.specs.declared.Passage.{Passage}
 use Rattle.rules.specs.declared.Passage.the-variants.{P00}
@@ -9,14 +10,32 @@ use Rattle.rules.specs.Lists.{headOr}
 use Rattle.rules.specs.Jobs.{Job}
 use Rattle.rules.specs.Plans.{Plan}
 use Rattle.rules.specs.Lengths.{actionLength, passageLength}
-use Rattle.rules.specs.Machine.{State, nothing, actionStep, passageStep, isClosed}
+use Rattle.rules.specs.Machine.{State, actionStep, passageStep, isClosed}
 use Rattle.rules.specs.BestPlan.{actionsOf, passagesInOrder}
-use Rattle.optimum.specs.Table.{Problem, Rest, value, choose}
-use Rattle.optimum.specs.Demand.{gains, less, met, wholeDemand}
+use Rattle.optimum.specs.Least.{sumUpTo, leastOr}
+use Rattle.optimum.specs.Table.{Cost, Problem, Rest}
+use Rattle.optimum.specs.Demand.{gains, less, met}
 
--- the problem of a job, with the actions that are tried in each aisle
-abbrev pub routing : Job → (ℕ → List Action) → Problem
-routing job candidates =
+-- 'none': longer than any tour, which is at most 49,920
+abbrev pub noTour : ℕ
+noTour = 65535
+
+-- a sum of lengths, which stays at 'none'
+abbrev pub sat : ℕ → ℕ → ℕ
+sat a b = sumUpTo noTour a b
+
+module _ {A : Type 0} where
+  -- the least length over the list, 'none' for the empty one
+  abbrev pub leastOf : (A → ℕ) → List A → ℕ
+  leastOf f xs = leastOr noTour f xs
+
+-- the cost that is the length
+abbrev pub lengths : Layout → Cost
+lengths z = record { ofAction = λ j a. actionLength z a; ofPassage = λ j p. passageLength z p; noWay = noTour }
+
+-- the problem of a job under a cost, with the actions that are tried in each aisle
+abbrev pub weighed : Job → Cost → (ℕ → List Action) → Problem
+weighed job cost candidates =
     record {
       State = State;
       Demand = List ℕ;
@@ -25,10 +44,13 @@ routing job candidates =
       act = actionStep job;
       cross = passageStep job;
       fetch = λ j a q. less q (gains job j a);
-      actionCost = λ j a. actionLength (job .layout) a;
-      passageCost = λ j p. passageLength (job .layout) p;
+      cost = cost;
       done = λ s q. isClosed s && met q;
     }
+
+-- the same by length
+abbrev pub routing : Job → (ℕ → List Action) → Problem
+routing job candidates = weighed job (lengths (job .layout)) candidates
 
 -- all actions, in every aisle
 unfoldable pub allActions : Job → ℕ → List Action
@@ -39,5 +61,12 @@ abbrev pub pairUp : List Action → List Passage → Rest
 pairUp [] passages = []
 pairUp (a ∷ actions) passages = (a, headOr P00 passages) ∷ pairUp actions (tail passages)
 
+-- the same of a whole plan
 unfoldable pub restOf : Plan → Rest
 restOf plan = pairUp (plan .actions) (plan .passages)
+
+-- what the actions of the aisles from j on and the passages behind them cost: the sum, with the passage 00 behind the last
+abbrev pub costFrom : Cost → ℕ → List Action → List Passage → ℕ
+costFrom c j [] passages = 0
+costFrom c j (a ∷ actions) passages =
+    c .ofAction j a + (c .ofPassage j (headOr P00 passages) + costFrom c (suc j) actions (tail passages))

@@ -9,7 +9,8 @@ use Rattle.rules.specs.declared.Action.the-variants.{Void, Bottom, Top, Gap, On
 use Rattle.rules.specs.Plans.{Fits}
 use Rattle.rules.specs.BestPlan.{actionsOf}
 use Rattle.rules.proofs.Enumeration.{actions-sound}
-use Rattle.optimum.specs.Least.{noTour, sat, leastOf}
+use Rattle.optimum.specs.Least.{sumUpTo}
+use Rattle.optimum.specs.Routing.{noTour, sat, leastOf}
 use Rattle.optimum.proofs.Choice.{least-take}
 use Rattle.router.specs.declared.candidates.Candidate.{Candidate}
 use Rattle.router.specs.declared.layers.Aisle.{Aisle}
@@ -52,7 +53,7 @@ module _ (x : Aisle) (after fronts backs : List ℕ) where
 
   -- one more action
   pub row-next : (row row′ : List ℕ) (k front back : ℕ) (steps : List ℕ) (cost : ℕ) → k < length (actionsOf (x .layout .cells)) → let c = candidateOf (x .layout .cells) (getD (actionsOf (x .layout .cells)) k Void) in front ≡ c .front → back ≡ c .back → ((s : ℕ) → s < 8 → getD steps s 0 ≡ stepCode x c s) → cost ≡ candidateLength (x .layout) c → RowFilled x row after fronts backs k → RelaxedRow row row′ after fronts backs front back steps cost (x .weight) → RowFilled x row′ after fronts backs (k + 1)
-  unfolding throughAction throughCandidate leftCode sat
+  unfolding throughAction throughCandidate leftCode sumUpTo
   row-next row row′ k front back steps cost h f b st co filled relaxed s q l w =
       relaxed .done s q l w
       ∙ ap₂ min (filled s q l w) through
@@ -65,7 +66,7 @@ module _ (x : Aisle) (after fronts backs : List ℕ) where
       through = rw (f, b, st s l, co) refl
 
       least : min (leastOf (throughAction x (afterAt after) fronts backs s q) (take k (actionsOf (x .layout .cells)))) (throughAction x (afterAt after) fronts backs s q a) ≡ leastOf (throughAction x (afterAt after) fronts backs s q) (take (k + 1) (actionsOf (x .layout .cells)))
-      least = omega (arith, least-take (throughAction x (afterAt after) fronts backs s q) (actionsOf (x .layout .cells)) k Void h)
+      least = omega (arith, least-take noTour (throughAction x (afterAt after) fronts backs s q) (actionsOf (x .layout .cells)) k Void h)
 
 -- an aisle that is ready lets each of its candidates be relaxed
 pub relax-ready : (x : Aisle) (fronts backs row after steps : List ℕ) (kind front back cost : ℕ) → AisleReady x fronts backs → Parts (x .layout .cells) kind front back → 2048 ≤ length row → 2304 ≤ length after → ((s : ℕ) → s < 8 → getD steps s 0 ≤ 8) → cost ≤ 3240 → RelaxReady row after fronts backs front back steps cost (x .weight)

@@ -12,7 +12,7 @@ use borrow.Author.Tests.{eq-eqb, ne-eqb}
 use lib.ListN.{length, getD}
 use Rattle.rules.specs.declared.Action.{Action}
 use Rattle.rules.specs.Lists.{firstOf}
-use Rattle.optimum.specs.Least.{sat, firstAt}
+use Rattle.optimum.specs.Least.{sumUpTo, firstAt}
 use Rattle.router.specs.declared.candidates.Candidate.{Candidate}
 use Rattle.router.specs.declared.layers.Aisle.{Aisle}
 use Rattle.router.specs.Candidates.{candidateOf, candidateLength}
@@ -21,7 +21,7 @@ use Rattle.router.specs.Choosing.{FirstRank}
 
 -- the way over an action, from its parts
 pub over-parts : (x : Aisle) (aft : ℕ → ℕ → ℕ) (fronts backs : List ℕ) (s q : ℕ) (a : Action) (c : Candidate) (to left len best : ℕ) → c ≡ candidateOf (x .layout .cells) a → len ≡ candidateLength (x .layout) c → to ≡ stepCode x c s → left ≡ leftCode fronts backs c q → best ≡ aft to left → throughAction x aft fronts backs s q a ≡ min (len + best) 65535
-unfolding throughAction throughCandidate sat
+unfolding throughAction throughCandidate sumUpTo
 over-parts x aft fronts backs s q a c to left len best is-c is-len is-to is-left is-best =
     let here : throughCandidate x aft fronts backs s q c ≡ min (len + best) 65535 = sym (rw (is-len, is-best, is-to, is-left) refl) in
     ap (throughCandidate x aft fronts backs s q) (sym is-c) ∙ here

@@ -15,7 +15,8 @@ use Rattle.rules.specs.declared.Passage.the-variants.{P00}
 use Rattle.rules.specs.Plans.{backTreads, frontTreads}
 use Rattle.rules.specs.BestPlan.{passagesInOrder}
 use Rattle.rules.specs.Machine.{State, nothing, closed, atFront, atBack, odd, joined, split, ending, dead}
-use Rattle.optimum.specs.Least.{noTour, sat, leastOf}
+use Rattle.optimum.specs.Least.{sumUpTo}
+use Rattle.optimum.specs.Routing.{noTour, leastOf}
 use Rattle.optimum.proofs.Choice.{least-take}
 use Rattle.router.specs.States.{stateCode, stateOf}
 use Rattle.router.specs.Steps.{passageOf, crossOf}
@@ -57,18 +58,18 @@ module _ (next : List ℕ) (policy : Policy) (side width s q : ℕ) where
   to p = stateCode (crossOf policy p side (stateOf s))
 
   pub through-dead : (p : Passage) → to p ≡ 8 → throughPassage next policy side width s q p ≡ 65535
-  unfolding throughPassage nextAt sat
+  unfolding throughPassage nextAt sumUpTo
   through-dead p e = rw e (omega arith)
 
   pub through-alive : (p : Passage) (n : ℕ) → to p ≡ n → n < 8 → throughPassage next policy side width s q p ≡ min ((backTreads p + frontTreads p) * width + tab next n q) 65535
-  unfolding throughPassage nextAt sat
+  unfolding throughPassage nextAt sumUpTo
   through-alive p n e h = rw (e, lt-ltb n 8 h) refl
 
   -- one more passage is tried
   pub least-tried : (p : ℕ) → p < 5 → leastOf (throughPassage next policy side width s q) (take (p + 1) passagesInOrder) ≡ min (leastOf (throughPassage next policy side width s q) (take p passagesInOrder)) (throughPassage next policy side width s q (passageOf p))
-  unfolding passagesInOrder throughPassage sat
+  unfolding passagesInOrder throughPassage sumUpTo
   least-tried p h =
-      least-take (throughPassage next policy side width s q) passagesInOrder p P00 h ∙ rw (passage-at p h) (omega arith)
+      least-take noTour (throughPassage next policy side width s q) passagesInOrder p P00 h ∙ rw (passage-at p h) (omega arith)
 
 module _ (next : List ℕ) (tried : ℕ) (policy : Policy) (side width : ℕ) where
   pub after-none : (after : List ℕ) → AfterFilled after next tried policy side width 0

@@ -7,7 +7,7 @@ use mathlib.Core.Logic.{_⊎_, inl, inr, ⊎-elim}
 use mathlib.Core.List.{List}
 use lib.ListN.{length, getD, set, length-set}
 use lib.Seq.{getD-set-same, getD-set-other}
-use Rattle.optimum.specs.Least.{noTour, sat}
+use Rattle.optimum.specs.Routing.{sat}
 use Rattle.router.specs.Rows.{tab, afterAt, Relaxed, RelaxReady, RelaxedRow}
 use Rattle.router.specs.Stored.{StoredTo}
 

@@ -14,7 +14,6 @@ use Rattle.rules.specs.Jobs.{Job, holdsListed}
 use Rattle.rules.specs.Refusals.{weight, Admitted}
 use Rattle.rules.specs.BestPlan.{actionsOf}
 use Rattle.rules.specs.Machine.{isClosed}
-use Rattle.optimum.specs.Least.{noTour}
 use Rattle.optimum.specs.Demand.{radices, demandOf, met}
 use Rattle.router.specs.States.{stateOf}
 use Rattle.router.specs.Steps.{bit, policyOf, policyCode}

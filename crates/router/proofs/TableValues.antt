@@ -19,10 +19,10 @@ use Rattle.rules.specs.BestPlan.{actionsOf, passagesInOrder}
 use Rattle.rules.specs.Machine.{State, nothing, closed, atFront, atBack, odd, joined, split, ending, dead, actionStep, passageStep}
 use Rattle.rules.proofs.Pruning.{action-dead, passage-dead}
 use Rattle.rules.proofs.Enumeration.{actions-sound}
-use Rattle.optimum.specs.Least.{noTour, sat, leastOf}
+use Rattle.optimum.specs.Least.{sumUpTo}
 use Rattle.optimum.specs.Table.{passagesBehind, afterAction, value}
 use Rattle.optimum.specs.Demand.{gains, less, radices, demandOf, lessCode, met}
-use Rattle.optimum.specs.Routing.{routing, allActions}
+use Rattle.optimum.specs.Routing.{noTour, sat, leastOf, routing, allActions}
 use Rattle.optimum.proofs.Choice.{least-cong, least-agree}
 use Rattle.optimum.proofs.Radix.{radices-positive, gains-length, count-weight, less-code, less-code-below}
 use Rattle.router.specs.States.{stateCode, stateOf}
@@ -44,7 +44,7 @@ least-none f e [] = refl
 least-none f e (x ∷ xs) = omega (arith, e x, least-none f e xs)
 
 sat-none : (c : ℕ) → sat c noTour ≡ noTour
-unfolding sat
+unfolding sumUpTo
 sat-none c = omega arith
 
 pub tried-passages : (n : ℕ) → take (triedAt n) passagesInOrder ≡ passagesBehind passagesInOrder n
@@ -99,7 +99,7 @@ module _ (job : Job) where
     -- the least over the passages
     pub least-after-value : (s q : ℕ) → q < weight (job .lines) → leastAfter next (triedAt n) (policyOf (policyCode (job .policy))) (sideOf (job .layout .depot) j) (job .layout .width) s q ≡ behind n j (stateOf s) (demandOf (radices job) q)
     unfolding afterAction leastAfter
-    least-after-value s q h = ap (leastOf _) (tried-passages n) ∙ least-cong _ _ (passage-value s q h) (passagesBehind passagesInOrder n)
+    least-after-value s q h = ap (leastOf _) (tried-passages n) ∙ least-cong noTour _ _ (passage-value s q h) (passagesBehind passagesInOrder n)
 
     -- the row behind the actions
     pub after-value : (after : List ℕ) → AfterFilled after next (triedAt n) (policyOf (policyCode (job .policy))) (sideOf (job .layout .depot) j) (job .layout .width) (weight (job .lines) * 9) → (s q : ℕ) → s < 9 → q < weight (job .lines) → afterAt after s q ≡ behind n j (stateOf s) (demandOf (radices job) q)
@@ -134,4 +134,4 @@ module _ (job : Job) where
   row-value stocked n j after fronts backs row maps holds filled s q l h =
       filled s q l h
       ∙ ap (leastOf _) (take-length (actionsOf (job .layout .cells)))
-      ∙ least-agree _ _ (actionsOf (job .layout .cells)) (λ a m. through-value stocked n j (afterAt after) fronts backs maps holds s q l h a (actions-sound (job .layout .cells) a m))
+      ∙ least-agree noTour _ _ (actionsOf (job .layout .cells)) (λ a m. through-value stocked n j (afterAt after) fronts backs maps holds s q l h a (actions-sound (job .layout .cells) a m))

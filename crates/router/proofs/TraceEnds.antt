@@ -20,7 +20,6 @@ use Rattle.rules.proofs.Lists.{map-map}
 use Rattle.rules.proofs.Enumeration.{serving-plans}
 use Rattle.rules.proofs.Lengths.{plan-length-49920}
 use Rattle.tours.proofs.Existence.{serving-exists}
-use Rattle.optimum.specs.Least.{noTour}
 use Rattle.optimum.specs.Table.{Rest, value, choose}
 use Rattle.optimum.specs.Demand.{radices, demandOf, codeOf, wholeDemand}
 use Rattle.optimum.specs.Routing.{routing, allActions, pairUp, restOf}

@@ -18,10 +18,10 @@ use Rattle.rules.specs.BestPlan.{actionsOf, passagesInOrder, bestPlan}
 use Rattle.rules.specs.Machine.{State, nothing, closed, atFront, atBack, odd, joined, split, ending, dead, actionStep, passageStep}
 use Rattle.rules.proofs.Lists.{map-append}
 use Rattle.rules.proofs.Enumeration.{actions-sound}
-use Rattle.optimum.specs.Least.{noTour, sat, leastOf, firstAt}
+use Rattle.optimum.specs.Least.{sumUpTo, firstAt}
 use Rattle.optimum.specs.Table.{Rest, passagesBehind, onFrom, afterAction, value, choose}
 use Rattle.optimum.specs.Demand.{gains, less, radices, demandOf, lessCode}
-use Rattle.optimum.specs.Routing.{routing, allActions, restOf}
+use Rattle.optimum.specs.Routing.{noTour, sat, routing, allActions, restOf}
 use Rattle.optimum.proofs.Choice.{first-agree, first-at-cong, first-at-holds}
 use Rattle.optimum.proofs.Radix.{radices-positive, gains-length, less-code}
 use Rattle.values.specs.declared.Stage.{Stage}
@@ -50,7 +50,7 @@ on-found none g y e = let z : _≡_ {A = ℕ} 0 1 = cc in absurd (omega arith)
 on-found (some x) g y e = (x, refl, e)
 
 part-below : (c v w : ℕ) → sat c w ≡ v → v < noTour → w < noTour
-unfolding sat
+unfolding sumUpTo
 part-below c v w e h = omega arith
 
 -- a state from which there is a way on is not dead

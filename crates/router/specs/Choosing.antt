@@ -5,7 +5,7 @@ use mathlib.Core.List.{List}
 use lib.ListN.{length, getD, take}
 use Rattle.rules.specs.declared.Policy.{Policy}
 use Rattle.rules.specs.BestPlan.{passagesInOrder}
-use Rattle.optimum.specs.Least.{leastOf}
+use Rattle.optimum.specs.Routing.{leastOf}
 use Rattle.router.specs.Rows.{throughPassage}
 
 -- the least over the passages from a state and a demand behind the actions

@@ -8,7 +8,7 @@ use Rattle.rules.specs.declared.Layout.{Layout}
 use Rattle.rules.specs.declared.Action.{Action}
 use Rattle.rules.specs.Store.{layoutInBounds}
 use Rattle.rules.specs.BestPlan.{actionsOf}
-use Rattle.optimum.specs.Least.{sat, leastOf}
+use Rattle.optimum.specs.Routing.{sat, leastOf}
 use Rattle.router.specs.declared.candidates.Candidate.{Candidate}
 use Rattle.router.specs.declared.layers.Aisle.{Aisle}
 use Rattle.router.specs.States.{stateCode, stateOf}

@@ -11,7 +11,7 @@ use Rattle.rules.specs.declared.Passage.{Passage}
 use Rattle.rules.specs.Plans.{backTreads, frontTreads}
 use Rattle.rules.specs.BestPlan.{passagesInOrder}
 use Rattle.rules.specs.Machine.{State}
-use Rattle.optimum.specs.Least.{noTour, sat, leastOf}
+use Rattle.optimum.specs.Routing.{noTour, sat, leastOf}
 use Rattle.router.specs.States.{stateCode, stateOf}
 use Rattle.router.specs.Steps.{policyOf, crossOf}
 

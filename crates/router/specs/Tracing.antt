@@ -7,10 +7,9 @@ use lib.ListN.{length, take}
 use Rattle.rules.specs.Jobs.{Job}
 use Rattle.rules.specs.Refusals.{weight}
 use Rattle.rules.specs.BestPlan.{bestPlan}
-use Rattle.optimum.specs.Least.{noTour}
 use Rattle.optimum.specs.Table.{Rest, value, choose}
 use Rattle.optimum.specs.Demand.{radices, demandOf}
-use Rattle.optimum.specs.Routing.{routing, allActions, restOf}
+use Rattle.optimum.specs.Routing.{noTour, routing, allActions, restOf}
 use Rattle.values.specs.declared.Stage.{Stage}
 use Rattle.router.specs.States.{stateOf}
 

@@ -5,7 +5,7 @@ ghost use Prim.Native.Nat.{ℕ, _+_, _*_, _≤_, _<_, min};
 ghost use lib.ListN.{length, getD, take};
 ghost use Rattle.rules.specs.Plans.{backTreads, frontTreads};
 ghost use Rattle.rules.specs.BestPlan.{passagesInOrder};
-ghost use Rattle.optimum.specs.Least.{noTour, sat, leastOf};
+ghost use Rattle.optimum.specs.Routing.{sat, leastOf};
 ghost use Rattle.router.specs.Rows.{Relaxed, RelaxReady, RelaxedRow, NextReady, throughPassage, AfterFilled};
 ghost use Rattle.router.specs.Steps.{policyOf, passageOf};
 

@@ -3,7 +3,7 @@ use borrow.Author.Needs.{needs}
 use native.Mathlib.Omega.{arith}
 use Prim.Native.Nat.{_+_, _*_, _≤_, _<_}
 use mathlib.Core.Path.{_≡_, _∙_}
-use Rattle.optimum.specs.Least.{sat}
+use Rattle.optimum.specs.Least.{sumUpTo}
 use Rattle.router.proofs.rows.shorter.Statement.{statement}
 use Rattle.router.proofs.rows.shorter.Tie as tie
 
@@ -20,11 +20,11 @@ cast-result : tie.Need-cast-result
 cast-result c = search needs
 
 returns : tie.Need-returns
-unfolding sat
+unfolding sumUpTo
 returns c = let a = (c .before .before .wide) .ensures in let b = (c .before .wide2) .ensures in omega arith
 
 returns-2 : tie.Need-returns-2
-unfolding sat
+unfolding sumUpTo
 returns-2 c = let a = (c .before .before .wide) .ensures in let b = (c .before .wide2) .ensures in omega arith
 
 pub shorter-spec : {M : Type 1} → statement M
