@@ -32,10 +32,11 @@ digitIf b n = cond b (48 + n) 45
 unfoldable pub policyMark : Policy → ℕ → ℕ
 policyMark policy c =
     cond (ltb c 6) (digitIf (actionNamed policy (sampleAction c)) c)
+    (cond (ltb c 7) 32
+    (cond (ltb c 12) (digitIf (passageNamed policy (passageOf (c - 7))) (c - 7))
     (cond (eqb c 13) (48 + automatonOf policy)
     (cond (eqb c 15) (cond (mayEnter policy false) 43 45)
-    (cond (ltb c 7) 32
-    (cond (ltb c 12) (digitIf (passageNamed policy (passageOf (c - 7))) (c - 7)) 32))))
+    32))))
 
 -- the next state by an automaton's rows, or 9 where the test for aisles between decides
 unfoldable pub actionMark : (kind automaton state : ℕ) → ℕ
