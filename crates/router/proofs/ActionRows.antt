@@ -15,8 +15,8 @@ use Rattle.optimum.proofs.Choice.{least-take}
 use Rattle.router.specs.declared.candidates.Candidate.{Candidate}
 use Rattle.router.specs.declared.layers.Aisle.{Aisle}
 use Rattle.router.specs.Candidates.{candidateOf, candidateLength, candidateHalves}
-use Rattle.router.specs.States.{stateOf}
-use Rattle.router.specs.Steps.{policyOf, sampleAction, bit, stepOf}
+use Rattle.machine.specs.States.{stateOf}
+use Rattle.machine.specs.Steps.{policyOf, sampleAction, bit, stepOf}
 use Rattle.router.proofs.Geometry.{within}
 use Rattle.router.proofs.Passages.{state-small}
 use Rattle.router.specs.Rows.{tab, afterAt, RelaxReady, RelaxedRow}

@@ -1,4 +1,3 @@
-pub mod Tables
 pub mod Geometry
 pub mod Ranks
 pub mod Relaxing

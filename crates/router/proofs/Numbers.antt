@@ -7,7 +7,7 @@ use lib.ListN.{length, getD, replicate, length-replicate, getD-replicate}
 use lib.Seq.{ext-getD}
 use Rattle.rules.specs.declared.Action.the-variants.{Twice}
 use Rattle.rules.specs.declared.Passage.the-variants.{P22}
-use Rattle.router.specs.Steps.{passageOf}
+use Rattle.machine.specs.Steps.{passageOf}
 use Rattle.router.specs.Candidates.{actionOfParts}
 
 pub last-action : (k h i : ℕ) → 5 ≤ k → actionOfParts k h i ≡ Twice

@@ -18,8 +18,8 @@ use Rattle.rules.specs.Machine.{State, nothing, closed, atFront, atBack, odd, j
 use Rattle.optimum.specs.Least.{sumUpTo}
 use Rattle.optimum.specs.Routing.{noTour, leastOf}
 use Rattle.optimum.proofs.Choice.{least-take}
-use Rattle.router.specs.States.{stateCode, stateOf}
-use Rattle.router.specs.Steps.{passageOf, crossOf}
+use Rattle.machine.specs.States.{stateCode, stateOf}
+use Rattle.machine.specs.Steps.{passageOf, crossOf}
 use Rattle.router.specs.Rows.{tab, afterAt, nextAt, throughPassage, AfterFilled}
 use Rattle.router.proofs.Relaxing.{below}
 

@@ -21,7 +21,7 @@ use Rattle.rules.proofs.Admission.{stock-within, layout-within}
 use Rattle.values.specs.declared.JobValue.{JobValue}
 use Rattle.values.specs.Values.{jobOf, Sound}
 use Rattle.router.specs.declared.demand.Shelf.{Shelf}
-use Rattle.router.specs.Steps.{bit}
+use Rattle.machine.specs.Steps.{bit}
 use Rattle.router.specs.Shelves.{noLine, gainOf, cellSupply, cellGains, LineOf, cellNumber, ShelfOf}
 use Rattle.router.proofs.Digits.{mapped-at}
 

@@ -15,8 +15,8 @@ use Rattle.rules.specs.Refusals.{weight, Admitted}
 use Rattle.rules.specs.BestPlan.{actionsOf}
 use Rattle.rules.specs.Machine.{isClosed}
 use Rattle.optimum.specs.Demand.{radices, demandOf, met}
-use Rattle.router.specs.States.{stateOf}
-use Rattle.router.specs.Steps.{bit, policyOf, policyCode}
+use Rattle.machine.specs.States.{stateOf}
+use Rattle.machine.specs.Steps.{bit, policyOf, policyCode}
 use Rattle.router.specs.Rows.{AfterFilled}
 use Rattle.router.specs.Stored.{StoredTo}
 use Rattle.router.specs.TableHolds.{sideOf, aisleOf, flagOf, triedAt, RowHolds, TableFrom, endEntry}
@@ -24,7 +24,8 @@ use Rattle.router.proofs.TableValues.{values, below-weight, after-value
 use Rattle.router.specs.Layers.{AisleReady, RowFilled}
 use Rattle.router.specs.declared.layers.Aisle.{Aisle}
 use Rattle.router.specs.Maps.{MapsReady}
-use Rattle.router.proofs.StepLaws.{policy-code-below, flag-below}
+use Rattle.machine.proofs.StepLaws.{policy-code-below}
+use Rattle.router.proofs.StepLaws.{flag-below}
 use Rattle.router.proofs.Composition.{met-zero}
 
 -- the only closed state has the number 1

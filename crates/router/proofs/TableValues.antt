@@ -25,15 +25,16 @@ use Rattle.optimum.specs.Demand.{gains, less, radices, demandOf, lessCode, met}
 use Rattle.optimum.specs.Routing.{noTour, sat, leastOf, routing, allActions}
 use Rattle.optimum.proofs.Choice.{least-cong, least-agree}
 use Rattle.optimum.proofs.Radix.{radices-positive, gains-length, count-weight, less-code, less-code-below}
-use Rattle.router.specs.States.{stateCode, stateOf}
-use Rattle.router.specs.Steps.{policyOf, policyCode, crossOf}
+use Rattle.machine.specs.States.{stateCode, stateOf}
+use Rattle.machine.specs.Steps.{policyOf, policyCode, crossOf}
 use Rattle.router.specs.Candidates.{candidateOf}
 use Rattle.router.specs.Rows.{tab, afterAt, nextAt, throughPassage, AfterFilled}
 use Rattle.router.specs.Layers.{stepCode, leftCode, throughCandidate, throughAction, RowFilled}
 use Rattle.router.specs.Maps.{MapsReady}
 use Rattle.router.specs.Choosing.{leastAfter}
 use Rattle.router.specs.TableHolds.{sideOf, aisleOf, triedAt, RowHolds}
-use Rattle.router.proofs.StepLaws.{state-of-code, cross-of, step-code}
+use Rattle.machine.proofs.StepLaws.{state-of-code}
+use Rattle.router.proofs.StepLaws.{cross-of, step-code}
 use Rattle.router.proofs.Passages.{state-small}
 use Rattle.router.proofs.ActionRows.{candidate-parts}
 use Rattle.router.proofs.Composition.{less-by-parts}

@@ -27,8 +27,8 @@ use Rattle.optimum.proofs.Radix.{radices-positive, gains-length, less-code}
 use Rattle.values.specs.declared.Stage.{Stage}
 use Rattle.router.specs.declared.candidates.Candidate.{Candidate}
 use Rattle.router.specs.declared.layers.Aisle.{Aisle}
-use Rattle.router.specs.States.{stateCode, stateOf}
-use Rattle.router.specs.Steps.{policyOf, policyCode, passageOf, crossOf}
+use Rattle.machine.specs.States.{stateCode, stateOf}
+use Rattle.machine.specs.Steps.{policyOf, policyCode, passageOf, crossOf}
 use Rattle.router.specs.Candidates.{candidateOf, actionOf}
 use Rattle.router.specs.Rows.{throughPassage}
 use Rattle.router.specs.Layers.{stepCode, leftCode, throughAction}
@@ -36,7 +36,8 @@ use Rattle.router.specs.Maps.{MapsReady}
 use Rattle.router.specs.Choosing.{leastAfter, FirstRank}
 use Rattle.router.specs.TableHolds.{sideOf, aisleOf, triedAt, RowHolds}
 use Rattle.router.specs.Tracing.{stagesRest, Traced}
-use Rattle.router.proofs.StepLaws.{state-of-code, cross-of, step-code}
+use Rattle.machine.proofs.StepLaws.{state-of-code}
+use Rattle.router.proofs.StepLaws.{cross-of, step-code}
 use Rattle.router.proofs.Passages.{passage-tried, tried-length}
 use Rattle.router.proofs.ActionRows.{ranked-fits}
 use Rattle.router.proofs.Geometry.{action-of-candidate}

@@ -11,8 +11,8 @@ use Rattle.rules.specs.BestPlan.{actionsOf}
 use Rattle.optimum.specs.Routing.{sat, leastOf}
 use Rattle.router.specs.declared.candidates.Candidate.{Candidate}
 use Rattle.router.specs.declared.layers.Aisle.{Aisle}
-use Rattle.router.specs.States.{stateCode, stateOf}
-use Rattle.router.specs.Steps.{policyOf, sampleAction, bit, stepOf}
+use Rattle.machine.specs.States.{stateCode, stateOf}
+use Rattle.machine.specs.Steps.{policyOf, sampleAction, bit, stepOf}
 use Rattle.router.specs.Candidates.{candidateOf, candidateLength, candidateHalves}
 use Rattle.router.specs.Rows.{tab, afterAt}
 

@@ -1,5 +1,3 @@
-pub mod States
-pub mod Steps
 pub mod Candidates
 pub mod Rows
 pub mod Maps

@@ -12,8 +12,8 @@ use Rattle.rules.specs.Plans.{backTreads, frontTreads}
 use Rattle.rules.specs.BestPlan.{passagesInOrder}
 use Rattle.rules.specs.Machine.{State}
 use Rattle.optimum.specs.Routing.{noTour, sat, leastOf}
-use Rattle.router.specs.States.{stateCode, stateOf}
-use Rattle.router.specs.Steps.{policyOf, crossOf}
+use Rattle.machine.specs.States.{stateCode, stateOf}
+use Rattle.machine.specs.Steps.{policyOf, crossOf}
 
 -- what a row of the table holds for a state and a demand
 abbrev pub tab : List ℕ → ℕ → ℕ → ℕ

@@ -17,7 +17,7 @@ use Rattle.values.specs.declared.JobValue.{JobValue}
 use Rattle.values.specs.Values.{jobOf, Sound}
 use Rattle.router.specs.declared.demand.Digits.{Digits}
 use Rattle.router.specs.declared.demand.Shelf.{Shelf}
-use Rattle.router.specs.Steps.{bit}
+use Rattle.machine.specs.Steps.{bit}
 
 -- arrays of digits by which a number can be divided
 pub record Usable (d : Digits) : Type 0 where

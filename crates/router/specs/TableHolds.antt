@@ -11,8 +11,8 @@ use Rattle.optimum.specs.Table.{value}
 use Rattle.optimum.specs.Demand.{radices, demandOf}
 use Rattle.optimum.specs.Routing.{routing, allActions}
 use Rattle.router.specs.declared.layers.Aisle.{Aisle}
-use Rattle.router.specs.States.{stateOf}
-use Rattle.router.specs.Steps.{policyCode}
+use Rattle.machine.specs.States.{stateOf}
+use Rattle.machine.specs.Steps.{policyCode}
 use Rattle.router.specs.Rows.{tab}
 
 -- where aisle j lies: left of the depot (0), at it (1) or right of it (2)

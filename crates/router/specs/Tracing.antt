@@ -11,7 +11,7 @@ use Rattle.optimum.specs.Table.{Rest, value, choose}
 use Rattle.optimum.specs.Demand.{radices, demandOf}
 use Rattle.optimum.specs.Routing.{noTour, routing, allActions, restOf}
 use Rattle.values.specs.declared.Stage.{Stage}
-use Rattle.router.specs.States.{stateOf}
+use Rattle.machine.specs.States.{stateOf}
 
 -- the first n stages as a rest
 unfoldable pub stagesRest : List Stage → ℕ → Rest

@@ -8,7 +8,7 @@ ghost use Rattle.rules.specs.declared.Action.the-variants.{Void};
 ghost use Rattle.rules.specs.Store.{position, aisleLength, layoutInBounds};
 ghost use Rattle.rules.specs.Policies.{inFrontHalf, inBackHalf};
 ghost use Rattle.rules.specs.BestPlan.{actionsOf};
-ghost use Rattle.router.specs.Steps.{bit};
+ghost use Rattle.machine.specs.Steps.{bit};
 ghost use Rattle.router.specs.Candidates.{candidateOf, candidateLength, candidateHalves, gapsFrom};
 
 // An action as numbers: its kind, and the cells that its front and its back part reach.

@@ -12,7 +12,7 @@ ghost use Rattle.rules.specs.Lists.{anyOf};
 ghost use Rattle.rules.specs.Jobs.{holdsListed};
 ghost use Rattle.rules.specs.declared.OrderLine.{OrderLine};
 ghost use Rattle.values.specs.Values.{Sound, jobOf};
-ghost use Rattle.router.specs.Steps.{bit};
+ghost use Rattle.machine.specs.Steps.{bit};
 ghost use Rattle.router.specs.Maps.{MapsReady};
 ghost use Rattle.router.specs.Shelves.{Usable, DigitsOf, lessLine, LineOf, ShelfOf, RowSet, MapsAsked, FrontsTo, BacksFrom};
 

@@ -5,7 +5,7 @@ use crate::candidates::action_count;
 use crate::candidates::action_length;
 use crate::candidates::keeps_halves;
 use crate::rows::relax_row;
-use crate::steps::action_step;
+use machine::action_step;
 use rules::Layout;
 ghost use mathlib.Core.Path.{_≡_};
 ghost use mathlib.Core.Bool.{true};

@@ -5,7 +5,6 @@ mod demand;
 mod filling;
 mod layers;
 mod rows;
-mod steps;
 mod stored;
 mod table;
 mod trace;

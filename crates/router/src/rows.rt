@@ -1,5 +1,5 @@
 // One aisle of the table: the row behind the actions, and the row of the aisle itself.
-use crate::steps::passage_step;
+use machine::passage_step;
 ghost use mathlib.Core.Path.{_≡_};
 ghost use Prim.Native.Nat.{ℕ, _+_, _*_, _≤_, _<_, min};
 ghost use lib.ListN.{length, getD, take};
@@ -7,7 +7,7 @@ ghost use Rattle.rules.specs.Plans.{backTreads, frontTreads};
 ghost use Rattle.rules.specs.BestPlan.{passagesInOrder};
 ghost use Rattle.optimum.specs.Routing.{sat, leastOf};
 ghost use Rattle.router.specs.Rows.{Relaxed, RelaxReady, RelaxedRow, NextReady, throughPassage, AfterFilled};
-ghost use Rattle.router.specs.Steps.{policyOf, passageOf};
+ghost use Rattle.machine.specs.Steps.{policyOf, passageOf};
 
 // A number of the table as a wider one.
 pub fn wide(x: u16) -> usize

@@ -7,7 +7,7 @@ ghost use mathlib.Core.Path.{_≡_};
 ghost use mathlib.Core.Bool.{true};
 ghost use Prim.Native.Nat.{ℕ, suc, _+_, _*_, _-_, _≤_, _<_};
 ghost use lib.ListN.{length, getD, replicate};
-ghost use Rattle.router.specs.Steps.{policyCode, passageOf};
+ghost use Rattle.machine.specs.Steps.{policyCode, passageOf};
 ghost use Rattle.router.specs.Candidates.{actionOf};
 ghost use Rattle.router.specs.TableHolds.{sideOf, endEntry};
 

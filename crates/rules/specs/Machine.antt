@@ -58,21 +58,29 @@ traversalStep (Gap h i) s = dead
 traversalStep Once s = row odd odd dead joined dead dead s
 traversalStep Twice s = dead
 
--- MIDPOINT: a single BOTTOM, or ONCE, halves, ONCE
+-- MIDPOINT: a single BOTTOM, or ONCE, aisles between, ONCE; with the answer of the test for aisles between
+abbrev pub midpointBy : Bool → Action → State → State
+midpointBy between Void s = s
+midpointBy between (Bottom i) s = row ending ending dead (cond between odd dead) dead dead s
+midpointBy between (Top i) s = row dead dead dead (cond between odd dead) dead dead s
+midpointBy between (Gap h i) s = row dead dead dead (cond between odd dead) dead dead s
+midpointBy between Once s = row odd odd dead ending dead dead s
+midpointBy between Twice s = dead
+
+-- MIDPOINT's test: the halves
 abbrev pub midpointStep : Layout → Action → State → State
-midpointStep z Void s = s
-midpointStep z (Bottom i) s = row ending ending dead (cond (halved z (Bottom i)) odd dead) dead dead s
-midpointStep z (Top i) s = row dead dead dead (cond (halved z (Top i)) odd dead) dead dead s
-midpointStep z (Gap h i) s = row dead dead dead (cond (halved z (Gap h i)) odd dead) dead dead s
-midpointStep z Once s = row odd odd dead ending dead dead s
-midpointStep z Twice s = dead
+midpointStep z a s = midpointBy (halved z a) a s
+
+-- the state after an action that the policy names, with the answer of the test for aisles between
+abbrev pub policyBy : Policy → Bool → Action → State → State
+policyBy Exact between a s = lawfulStep a s
+policyBy Return between a s = lawfulStep a s
+policyBy Traversal between a s = traversalStep a s
+policyBy Midpoint between a s = midpointBy between a s
+policyBy Composite between a s = lawfulStep a s
 
 abbrev pub policyStep : Policy → Layout → Action → State → State
-policyStep Exact z a s = lawfulStep a s
-policyStep Return z a s = lawfulStep a s
-policyStep Traversal z a s = traversalStep a s
-policyStep Midpoint z a s = midpointStep z a s
-policyStep Composite z a s = lawfulStep a s
+policyStep policy z a s = policyBy policy (halved z a) a s
 
 -- whether the policy lets an aisle be entered: EXACT any, the others those that hold an article of the list
 abbrev pub mayEnter : Policy → Bool → Bool
@@ -100,53 +108,57 @@ actionPossible job j a =
 unfoldable pub actionStep : Job → ℕ → Action → State → State
 actionStep job j a s = cond (actionPossible job j a) (policyStep (job .policy) (job .layout) a s) dead
 
+-- the state after a passage behind an aisle; whether the depot is here, has been reached, has been passed
+abbrev pub crossBy : (here reached passed : Bool) → Passage → State → State
+crossBy here reached passed P00 nothing = cond here dead nothing
+crossBy here reached passed P00 closed = closed
+crossBy here reached passed P00 atFront = cond reached closed dead
+crossBy here reached passed P00 atBack = cond passed closed dead
+crossBy here reached passed P00 odd = dead
+crossBy here reached passed P00 joined = cond reached closed dead
+crossBy here reached passed P00 split = dead
+crossBy here reached passed P00 ending = cond reached closed dead
+crossBy here reached passed P00 dead = dead
+crossBy here reached passed P02 nothing = atFront
+crossBy here reached passed P02 closed = dead
+crossBy here reached passed P02 atFront = atFront
+crossBy here reached passed P02 atBack = dead
+crossBy here reached passed P02 odd = dead
+crossBy here reached passed P02 joined = atFront
+crossBy here reached passed P02 split = dead
+crossBy here reached passed P02 ending = ending
+crossBy here reached passed P02 dead = dead
+crossBy here reached passed P11 nothing = dead
+crossBy here reached passed P11 closed = dead
+crossBy here reached passed P11 atFront = dead
+crossBy here reached passed P11 atBack = dead
+crossBy here reached passed P11 odd = odd
+crossBy here reached passed P11 joined = dead
+crossBy here reached passed P11 split = dead
+crossBy here reached passed P11 ending = dead
+crossBy here reached passed P11 dead = dead
+crossBy here reached passed P20 nothing = cond here dead atBack
+crossBy here reached passed P20 closed = dead
+crossBy here reached passed P20 atFront = dead
+crossBy here reached passed P20 atBack = cond here dead atBack
+crossBy here reached passed P20 odd = dead
+crossBy here reached passed P20 joined = atBack
+crossBy here reached passed P20 split = dead
+crossBy here reached passed P20 ending = dead
+crossBy here reached passed P20 dead = dead
+crossBy here reached passed P22 nothing = split
+crossBy here reached passed P22 closed = dead
+crossBy here reached passed P22 atFront = split
+crossBy here reached passed P22 atBack = split
+crossBy here reached passed P22 odd = dead
+crossBy here reached passed P22 joined = joined
+crossBy here reached passed P22 split = split
+crossBy here reached passed P22 ending = dead
+crossBy here reached passed P22 dead = dead
+
 -- the state after the passage between the aisles j and j + 1, with the depot at aisle d
 abbrev pub crossStep : (d j : ℕ) → Passage → State → State
-crossStep d j P00 nothing = cond (eqb j d) dead nothing
-crossStep d j P00 closed = closed
-crossStep d j P00 atFront = cond (leb d j) closed dead
-crossStep d j P00 atBack = cond (ltb d j) closed dead
-crossStep d j P00 odd = dead
-crossStep d j P00 joined = cond (leb d j) closed dead
-crossStep d j P00 split = dead
-crossStep d j P00 ending = cond (leb d j) closed dead
-crossStep d j P00 dead = dead
-crossStep d j P02 nothing = atFront
-crossStep d j P02 closed = dead
-crossStep d j P02 atFront = atFront
-crossStep d j P02 atBack = dead
-crossStep d j P02 odd = dead
-crossStep d j P02 joined = atFront
-crossStep d j P02 split = dead
-crossStep d j P02 ending = ending
-crossStep d j P02 dead = dead
-crossStep d j P11 nothing = dead
-crossStep d j P11 closed = dead
-crossStep d j P11 atFront = dead
-crossStep d j P11 atBack = dead
-crossStep d j P11 odd = odd
-crossStep d j P11 joined = dead
-crossStep d j P11 split = dead
-crossStep d j P11 ending = dead
-crossStep d j P11 dead = dead
-crossStep d j P20 nothing = cond (eqb j d) dead atBack
-crossStep d j P20 closed = dead
-crossStep d j P20 atFront = dead
-crossStep d j P20 atBack = cond (eqb j d) dead atBack
-crossStep d j P20 odd = dead
-crossStep d j P20 joined = atBack
-crossStep d j P20 split = dead
-crossStep d j P20 ending = dead
-crossStep d j P20 dead = dead
-crossStep d j P22 nothing = split
-crossStep d j P22 closed = dead
-crossStep d j P22 atFront = split
-crossStep d j P22 atBack = split
-crossStep d j P22 odd = dead
-crossStep d j P22 joined = joined
-crossStep d j P22 split = split
-crossStep d j P22 ending = dead
-crossStep d j P22 dead = dead
+crossStep d j p s = crossBy (eqb j d) (leb d j) (ltb d j) p s
 
 -- the state after the passage behind aisle j, if the policy has it
 unfoldable pub passageStep : Job → ℕ → Passage → State → State

@@ -5,7 +5,7 @@ use Prim.Native.Nat.{_+_, _*_, _≤_, _<_}
 use mathlib.Core.Path.{_≡_, _∙_}
 use lib.ListN.{length}
 use Rattle.rules.specs.BestPlan.{actionsOf}
-use Rattle.router.proofs.Tables.{entry}
+use Rattle.machine.proofs.Tables.{entry}
 use Rattle.router.proofs.candidates.action_count.Statement.{statement}
 use Rattle.router.proofs.candidates.action_count.Tie as tie
 
@@ -17,7 +17,7 @@ array-read-result c = search needs
 
 returns : tie.Need-returns
 unfolding actionsOf
-returns c = entry (λ k. length (actionsOf k)) 25 ((c) .args .cells) (omega arith)
+returns c = entry 0 (λ k. length (actionsOf k)) 25 ((c) .args .cells) (omega arith)
 
 pub action-count-spec : {M : Type 1} → statement M
 action-count-spec = tie.close (tie.spec mul-result array-read-result returns)

@@ -8,7 +8,7 @@ use Rattle.router.specs.Layers.{throughAction}
 use Rattle.rules.specs.BestPlan.{actionsOf}
 use Rattle.rules.specs.declared.Action.the-variants.{Void}
 use Rattle.router.specs.Choosing.{leastAfter}
-use Rattle.router.specs.Steps.{policyOf}
+use Rattle.machine.specs.Steps.{policyOf}
 use Rattle.router.proofs.Geometry.{within}
 use mathlib.Core.Path.{subst}
 use lib.ListN.{getD}

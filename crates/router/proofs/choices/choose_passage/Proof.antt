@@ -9,7 +9,7 @@ use Rattle.rules.specs.BestPlan.{passagesInOrder}
 use Rattle.rules.specs.declared.Passage.the-variants.{P00}
 use lib.ListN.{take}
 use Rattle.router.proofs.Passages.{passage-tried, tried-length}
-use Rattle.router.specs.Steps.{policyOf}
+use Rattle.machine.specs.Steps.{policyOf}
 use lib.ListN.{getD}
 use Rattle.router.proofs.choices.choose_passage.Statement.{statement}
 use Rattle.router.proofs.choices.choose_passage.Tie as tie

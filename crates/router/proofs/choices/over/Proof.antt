@@ -13,7 +13,7 @@ use Rattle.rules.specs.declared.Action.the-variants.{Void}
 use Rattle.router.specs.Choosing.{leastAfter}
 use lib.ListN.{getD}
 use Rattle.router.proofs.FirstRanks.{over-parts}
-use Rattle.router.specs.Steps.{policyOf}
+use Rattle.machine.specs.Steps.{policyOf}
 use Rattle.router.proofs.choices.over.Statement.{statement}
 use Rattle.router.proofs.choices.over.Tie as tie
 

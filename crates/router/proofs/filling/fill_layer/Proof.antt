@@ -5,7 +5,8 @@ use Prim.Native.Nat.{_+_, _*_, _-_, _≤_, _<_}
 use mathlib.Core.Path.{_≡_, sym, _∙_}
 use Rattle.router.proofs.TableFills.{aisle-ready, layer-holds}
 use Rattle.router.proofs.Geometry.{within}
-use Rattle.router.proofs.StepLaws.{policy-code-below, side-below}
+use Rattle.machine.proofs.StepLaws.{policy-code-below}
+use Rattle.router.proofs.StepLaws.{side-below}
 use Rattle.values.specs.Values.{jobOf}
 use Rattle.router.specs.TableHolds.{aisleOf}
 use Rattle.router.specs.Layers.{AisleReady}

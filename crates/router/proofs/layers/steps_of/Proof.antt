@@ -6,8 +6,8 @@ use Rattle.router.proofs.Relaxing.{filled-one}
 use lib.ListN.{length, getD}
 use lib.ListN.{length-set}
 use Rattle.router.specs.Layers.{stepCode}
-use Rattle.router.specs.Steps.{policyOf, sampleAction, bit, stepOf}
-use Rattle.router.specs.States.{stateCode, stateOf}
+use Rattle.machine.specs.Steps.{policyOf, sampleAction, bit, stepOf}
+use Rattle.machine.specs.States.{stateCode, stateOf}
 use Rattle.router.proofs.layers.steps_of.Statement.{statement}
 use Rattle.router.proofs.layers.steps_of.Tie as tie
 

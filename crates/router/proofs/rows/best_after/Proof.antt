@@ -3,7 +3,7 @@ use native.Mathlib.Omega.{arith}
 use Prim.Native.Nat.{_+_, _*_, _-_, _≤_, _<_}
 use mathlib.Core.Path.{_≡_, refl, _∙_, ap}
 use Rattle.router.proofs.Passages.{least-tried}
-use Rattle.router.specs.Steps.{policyOf}
+use Rattle.machine.specs.Steps.{policyOf}
 use Rattle.optimum.specs.Routing.{leastOf}
 use Rattle.router.specs.Rows.{throughPassage}
 use Rattle.rules.specs.BestPlan.{passagesInOrder}

@@ -3,7 +3,7 @@ use native.Mathlib.Omega.{arith}
 use Prim.Native.Nat.{_+_, _*_, _-_, _%_, _≤_, _<_}
 use mathlib.Core.Path.{_≡_, refl, _∙_}
 use Rattle.router.proofs.Passages.{after-none, after-one}
-use Rattle.router.specs.Steps.{policyOf}
+use Rattle.machine.specs.Steps.{policyOf}
 use lib.ListN.{length}
 use Rattle.router.specs.Rows.{AfterFilled}
 use mathlib.Core.Path.{subst}

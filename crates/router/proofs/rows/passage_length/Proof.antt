@@ -3,7 +3,7 @@ use native.Mathlib.Omega.{arith}
 use Prim.Native.Nat.{_+_, _*_, _≤_, _<_}
 use mathlib.Core.Path.{_≡_, sym, _∙_, ap}
 use Rattle.router.proofs.Passages.{two-treads}
-use Rattle.router.specs.Steps.{passageOf}
+use Rattle.machine.specs.Steps.{passageOf}
 use Rattle.rules.specs.Plans.{backTreads, frontTreads}
 use Rattle.router.proofs.rows.passage_length.Statement.{statement}
 use Rattle.router.proofs.rows.passage_length.Tie as tie

@@ -4,8 +4,8 @@ use native.Mathlib.Omega.{arith}
 use Prim.Native.Nat.{_+_, _*_, _≤_, _<_}
 use mathlib.Core.Path.{_≡_, sym, _∙_}
 use Rattle.router.proofs.Passages.{state-small, through-dead, through-alive}
-use Rattle.router.specs.Steps.{policyOf, passageOf, crossOf}
-use Rattle.router.specs.States.{stateOf}
+use Rattle.machine.specs.Steps.{policyOf, passageOf, crossOf}
+use Rattle.machine.specs.States.{stateOf}
 use Rattle.router.proofs.rows.through.Statement.{statement}
 use Rattle.router.proofs.rows.through.Tie as tie
 

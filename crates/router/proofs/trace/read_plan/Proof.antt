@@ -16,7 +16,7 @@ use Rattle.router.proofs.TraceEnds.{trace-start, trace-end}
 use Rattle.optimum.specs.Table.{value}
 use Rattle.optimum.specs.Demand.{radices, demandOf}
 use Rattle.optimum.specs.Routing.{routing, allActions}
-use Rattle.router.specs.States.{stateOf}
+use Rattle.machine.specs.States.{stateOf}
 use Rattle.router.proofs.trace.read_plan.Statement.{statement}
 use Rattle.router.proofs.trace.read_plan.Tie as tie
 

@@ -1,7 +1,8 @@
--- The numbers of the machine's states in the table.
+-- The numbers of the machine's states in the tables.
 use Prim.Native.Nat.{ℕ, zero, suc}
 use Rattle.rules.specs.Machine.{State, nothing, closed, atFront, atBack, odd, joined, split, ending, dead}
 
+-- the number of a state
 abbrev pub stateCode : State → ℕ
 stateCode nothing = 0
 stateCode closed = 1

@@ -1,0 +1,64 @@
+-- The numbers of states and policies, and the steps by kind, are the machine's. Assumes nothing.
+use Prim.Native.Nat.{ℕ, _<_}
+use native.Mathlib.Omega.{arith}
+use mathlib.Core.Path.{_≡_, refl}
+use mathlib.Core.Bool.{Bool, cond, _&&_, _||_}
+use Rattle.rules.specs.declared.Layout.{Layout}
+use Rattle.rules.specs.declared.Policy.{Policy}
+use Rattle.rules.specs.declared.Policy.the-variants.{Exact, Return, Traversal, Midpoint, Composite}
+use Rattle.rules.specs.declared.Action.{Action}
+use Rattle.rules.specs.declared.Action.the-variants.{Void, Bottom, Top, Gap, Once, Twice}
+use Rattle.rules.specs.Policies.{actionNamed, halved}
+use Rattle.rules.specs.Machine.{State, nothing, closed, atFront, atBack, odd, joined, split, ending, dead, policyStep, mayEnter, isVoid}
+use Rattle.machine.specs.States.{stateCode, stateOf}
+use Rattle.machine.specs.Steps.{policyOf, policyCode, kindCode, sampleAction, stepOf}
+
+-- the numbers of states and policies stand for them
+pub state-of-code : (s : State) → stateOf (stateCode s) ≡ s
+state-of-code nothing = refl
+state-of-code closed = refl
+state-of-code atFront = refl
+state-of-code atBack = refl
+state-of-code odd = refl
+state-of-code joined = refl
+state-of-code split = refl
+state-of-code ending = refl
+state-of-code dead = refl
+
+pub policy-of-code : (policy : Policy) → policyOf (policyCode policy) ≡ policy
+policy-of-code Exact = refl
+policy-of-code Return = refl
+policy-of-code Traversal = refl
+policy-of-code Midpoint = refl
+policy-of-code Composite = refl
+
+pub policy-code-below : (policy : Policy) → policyCode policy < 5
+policy-code-below Exact = omega arith
+policy-code-below Return = omega arith
+policy-code-below Traversal = omega arith
+policy-code-below Midpoint = omega arith
+policy-code-below Composite = omega arith
+
+-- the machine looks at the kind of an action and at the answers of the two tests
+pub by-kind : (policy : Policy) (z : Layout) (a : Action) (holds : Bool) (s : State)
+    → stepOf policy (sampleAction (kindCode a)) holds (halved z a) s
+    ≡ cond (actionNamed policy a && (isVoid a || mayEnter policy holds)) (policyStep policy z a s) dead
+unfolding stepOf
+by-kind policy z Void holds s = refl
+by-kind Exact z (Bottom i) holds s = refl
+by-kind Return z (Bottom i) holds s = refl
+by-kind Traversal z (Bottom i) holds s = refl
+by-kind Midpoint z (Bottom i) holds s = refl
+by-kind Composite z (Bottom i) holds s = refl
+by-kind Exact z (Top i) holds s = refl
+by-kind Return z (Top i) holds s = refl
+by-kind Traversal z (Top i) holds s = refl
+by-kind Midpoint z (Top i) holds s = refl
+by-kind Composite z (Top i) holds s = refl
+by-kind Exact z (Gap h i) holds s = refl
+by-kind Return z (Gap h i) holds s = refl
+by-kind Traversal z (Gap h i) holds s = refl
+by-kind Midpoint z (Gap h i) holds s = refl
+by-kind Composite z (Gap h i) holds s = refl
+by-kind policy z Once holds s = refl
+by-kind policy z Twice holds s = refl

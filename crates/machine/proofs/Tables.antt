@@ -1,0 +1,124 @@
+-- The tables, made by their rules: each is compared with its constant as a whole, and read at one entry. Assumes nothing.
+use Prim.Native.Nat.{ℕ, zero, suc, _+_, _*_, _/_, _%_, _<_}
+use native.Mathlib.Omega.{arith}
+use mathlib.Core.Path.{_≡_, refl, sym, _∙_, ap}
+use mathlib.Core.Bool.{Bool, false, cond, not, _&&_, _||_}
+use mathlib.Core.List.{List, [], _∷_, map}
+use lib.Dec.{eqb}
+use lib.ListN.{getD}
+use borrow.Author.Tests.{ne-eqb}
+use Rattle.rules.specs.declared.Policy.{Policy}
+use Rattle.rules.specs.declared.Policy.the-variants.{Exact, Return, Traversal, Midpoint, Composite}
+use Rattle.rules.specs.declared.Action.{Action}
+use Rattle.rules.specs.Lists.{from}
+use Rattle.rules.specs.Policies.{actionNamed, passageNamed}
+use Rattle.rules.specs.Machine.{State, policyBy, mayEnter, isVoid}
+use Rattle.machine.specs.States.{stateCode, stateOf}
+use Rattle.machine.specs.Steps.{policyOf, passageOf, sampleAction, bit}
+use Rattle.machine.specs.Tables.{automatonOf, automatonBy, policyMark, actionMark, passageMark, decided}
+
+module _ {A : Type 0} where
+  entry-from : (d : A) (f : ℕ → A) (n a k : ℕ) → k < n → getD (map f (from a n)) k d ≡ f (a + k)
+  entry-from d f zero a k h = absurd (omega arith)
+  entry-from d f (suc n) a zero h = ap f (omega arith)
+  entry-from d f (suc n) a (suc k) h = entry-from d f n (suc a) k (omega arith) ∙ ap f (omega arith)
+
+  -- an entry of a table made by a rule
+  pub entry : (d : A) (f : ℕ → A) (n k : ℕ) → k < n → getD (map f (from 0 n)) k d ≡ f k
+  entry d f n k h = entry-from d f n 0 k h ∙ ap f (omega arith)
+
+  -- two rules that make the same table agree at each entry
+  same-entry : (d : A) (f g : ℕ → A) (n : ℕ) → map f (from 0 n) ≡ map g (from 0 n) → (k : ℕ) → k < n → f k ≡ g k
+  same-entry d f g n e k h = sym (entry d f n k h) ∙ (ap (λ l. getD l k d) e ∙ entry d g n k h)
+
+-- POLICIES: sixteen columns to a row
+unfoldable pub policyEntry : ℕ → ℕ
+policyEntry i = policyMark (policyOf (i / 16)) (i % 16)
+
+unfoldable pub policyTable : List ℕ
+policyTable = map policyEntry (from 0 80)
+
+pub policy-entry : (p c : ℕ) → p < 5 → c < 16 → getD policyTable (p * 16 + c) 0 ≡ policyMark (policyOf p) c
+unfolding policyTable policyEntry
+policy-entry p c p< c< =
+    let i = p * 16 + c in
+    let p-is : i / 16 ≡ p = omega arith in
+    let c-is : i % 16 ≡ c = omega arith in
+    entry 0 policyEntry 80 i (omega arith) ∙ rw (p-is, c-is) refl
+
+-- ACTIONS and PASSAGES: three parts to a row, in each nine digits and a space
+abbrev pub rowEntry : (ℕ → ℕ → ℕ → ℕ) → ℕ → ℕ
+rowEntry f i = cond (eqb (i % 10) 9) 32 (48 + f (i / 30) (i / 10 % 3) (i % 10))
+
+row-entry : (f : ℕ → ℕ → ℕ → ℕ) (n x y s : ℕ) → x < n → y < 3 → s < 9
+    → getD (map (rowEntry f) (from 0 (n * 30))) (x * 30 + y * 10 + s) 0 ≡ 48 + f x y s
+row-entry f n x y s x< y< s< =
+    let i = x * 30 + y * 10 + s in
+    let x-is : i / 30 ≡ x = omega arith in
+    let y-is : i / 10 % 3 ≡ y = omega arith in
+    let s-is : i % 10 ≡ s = omega arith in
+    entry 0 (rowEntry f) (n * 30) i (omega arith) ∙ rw (x-is, y-is, s-is, ne-eqb s 9 (λ e. omega arith)) refl
+
+unfoldable pub actionTable : List ℕ
+actionTable = map (rowEntry actionMark) (from 0 180)
+
+pub action-entry : (k m s : ℕ) → k < 6 → m < 3 → s < 9 → getD actionTable (k * 30 + m * 10 + s) 0 ≡ 48 + actionMark k m s
+unfolding actionTable
+action-entry = row-entry actionMark 6
+
+unfoldable pub passageTable : List ℕ
+passageTable = map (rowEntry passageMark) (from 0 150)
+
+pub passage-entry : (p side s : ℕ) → p < 5 → side < 3 → s < 9 → getD passageTable (p * 30 + side * 10 + s) 0 ≡ 48 + passageMark p side s
+unfolding passageTable
+passage-entry = row-entry passageMark 5
+
+-- what the marks of a policy's row say of an action, tested over all policies and kinds
+pub possible-by-marks : (p k h : ℕ) → p < 5 → k < 6 → h < 2
+    → (not (eqb (policyMark (policyOf p) k) 45) && (eqb k 0 || (eqb h 1 || eqb (policyMark (policyOf p) 15) 43)))
+    ≡ (actionNamed (policyOf p) (sampleAction k) && (isVoid (sampleAction k) || mayEnter (policyOf p) (bit h)))
+unfolding policyMark
+possible-by-marks p k h p< k< h< =
+    let i = p * 12 + k * 2 + h in
+    let p-is : i / 12 ≡ p = omega arith in
+    let k-is : i / 2 % 6 ≡ k = omega arith in
+    let h-is : i % 2 ≡ h = omega arith in
+    rw (p-is, k-is, h-is) at
+    (same-entry false
+    (λ i. not (eqb (policyMark (policyOf (i / 12)) (i / 2 % 6)) 45) && (eqb (i / 2 % 6) 0 || (eqb (i % 2) 1 || eqb (policyMark (policyOf (i / 12)) 15) 43)))
+    (λ i. actionNamed (policyOf (i / 12)) (sampleAction (i / 2 % 6)) && (isVoid (sampleAction (i / 2 % 6)) || mayEnter (policyOf (i / 12)) (bit (i % 2))))
+    60 refl i (omega arith))
+
+-- and of a passage, over all policies and passages
+pub passage-by-mark : (p x : ℕ) → p < 5 → x < 5 → not (eqb (policyMark (policyOf p) (7 + x)) 45) ≡ passageNamed (policyOf p) (passageOf x)
+unfolding policyMark
+passage-by-mark p x p< x< =
+    let i = p * 5 + x in
+    let p-is : i / 5 ≡ p = omega arith in
+    let x-is : i % 5 ≡ x = omega arith in
+    rw (p-is, x-is) at
+    (same-entry false (λ i. not (eqb (policyMark (policyOf (i / 5)) (7 + i % 5)) 45)) (λ i. passageNamed (policyOf (i / 5)) (passageOf (i % 5))) 25 refl i (omega arith))
+
+-- a mark of an automaton, decided by the test for aisles between, is the next state: tested over all of them
+pub decided-mark : (k m b s : ℕ) → k < 6 → m < 3 → b < 2 → s < 9
+    → decided (actionMark k m s) (bit b) ≡ stateCode (automatonBy m (bit b) (sampleAction k) (stateOf s))
+unfolding decided actionMark
+decided-mark k m b s k< m< b< s< =
+    let i = k * 54 + m * 18 + b * 9 + s in
+    let k-is : i / 54 ≡ k = omega arith in
+    let m-is : i / 18 % 3 ≡ m = omega arith in
+    let b-is : i / 9 % 2 ≡ b = omega arith in
+    let s-is : i % 9 ≡ s = omega arith in
+    rw (k-is, m-is, b-is, s-is) at
+    (same-entry 0
+    (λ i. decided (actionMark (i / 54) (i / 18 % 3) (i % 9)) (bit (i / 9 % 2)))
+    (λ i. stateCode (automatonBy (i / 18 % 3) (bit (i / 9 % 2)) (sampleAction (i / 54)) (stateOf (i % 9))))
+    324 refl i (omega arith))
+
+-- a policy's automaton is one of the three, and has the policy's steps
+pub automaton-of : (policy : Policy) → (automatonOf policy < 3) × ((b : Bool) (a : Action) (s : State) → automatonBy (automatonOf policy) b a s ≡ policyBy policy b a s)
+automaton-of Exact = (omega arith, λ b a s. refl)
+automaton-of Return = (omega arith, λ b a s. refl)
+automaton-of Traversal = (omega arith, λ b a s. refl)
+automaton-of Midpoint = (omega arith, λ b a s. refl)
+automaton-of Composite = (omega arith, λ b a s. refl)

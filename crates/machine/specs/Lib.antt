@@ -1,0 +1,3 @@
+pub mod States
+pub mod Steps
+pub mod Tables

@@ -1,0 +1,63 @@
+-- The machine's steps by kind of action, with numbers for policies, kinds and passages.
+use Prim.Native.Nat.{ℕ, zero, suc}
+use mathlib.Core.Bool.{Bool, true, false, cond, _&&_, _||_}
+use Rattle.rules.specs.declared.Policy.{Policy}
+use Rattle.rules.specs.declared.Policy.the-variants.{Exact, Return, Traversal, Midpoint, Composite}
+use Rattle.rules.specs.declared.Action.{Action}
+use Rattle.rules.specs.declared.Action.the-variants.{Void, Bottom, Top, Gap, Once, Twice}
+use Rattle.rules.specs.declared.Passage.{Passage}
+use Rattle.rules.specs.declared.Passage.the-variants.{P00, P02, P11, P20, P22}
+use Rattle.rules.specs.Plans.{kindOf, kindRank}
+use Rattle.rules.specs.Policies.{actionNamed, passageNamed}
+use Rattle.rules.specs.Machine.{State, dead, policyBy, crossStep, mayEnter, isVoid}
+
+-- the policies by number, in document 01's order
+abbrev pub policyOf : ℕ → Policy
+policyOf zero = Exact
+policyOf (suc zero) = Return
+policyOf (suc (suc zero)) = Traversal
+policyOf (suc (suc (suc zero))) = Midpoint
+policyOf (suc (suc (suc (suc n)))) = Composite
+
+-- the number of a policy
+abbrev pub policyCode : Policy → ℕ
+policyCode Exact = 0
+policyCode Return = 1
+policyCode Traversal = 2
+policyCode Midpoint = 3
+policyCode Composite = 4
+
+-- the passages by number, in document 01's order
+abbrev pub passageOf : ℕ → Passage
+passageOf zero = P00
+passageOf (suc zero) = P02
+passageOf (suc (suc zero)) = P11
+passageOf (suc (suc (suc zero))) = P20
+passageOf (suc (suc (suc (suc n)))) = P22
+
+-- the number of an action's kind
+abbrev pub kindCode : Action → ℕ
+kindCode a = kindRank (kindOf a)
+
+-- an action of a kind: the machine does not look at the cells
+abbrev pub sampleAction : ℕ → Action
+sampleAction zero = Void
+sampleAction (suc zero) = Bottom 1
+sampleAction (suc (suc zero)) = Top 1
+sampleAction (suc (suc (suc zero))) = Gap 1 2
+sampleAction (suc (suc (suc (suc zero)))) = Once
+sampleAction (suc (suc (suc (suc (suc n))))) = Twice
+
+-- the answer of a test as a number, 0 or 1
+abbrev pub bit : ℕ → Bool
+bit zero = false
+bit (suc n) = true
+
+-- the state after an action, with the answers of 'holds a listed article' and of the test for aisles between
+unfoldable pub stepOf : Policy → Action → Bool → Bool → State → State
+stepOf policy a holds between s =
+    cond (actionNamed policy a && (isVoid a || mayEnter policy holds)) (policyBy policy between a s) dead
+
+-- the state after the passage behind an aisle left of the depot (0), at it (1) or right of it (2)
+unfoldable pub crossOf : Policy → Passage → ℕ → State → State
+crossOf policy p side s = cond (passageNamed policy p) (crossStep 1 side p s) dead

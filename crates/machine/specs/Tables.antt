@@ -1,0 +1,53 @@
+-- What the tables hold, byte by byte: digits, '-', '+' and spaces.
+use Prim.Native.Nat.{ℕ, zero, suc, _+_, _-_}
+use mathlib.Core.Bool.{Bool, true, false, cond}
+use lib.Dec.{ltb, eqb}
+use Rattle.rules.specs.declared.Policy.{Policy}
+use Rattle.rules.specs.declared.Policy.the-variants.{Exact, Return, Traversal, Midpoint, Composite}
+use Rattle.rules.specs.declared.Action.{Action}
+use Rattle.rules.specs.Policies.{actionNamed, passageNamed}
+use Rattle.rules.specs.Machine.{State, lawfulStep, traversalStep, midpointBy, crossStep, mayEnter}
+use Rattle.machine.specs.States.{stateCode, stateOf}
+use Rattle.machine.specs.Steps.{passageOf, sampleAction}
+
+-- the automaton of a policy: 0 the lawful one, 1 TRAVERSAL's, 2 MIDPOINT's
+abbrev pub automatonOf : Policy → ℕ
+automatonOf Exact = 0
+automatonOf Return = 0
+automatonOf Traversal = 1
+automatonOf Midpoint = 2
+automatonOf Composite = 0
+
+-- the state after an action by an automaton's rows
+abbrev pub automatonBy : ℕ → Bool → Action → State → State
+automatonBy zero between a s = lawfulStep a s
+automatonBy (suc zero) between a s = traversalStep a s
+automatonBy (suc (suc n)) between a s = midpointBy between a s
+
+-- a digit, or '-' for what a policy lacks
+abbrev pub digitIf : Bool → ℕ → ℕ
+digitIf b n = cond b (48 + n) 45
+
+-- a policy's row: its kinds, a space, its passages, a space, its automaton, a space, '+' or '-' for aisles that hold no listed article
+unfoldable pub policyMark : Policy → ℕ → ℕ
+policyMark policy c =
+    cond (ltb c 6) (digitIf (actionNamed policy (sampleAction c)) c)
+    (cond (ltb c 7) 32
+    (cond (ltb c 12) (digitIf (passageNamed policy (passageOf (c - 7))) (c - 7))
+    (cond (eqb c 13) (48 + automatonOf policy)
+    (cond (eqb c 15) (cond (mayEnter policy false) 43 45)
+    32))))
+
+-- the next state by an automaton's rows, or 9 where the test for aisles between decides
+unfoldable pub actionMark : (kind automaton state : ℕ) → ℕ
+actionMark k m s =
+    let yes = stateCode (automatonBy m true (sampleAction k) (stateOf s)) in
+    cond (eqb yes (stateCode (automatonBy m false (sampleAction k) (stateOf s)))) yes 9
+
+-- the state that such a mark stands for: 9 is odd or dead
+unfoldable pub decided : ℕ → Bool → ℕ
+decided mark between = cond (ltb mark 9) mark (cond between 4 8)
+
+-- the next state behind a passage
+unfoldable pub passageMark : (passage side state : ℕ) → ℕ
+passageMark p side s = stateCode (crossStep 1 side (passageOf p) (stateOf s))
