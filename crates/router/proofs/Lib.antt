@@ -2,8 +2,13 @@ pub mod Tables
 pub mod Geometry
 pub mod Ranks
 pub mod Relaxing
+pub mod Bridge
+pub mod Sweeping
 pub mod Passages
+pub mod TurnLaws
+pub mod HalfSteps
 pub mod ActionRows
+pub mod PassLaws
 pub mod StepLaws
 pub mod Composition
 pub mod TableValues

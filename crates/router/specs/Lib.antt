@@ -3,6 +3,7 @@ pub mod Steps
 pub mod Candidates
 pub mod Rows
 pub mod Maps
+pub mod Turns
 pub mod Layers
 pub mod TableHolds
 pub mod Choosing
