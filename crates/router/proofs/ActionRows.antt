@@ -1,26 +1,30 @@
--- One more action of a row is looked at. Assumes nothing.
+-- The ways over the actions of an aisle.
 use Prim.Native.Nat.{ℕ, zero, suc, _+_, _*_, _≤_, _<_, min}
 use native.Mathlib.Omega.{arith}
-use mathlib.Core.Path.{_≡_, refl, sym, _∙_, ap, ap₂}
+use mathlib.Core.Path.{_≡_, refl, sym, _∙_, ap}
+use mathlib.Core.Logic.{_⊎_, inl, inr}
 use mathlib.Core.List.{List, [], _∷_, List·Memᴰ, List·Memᴰ·head, List·Memᴰ·tail}
-use lib.ListN.{length, getD, take}
+use mathlib.Core.Bool.{Bool, true, false, cond}
+use lib.Dec.{ltb}
+use lib.ListN.{length, getD}
+use borrow.Author.Tests.{le-ltb}
 use Rattle.rules.specs.declared.Action.{Action}
 use Rattle.rules.specs.declared.Action.the-variants.{Void, Bottom, Top, Gap, Once, Twice}
 use Rattle.rules.specs.Plans.{Fits}
 use Rattle.rules.specs.BestPlan.{actionsOf}
+use Rattle.rules.specs.Machine.{State, dead}
 use Rattle.rules.proofs.Enumeration.{actions-sound}
 use Rattle.optimum.specs.Least.{sumUpTo}
-use Rattle.optimum.specs.Routing.{noTour, sat, leastOf}
-use Rattle.optimum.proofs.Choice.{least-take}
+use Rattle.optimum.specs.Routing.{noTour, sat}
 use Rattle.router.specs.declared.candidates.Candidate.{Candidate}
 use Rattle.router.specs.declared.layers.Aisle.{Aisle}
 use Rattle.router.specs.Candidates.{candidateOf, candidateLength, candidateHalves}
-use Rattle.machine.specs.States.{stateOf}
+use Rattle.machine.specs.States.{stateCode, stateOf}
 use Rattle.machine.specs.Steps.{policyOf, sampleAction, bit, stepOf}
-use Rattle.router.proofs.Geometry.{within}
+use Rattle.router.specs.Rows.{tab, nextAt}
+use Rattle.router.specs.Layers.{stepWith, stepCode, leftCode, throughCandidate, throughAction, wayWith}
 use Rattle.router.proofs.Passages.{state-small}
-use Rattle.router.specs.Rows.{tab, afterAt, RelaxReady, RelaxedRow}
-use Rattle.router.specs.Layers.{stepCode, leftCode, throughCandidate, throughAction, AisleReady, RowFilled}
+use Rattle.router.proofs.HalfSteps.{step-no, step-same}
 
 member-at : {A : Type 0} (d : A) (xs : List A) (k : ℕ) → k < length xs → List·Memᴰ (getD xs k d) xs
 member-at d [] k h = absurd (omega arith)
@@ -46,46 +50,58 @@ candidate-parts cells (Gap h i) f = record { kind-below = omega arith; front-wit
 candidate-parts cells Once f = record { kind-below = omega arith; front-within = omega arith; back-low = omega arith; back-high = omega arith }
 candidate-parts cells Twice f = record { kind-below = omega arith; front-within = omega arith; back-low = omega arith; back-high = omega arith }
 
-module _ (x : Aisle) (after fronts backs : List ℕ) where
-  -- no action yet: all is 'none'
-  pub row-start : (row : List ℕ) → ((k : ℕ) → k < x .weight * 8 → getD row k 0 ≡ 65535) → RowFilled x row after fronts backs 0
-  row-start row none s q l h = none (q * 8 + s) (omega arith)
+-- the way over an action is that with the answer of its own half rule
+pub way-is : (x : Aisle) (after fronts backs : List ℕ) (s q : ℕ) (a : Action) → throughAction x (nextAt after) fronts backs s q a ≡ wayWith x after fronts backs (candidateHalves (x .layout) (candidateOf (x .layout .cells) a)) s q a
+unfolding throughAction throughCandidate stepCode stepWith wayWith
+way-is x after fronts backs s q a = refl
 
-  -- one more action
-  pub row-next : (row row′ : List ℕ) (k front back : ℕ) (steps : List ℕ) (cost : ℕ) → k < length (actionsOf (x .layout .cells)) → let c = candidateOf (x .layout .cells) (getD (actionsOf (x .layout .cells)) k Void) in front ≡ c .front → back ≡ c .back → ((s : ℕ) → s < 8 → getD steps s 0 ≡ stepCode x c s) → cost ≡ candidateLength (x .layout) c → RowFilled x row after fronts backs k → RelaxedRow row row′ after fronts backs front back steps cost (x .weight) → RowFilled x row′ after fronts backs (k + 1)
-  unfolding throughAction throughCandidate leftCode sumUpTo
-  row-next row row′ k front back steps cost h f b st co filled relaxed s q l w =
-      relaxed .done s q l w
-      ∙ ap₂ min (filled s q l w) through
-      ∙ least
+module _ (x : Aisle) (after fronts backs : List ℕ) (s q : ℕ) where
+  abbrev through : Action → ℕ
+  through a = throughAction x (nextAt after) fronts backs s q a
+
+  abbrev way : Bool → Action → ℕ
+  way b a = wayWith x after fronts backs b s q a
+
+  -- no way leads on from the dead state
+  pub way-dead : (b : Bool) (a : Action) → 8 ≤ stepWith x (candidateOf (x .layout .cells) a .kind) b s → way b a ≡ 65535
+  unfolding wayWith nextAt sumUpTo
+  way-dead b a h = rw (le-ltb (stepWith x (candidateOf (x .layout .cells) a .kind) b s) 8 h) (omega arith)
+
+  -- the answer 'no' leads where the answer 'yes' does, or nowhere
+  way-no : (a : Action) → (way false a ≡ way true a) ⊎ (way false a ≡ 65535)
+  unfolding wayWith stepWith
+  way-no a = go (step-no (policyOf (x .policy)) (sampleAction (candidateOf (x .layout .cells) a .kind)) (bit (x .holds)) (stateOf s))
     where
-      a : Action
-      a = getD (actionsOf (x .layout .cells)) k Void
+      to : Bool → State
+      to b = stepOf (policyOf (x .policy)) (sampleAction (candidateOf (x .layout .cells) a .kind)) (bit (x .holds)) b (stateOf s)
 
-      through : sat cost (afterAt after (getD steps s 0) (getD backs (back * 256 + getD fronts (front * 256 + q) 0) 0)) ≡ throughAction x (afterAt after) fronts backs s q a
-      through = rw (f, b, st s l, co) refl
+      go : (to false ≡ to true) ⊎ (to false ≡ dead) → (way false a ≡ way true a) ⊎ (way false a ≡ 65535)
+      go (inl e) =
+          inl (ap (λ t. sat (candidateLength (x .layout) (candidateOf (x .layout .cells) a)) (nextAt after (stateCode t) (leftCode fronts backs (candidateOf (x .layout .cells) a) q))) e)
+      go (inr e) = inr (way-dead false a (omega (arith, ap stateCode e)))
 
-      least : min (leastOf (throughAction x (afterAt after) fronts backs s q) (take k (actionsOf (x .layout .cells)))) (throughAction x (afterAt after) fronts backs s q a) ≡ leastOf (throughAction x (afterAt after) fronts backs s q) (take (k + 1) (actionsOf (x .layout .cells)))
-      least = omega (arith, least-take noTour (throughAction x (afterAt after) fronts backs s q) (actionsOf (x .layout .cells)) k Void h)
+  -- so a way with the answer 'no' is the way over the action, or none
+  pub way-true : (a : Action) → (way false a ≡ through a) ⊎ (way false a ≡ 65535)
+  way-true a = go (candidateHalves (x .layout) (candidateOf (x .layout .cells) a)) refl (way-no a)
+    where
+      go : (b : Bool) → candidateHalves (x .layout) (candidateOf (x .layout .cells) a) ≡ b → (way false a ≡ way true a) ⊎ (way false a ≡ 65535) → (way false a ≡ through a) ⊎ (way false a ≡ 65535)
+      go true e (inl f) = inl (f ∙ sym (way-is x after fronts backs s q a ∙ ap (λ b. way b a) e))
+      go true e (inr f) = inr f
+      go false e f = inl (sym (way-is x after fronts backs s q a ∙ ap (λ b. way b a) e))
 
--- an aisle that is ready lets each of its candidates be relaxed
-pub relax-ready : (x : Aisle) (fronts backs row after steps : List ℕ) (kind front back cost : ℕ) → AisleReady x fronts backs → Parts (x .layout .cells) kind front back → 2048 ≤ length row → 2304 ≤ length after → ((s : ℕ) → s < 8 → getD steps s 0 ≤ 8) → cost ≤ 3240 → RelaxReady row after fronts backs front back steps cost (x .weight)
-relax-ready x fronts backs row after steps kind front back cost ready parts row-long after-long steps-small cost-small =
-    let w = within (x .layout) (ready .bounds) in
-    let p = parts in
-    let r = ready .small in
-    record {
-      small = ready .small;
-      row-long = omega arith;
-      after-long = omega arith;
-      fronts-long = omega (arith, ready .fronts-long);
-      backs-long = omega (arith, ready .backs-long);
-      parts = (omega arith, omega arith);
-      front-below = λ q h. ready .front-below front q (parts .front-within) h;
-      back-below = λ q h. ready .back-below back q (parts .back-low) (parts .back-high) h;
-      steps-below = steps-small;
-      cost-fits = omega arith;
-    }
+  -- where the answer does not matter
+  pub way-any : (a : Action) → (x .policy ≡ 3 → ⊥) ⊎ ((candidateOf (x .layout .cells) a .kind ≡ 0) ⊎ (4 ≤ candidateOf (x .layout .cells) a .kind)) → way false a ≡ through a
+  unfolding wayWith stepWith
+  way-any a free = go (candidateHalves (x .layout) (candidateOf (x .layout .cells) a)) refl
+    where
+      same : way false a ≡ way true a
+      same =
+          ap (λ t. sat (candidateLength (x .layout) (candidateOf (x .layout .cells) a)) (nextAt after (stateCode t) (leftCode fronts backs (candidateOf (x .layout .cells) a) q)))
+          (step-same (x .policy) (candidateOf (x .layout .cells) a .kind) free (bit (x .holds)) (stateOf s))
+
+      go : (b : Bool) → candidateHalves (x .layout) (candidateOf (x .layout .cells) a) ≡ b → way false a ≡ through a
+      go true e = same ∙ sym (way-is x after fronts backs s q a ∙ ap (λ b. way b a) e)
+      go false e = sym (way-is x after fronts backs s q a ∙ ap (λ b. way b a) e)
 
 -- the numbers of states after a candidate are at most 8
 pub step-small : (x : Aisle) (c : Candidate) (s : ℕ) → stepCode x c s ≤ 8

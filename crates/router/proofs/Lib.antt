@@ -1,8 +1,13 @@
 pub mod Geometry
 pub mod Ranks
 pub mod Relaxing
+pub mod Bridge
+pub mod Sweeping
 pub mod Passages
+pub mod TurnLaws
+pub mod HalfSteps
 pub mod ActionRows
+pub mod PassLaws
 pub mod StepLaws
 pub mod Composition
 pub mod TableValues

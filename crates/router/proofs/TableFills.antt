@@ -1,4 +1,4 @@
--- The rows of the table, from the one behind the last aisle to the first. Assumes nothing.
+-- The rows of the table, from the one behind the last aisle to the first.
 use Prim.Native.Nat.{ℕ, zero, suc, _+_, _*_, _-_, _≤_, _<_}
 use native.Mathlib.Omega.{arith}
 use native.Mathlib.Nat.{eq-or-lt-of-le}
@@ -120,22 +120,22 @@ aisle-ready job ok j fronts backs maps fl bl =
     }
 
 -- one aisle of the table, from what each part of the code gives
-pub layer-holds : (job : Job) → Admitted job → (n j : ℕ) (next fronts backs after row next′ : List ℕ) (x : Aisle) (tried side w : ℕ) → x ≡ aisleOf job j → tried ≡ triedAt n → side ≡ sideOf (job .layout .depot) j → w ≡ weight (job .lines) → RowHolds job n (suc j) next → MapsReady job j fronts backs → AfterFilled after next tried (policyOf (x .policy)) side (job .layout .width) (w * 9) → RowFilled x row after fronts backs (length (actionsOf (x .layout .cells))) → ((k : ℕ) → k < 2048 → getD next′ k 0 ≡ getD row k 0) → RowHolds job (suc n) j next′
+pub layer-holds : (job : Job) → Admitted job → (n j : ℕ) (next fronts backs after row next′ : List ℕ) (x : Aisle) (tried side w : ℕ) → x ≡ aisleOf job j → tried ≡ triedAt n → side ≡ sideOf (job .layout .depot) j → w ≡ weight (job .lines) → RowHolds job n (suc j) next → MapsReady job j fronts backs → AfterFilled after next tried (policyOf (x .policy)) side (job .layout .width) w → RowFilled x row after fronts backs → ((k : ℕ) → k < 2048 → getD next′ k 0 ≡ getD row k 0) → RowHolds job (suc n) j next′
 unfolding aisleOf
 layer-holds job ok n j next fronts backs after row next′ x tried side w x-is tried-is side-is w-is holds maps filled rows copied =
     row-copied job (ok .light) (suc n) j row next′
     (row-value job (ok .stock) n j after fronts backs row maps (after-value job n j next holds after filled′) rows′)
     copied
   where
-    filled′ : AfterFilled after next (triedAt n) (policyOf (policyCode (job .policy))) (sideOf (job .layout .depot) j) (job .layout .width) (weight (job .lines) * 9)
+    filled′ : AfterFilled after next (triedAt n) (policyOf (policyCode (job .policy))) (sideOf (job .layout .depot) j) (job .layout .width) (weight (job .lines))
     filled′ =
-        subst (λ t. AfterFilled after next t (policyOf (policyCode (job .policy))) (sideOf (job .layout .depot) j) (job .layout .width) (weight (job .lines) * 9)) tried-is
-        (subst (λ t. AfterFilled after next tried (policyOf (policyCode (job .policy))) t (job .layout .width) (weight (job .lines) * 9)) side-is
-        (subst (λ t. AfterFilled after next tried (policyOf (policyCode (job .policy))) side (job .layout .width) (t * 9)) w-is
-        (subst (λ (y : Aisle). AfterFilled after next tried (policyOf (y .policy)) side (job .layout .width) (w * 9)) x-is filled)))
+        subst (λ t. AfterFilled after next t (policyOf (policyCode (job .policy))) (sideOf (job .layout .depot) j) (job .layout .width) (weight (job .lines))) tried-is
+        (subst (λ t. AfterFilled after next tried (policyOf (policyCode (job .policy))) t (job .layout .width) (weight (job .lines))) side-is
+        (subst (λ t. AfterFilled after next tried (policyOf (policyCode (job .policy))) side (job .layout .width) t) w-is
+        (subst (λ (y : Aisle). AfterFilled after next tried (policyOf (y .policy)) side (job .layout .width) w) x-is filled)))
 
-    rows′ : RowFilled (aisleOf job j) row after fronts backs (length (actionsOf (job .layout .cells)))
-    rows′ = subst (λ (y : Aisle). RowFilled y row after fronts backs (length (actionsOf (y .layout .cells)))) x-is rows
+    rows′ : RowFilled (aisleOf job j) row after fronts backs
+    rows′ = subst (λ (y : Aisle). RowFilled y row after fronts backs) x-is rows
 
 -- the table while it is filled: the rows behind aisle j are there, and so is a copy of the last of them
 pub record Filling (job : Job) (j : ℕ) (work₀ work next : List ℕ) : Type 0 where

@@ -1,4 +1,4 @@
--- The rows that the code fills hold the table's values. Assumes nothing.
+-- The rows that the code fills hold the table's values.
 use Prim.Native.Nat.{ℕ, zero, suc, _+_, _*_, _≤_, _<_, min}
 use native.Mathlib.Omega.{arith}
 use mathlib.Core.Path.{_≡_, refl, sym, _∙_, ap, ap₂}
@@ -7,7 +7,6 @@ use mathlib.Core.Bool.{Bool, true, false, cond, _&&_}
 use lib.Dec.{ltb}
 use borrow.Author.Tests.{lt-ltb}
 use lib.ListN.{length, getD, take}
-use lib.Seq.{take-length}
 use Rattle.rules.specs.declared.Action.{Action}
 use Rattle.rules.specs.declared.Action.the-variants.{Bottom}
 use Rattle.rules.specs.declared.Passage.{Passage}
@@ -19,16 +18,16 @@ use Rattle.rules.specs.BestPlan.{actionsOf, passagesInOrder}
 use Rattle.rules.specs.Machine.{State, nothing, closed, atFront, atBack, odd, joined, split, ending, dead, actionStep, passageStep}
 use Rattle.rules.proofs.Pruning.{action-dead, passage-dead}
 use Rattle.rules.proofs.Enumeration.{actions-sound}
-use Rattle.optimum.specs.Least.{sumUpTo}
 use Rattle.optimum.specs.Table.{passagesBehind, afterAction, value}
 use Rattle.optimum.specs.Demand.{gains, less, radices, demandOf, lessCode, met}
-use Rattle.optimum.specs.Routing.{noTour, sat, leastOf, routing, allActions}
+use Rattle.optimum.specs.Least.{sumUpTo}
+use Rattle.optimum.specs.Routing.{routing, allActions, noTour, sat, leastOf}
 use Rattle.optimum.proofs.Choice.{least-cong, least-agree}
 use Rattle.optimum.proofs.Radix.{radices-positive, gains-length, count-weight, less-code, less-code-below}
 use Rattle.machine.specs.States.{stateCode, stateOf}
 use Rattle.machine.specs.Steps.{policyOf, policyCode, crossOf}
 use Rattle.router.specs.Candidates.{candidateOf}
-use Rattle.router.specs.Rows.{tab, afterAt, nextAt, throughPassage, AfterFilled}
+use Rattle.router.specs.Rows.{tab, nextAt, throughPassage, AfterFilled}
 use Rattle.router.specs.Layers.{stepCode, leftCode, throughCandidate, throughAction, RowFilled}
 use Rattle.router.specs.Maps.{MapsReady}
 use Rattle.router.specs.Choosing.{leastAfter}
@@ -103,9 +102,9 @@ module _ (job : Job) where
     least-after-value s q h = ap (leastOf _) (tried-passages n) ∙ least-cong noTour _ _ (passage-value s q h) (passagesBehind passagesInOrder n)
 
     -- the row behind the actions
-    pub after-value : (after : List ℕ) → AfterFilled after next (triedAt n) (policyOf (policyCode (job .policy))) (sideOf (job .layout .depot) j) (job .layout .width) (weight (job .lines) * 9) → (s q : ℕ) → s < 9 → q < weight (job .lines) → afterAt after s q ≡ behind n j (stateOf s) (demandOf (radices job) q)
+    pub after-value : (after : List ℕ) → AfterFilled after next (triedAt n) (policyOf (policyCode (job .policy))) (sideOf (job .layout .depot) j) (job .layout .width) (weight (job .lines)) → (s q : ℕ) → s < 9 → q < weight (job .lines) → nextAt after s q ≡ behind n j (stateOf s) (demandOf (radices job) q)
     unfolding leastAfter
-    after-value after filled s q l h = filled s q l (omega arith) ∙ least-after-value s q h
+    after-value after filled s q l h = filled s q l h ∙ least-after-value s q h
 
   module _ (stocked : stockInBounds job ≡ true) (n j : ℕ) (aft : ℕ → ℕ → ℕ) (fronts backs : List ℕ) (maps : MapsReady job j fronts backs) (holds : (s q : ℕ) → s < 9 → q < weight (job .lines) → aft s q ≡ behind n j (stateOf s) (demandOf (radices job) q)) where
     -- the demand after a candidate
@@ -130,9 +129,8 @@ module _ (job : Job) where
         ∙ ap₂ (behind n j) (state-of-code (actionStep job j a (stateOf s))) (less-code (gains job j a) (radices-positive job) (gains-length job j a) q))
 
   -- the row of an aisle
-  pub row-value : stockInBounds job ≡ true → (n j : ℕ) (after fronts backs row : List ℕ) → MapsReady job j fronts backs → ((s q : ℕ) → s < 9 → q < weight (job .lines) → afterAt after s q ≡ behind n j (stateOf s) (demandOf (radices job) q)) → RowFilled (aisleOf job j) row after fronts backs (length (actionsOf (job .layout .cells))) → RowHolds job (suc n) j row
+  pub row-value : stockInBounds job ≡ true → (n j : ℕ) (after fronts backs row : List ℕ) → MapsReady job j fronts backs → ((s q : ℕ) → s < 9 → q < weight (job .lines) → nextAt after s q ≡ behind n j (stateOf s) (demandOf (radices job) q)) → RowFilled (aisleOf job j) row after fronts backs → RowHolds job (suc n) j row
   unfolding aisleOf allActions
   row-value stocked n j after fronts backs row maps holds filled s q l h =
       filled s q l h
-      ∙ ap (leastOf _) (take-length (actionsOf (job .layout .cells)))
-      ∙ least-agree noTour _ _ (actionsOf (job .layout .cells)) (λ a m. through-value stocked n j (afterAt after) fronts backs maps holds s q l h a (actions-sound (job .layout .cells) a m))
+      ∙ least-agree noTour _ _ (actionsOf (job .layout .cells)) (λ a m. through-value stocked n j (nextAt after) fronts backs maps holds s q l h a (actions-sound (job .layout .cells) a m))

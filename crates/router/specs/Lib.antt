@@ -1,6 +1,7 @@
 pub mod Candidates
 pub mod Rows
 pub mod Maps
+pub mod Turns
 pub mod Layers
 pub mod TableHolds
 pub mod Choosing

@@ -156,7 +156,7 @@ pub fn action_length(z: Layout, c: Candidate) -> usize
 }
 
 // Whether a front part keeps to the front half.
-fn front_half(z: Layout, k: usize) -> bool
+pub fn front_half(z: Layout, k: usize) -> bool
     requires { ⌜ layoutInBounds z ≡ true ⌝ }
     ensures { λ r. ⌜ r ≡ inFrontHalf z k ⌝ }
 {
@@ -164,7 +164,7 @@ fn front_half(z: Layout, k: usize) -> bool
 }
 
 // Whether a back part keeps to the back half.
-fn back_half(z: Layout, k: usize) -> bool
+pub fn back_half(z: Layout, k: usize) -> bool
     requires { ⌜ layoutInBounds z ≡ true ⌝ }
     ensures { λ r. ⌜ r ≡ inBackHalf z k ⌝ }
 {

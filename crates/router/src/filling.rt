@@ -52,7 +52,7 @@ pub fn fill_layer(next: &mut [u16], job: JobValue, shelf: Shelf, d: Digits, j: u
 {
     let mut fronts = [0u16; 6656];
     let mut backs = [0u16; 6656];
-    let mut after = [0u16; 2304];
+    let mut after = [0u16; 2048];
     let mut row = [0u16; 2048];
     let weight = d.weight;
     fill_maps(&mut fronts, &mut backs, job, shelf, d, j);

@@ -17,15 +17,17 @@ use Rattle.rules.specs.declared.Direction.{Direction}
 use Rattle.rules.specs.declared.Direction.the-variants.{Back, Front, Left, Right}
 use Rattle.rules.specs.declared.Refusal.{Refusal}
 use Rattle.rules.specs.declared.Run.{Run}
+use Rattle.rules.specs.Lists.{headOr}
 use Rattle.rules.specs.Jobs.{Job}
-use Rattle.rules.specs.JobFile.{jobText}
+use Rattle.rules.specs.JobFile.{policyWord, layoutText, recordText, lineText, jobText}
 use Rattle.rules.specs.Refusals.{weight, jobRefusal, numberOf, bad, checkBytes}
 use Rattle.rules.specs.Plans.{Plan, planLength, planPasses}
 use Rattle.rules.specs.Serving.{serves}
 use Rattle.rules.specs.Machine.{accepts}
 use Rattle.rules.specs.BestPlan.{bestPlan}
 use Rattle.rules.specs.FirstWalk.{firstWalk}
-use Rattle.rules.specs.Sheet.{runsOf}
+use Rattle.rules.specs.Sheet.{actionText, passageText, pickText, runsOf}
+use Rattle.rules.specs.Answers.{Answer, replyNumber, answer, output}
 
 -- a stock record: aisle cell article quantity
 unfoldable pub stocked : ℕ → ℕ → ℕ → ℕ → StockRecord
@@ -133,64 +135,105 @@ cases =
     ∷ underEvery (alpha []) (refusal 5)  -- 14
     ∷ []
 
--- a store of three aisles of three cells, one cell midway: the turn in aisle 2 is at cell 2
-unfoldable pub midway : List StockRecord → Policy → Job
-midway stock policy =
+-- a job of our own: m C f p b w d, its stock and its list
+unfoldable pub ownJob : (m c f p b w d : ℕ) → List StockRecord → List OrderLine → Policy → Job
+ownJob m c f p b w d stock lines policy =
     record {
-      layout = record { aisles = 3; cells = 3; front = 1; pitch = 1; back = 1; width = 1; depot = 1 };
+      layout = record { aisles = m; cells = c; front = f; pitch = p; back = b; width = w; depot = d };
       policy = policy;
       stock = stock;
-      lines = (1 ⨯ 1) ∷ (2 ⨯ 1) ∷ (3 ⨯ 1) ∷ (4 ⨯ 1) ∷ [];
+      lines = lines;
     }
 
--- the part of aisle 2 at the front is wanted, or that at the back
-unfoldable pub frontPart : List StockRecord
-frontPart = stocked 1 2 1 1 ∷ stocked 2 1 2 1 ∷ stocked 2 2 3 1 ∷ stocked 3 2 4 1 ∷ []
+-- a list with one each of the articles 1 to 4
+unfoldable pub oneEach : List OrderLine
+oneEach = (1 ⨯ 1) ∷ (2 ⨯ 1) ∷ (3 ⨯ 1) ∷ (4 ⨯ 1) ∷ []
 
-unfoldable pub backPart : List StockRecord
-backPart = stocked 1 2 1 1 ∷ stocked 2 3 2 1 ∷ stocked 2 2 3 1 ∷ stocked 3 2 4 1 ∷ []
+-- cell 2 of three lies midway; in aisle 2 the front part is wanted
+unfoldable pub midwayFront : Policy → Job
+midwayFront = ownJob 3 3 1 1 1 1 1 (stocked 1 2 1 1 ∷ stocked 2 1 2 1 ∷ stocked 2 2 3 1 ∷ stocked 3 2 4 1 ∷ []) oneEach
 
--- a store in which the way along the back to a cell near the back crossing is worth walking twice
+-- the same, and the back part is wanted
+unfoldable pub midwayBack : Policy → Job
+midwayBack = ownJob 3 3 1 1 1 1 1 (stocked 1 2 1 1 ∷ stocked 2 3 2 1 ∷ stocked 2 2 3 1 ∷ stocked 3 2 4 1 ∷ []) oneEach
+
+-- the back crossing is far: by distance all cells are in the front half
+unfoldable pub farBack : Policy → Job
+farBack =
+    ownJob 3 3 1 1 4 1 1 (stocked 1 2 1 1 ∷ stocked 2 3 2 1 ∷ stocked 3 2 3 1 ∷ []) ((1 ⨯ 1) ∷ (2 ⨯ 1) ∷ (3 ⨯ 1) ∷ [])
+
+-- the way along the back to a cell near the back crossing is worth walking twice
 unfoldable pub nearBack : Policy → Job
-nearBack policy =
-    record {
-      layout = record { aisles = 3; cells = 2; front = 5; pitch = 4; back = 1; width = 1; depot = 1 };
-      policy = policy;
-      stock = stocked 1 1 1 1 ∷ stocked 1 2 1 1 ∷ stocked 2 1 1 1 ∷ stocked 2 2 1 1 ∷ stocked 3 2 1 1 ∷ [];
-      lines = (1 ⨯ 5) ∷ [];
-    }
+nearBack =
+    ownJob 3 2 5 4 1 1 1 (stocked 1 1 1 1 ∷ stocked 1 2 1 1 ∷ stocked 2 1 1 1 ∷ stocked 2 2 1 1 ∷ stocked 3 2 1 1 ∷ []) ((1 ⨯ 5) ∷ [])
 
--- a store with its depot in the middle in which both cross-aisles are walked twice, to the two ends of an aisle
+-- the depot is in the middle, and both cross-aisles are walked twice, to the two ends of an aisle
 unfoldable pub bothEnds : Policy → Job
-bothEnds policy =
-    record {
-      layout = record { aisles = 3; cells = 3; front = 1; pitch = 6; back = 1; width = 1; depot = 2 };
-      policy = policy;
-      stock = stocked 1 2 1 1 ∷ stocked 2 1 1 1 ∷ stocked 2 2 1 1 ∷ stocked 3 1 1 1 ∷ stocked 3 3 1 1 ∷ [];
-      lines = (1 ⨯ 5) ∷ [];
-    }
+bothEnds =
+    ownJob 3 3 1 6 1 1 2 (stocked 1 2 1 1 ∷ stocked 2 1 1 1 ∷ stocked 2 2 1 1 ∷ stocked 3 1 1 1 ∷ stocked 3 3 1 1 ∷ []) ((1 ⨯ 5) ∷ [])
 
--- a store in which two plans of TOP are equally short
+-- plans of BOTTOM and of TOP are equally short
+unfoldable pub bottomOrTop : Policy → Job
+bottomOrTop =
+    ownJob 3 2 2 1 2 2 3 (stocked 1 1 2 1 ∷ stocked 1 2 1 1 ∷ stocked 2 1 1 1 ∷ stocked 2 2 2 1 ∷ stocked 3 1 1 1 ∷ [])
+    ((1 ⨯ 3) ∷ (2 ⨯ 1) ∷ [])
+
+-- plans of TOP and of GAP are
+unfoldable pub topOrGap : Policy → Job
+topOrGap =
+    ownJob 3 2 3 3 2 3 1 (stocked 1 1 1 1 ∷ stocked 1 2 2 1 ∷ stocked 2 1 2 1 ∷ stocked 2 2 2 1 ∷ stocked 3 1 2 1 ∷ stocked 3 2 1 1 ∷ [])
+    ((1 ⨯ 2) ∷ (2 ⨯ 4) ∷ [])
+
+-- plans of GAP and of ONCE are
+unfoldable pub gapOrOnce : Policy → Job
+gapOrOnce =
+    ownJob 3 3 3 3 1 1 1 (stocked 1 2 2 1 ∷ stocked 1 3 2 1 ∷ stocked 2 1 1 1 ∷ stocked 2 3 2 1 ∷ stocked 3 2 2 1 ∷ stocked 3 3 2 1 ∷ [])
+    ((1 ⨯ 1) ∷ (2 ⨯ 5) ∷ [])
+
+-- passages 02 and 20 are, and the depot is in the middle
+unfoldable pub frontOrBack : Policy → Job
+frontOrBack =
+    ownJob 3 3 2 1 2 2 2 (stocked 1 1 1 1 ∷ stocked 1 3 2 1 ∷ stocked 2 1 2 1 ∷ stocked 2 2 1 1 ∷ stocked 2 3 2 1 ∷ stocked 3 2 2 1 ∷ [])
+    ((1 ⨯ 2) ∷ (2 ⨯ 4) ∷ [])
+
+-- its walk
+unfoldable pub leftFirst : List Run
+leftFirst =
+    steps Back 4 ∷ steps Left 1 ∷ steps Front 4 ∷ steps Right 2 ∷ steps Back 2 ∷ steps Front 2 ∷ steps Left 1 ∷ []
+
+-- two plans of TOP are equally short
 unfoldable pub topTie : Policy → Job
-topTie policy =
-    record {
-      layout = record { aisles = 4; cells = 2; front = 20; pitch = 1; back = 1; width = 1; depot = 1 };
-      policy = policy;
-      stock = stocked 1 1 1 1 ∷ stocked 2 2 2 1 ∷ stocked 2 1 5 1 ∷ stocked 3 2 3 1 ∷ stocked 3 1 5 1 ∷ stocked 4 1 4 1 ∷ [];
-      lines = (1 ⨯ 1) ∷ (2 ⨯ 1) ∷ (3 ⨯ 1) ∷ (4 ⨯ 1) ∷ (5 ⨯ 1) ∷ [];
-    }
+topTie =
+    ownJob 4 2 20 1 1 1 1 (stocked 1 1 1 1 ∷ stocked 2 2 2 1 ∷ stocked 2 1 5 1 ∷ stocked 3 2 3 1 ∷ stocked 3 1 5 1 ∷ stocked 4 1 4 1 ∷ [])
+    ((1 ⨯ 1) ∷ (2 ⨯ 1) ∷ (3 ⨯ 1) ∷ (4 ⨯ 1) ∷ (5 ⨯ 1) ∷ [])
 
--- a store in which two plans of GAP are equally short: GAP 1 6 and GAP 3 6, or GAP 2 5 and GAP 1 6
-unfoldable pub gapTie : Policy → Job
-gapTie policy =
-    record {
-      layout = record { aisles = 4; cells = 6; front = 1; pitch = 1; back = 1; width = 1; depot = 1 };
-      policy = policy;
-      stock =
-          stocked 1 3 1 1 ∷ stocked 2 1 1 1 ∷ stocked 2 6 1 1 ∷ stocked 3 1 1 1 ∷ stocked 3 6 1 1 ∷ stocked 4 3 1 1
-          ∷ stocked 2 2 2 1 ∷ stocked 2 5 2 1 ∷ stocked 3 3 2 2 ∷ [];
-      lines = (1 ⨯ 6) ∷ (2 ⨯ 2) ∷ [];
-    }
+-- six cells that any plan must pass, through four aisles, and others of article 2
+unfoldable pub withOthers : List StockRecord → ℕ → Policy → Job
+withOthers others n =
+    ownJob 4 6 1 1 1 1 1
+    (stocked 1 3 1 1 ∷ stocked 2 1 1 1 ∷ stocked 2 6 1 1 ∷ stocked 3 1 1 1 ∷ stocked 3 6 1 1 ∷ stocked 4 3 1 1 ∷ others)
+    ((1 ⨯ 6) ∷ (2 ⨯ n) ∷ [])
+
+-- two plans of GAP are equally short: GAP 1 6 and GAP 3 6, or GAP 2 5 and GAP 1 6
+unfoldable pub gapByFront : Policy → Job
+gapByFront = withOthers (stocked 2 2 2 1 ∷ stocked 2 5 2 1 ∷ stocked 3 3 2 2 ∷ []) 2
+
+-- and here GAP 1 5 and GAP 1 6, or GAP 1 6 and GAP 1 5
+unfoldable pub gapByBack : Policy → Job
+gapByBack = withOthers (stocked 2 5 2 1 ∷ stocked 3 5 2 1 ∷ []) 1
+
+-- jobs with two faults each: the layout and the stock; the stock, and a cell twice; a cell twice, and the list; an article twice, and the weight
+unfoldable pub wrongLayout : Policy → Job
+wrongLayout = ownJob 2 3 2 1 2 5 3 (stocked 3 1 7 1 ∷ []) ((7 ⨯ 1) ∷ [])
+
+unfoldable pub wrongStock : Policy → Job
+wrongStock = ownJob 2 3 2 1 2 5 1 (stocked 1 1 7 1 ∷ stocked 1 1 7 256 ∷ []) ((7 ⨯ 1) ∷ [])
+
+unfoldable pub sharedCell : Policy → Job
+sharedCell = ownJob 2 3 2 1 2 5 1 (stocked 1 1 7 1 ∷ stocked 1 1 9 1 ∷ []) ((0 ⨯ 1) ∷ [])
+
+unfoldable pub sharedArticle : Policy → Job
+sharedArticle = ownJob 2 3 2 1 2 5 1 (stocked 1 1 7 200 ∷ []) ((7 ⨯ 99) ∷ (7 ⨯ 99) ∷ [])
 
 -- plans that enter aisle 1 of store α, which holds article 7 alone
 unfoldable pub bothBottom : Bool → Expected
@@ -202,22 +245,55 @@ bothOnce b = allowing b (Once ∷ Once ∷ []) (P11 ∷ [])
 -- cases of our own: each pins what none of the fourteen does
 unfoldable pub ownCases : List Case
 ownCases =
-    under Midpoint (midway frontPart) (tour 16 (Once ∷ Bottom 2 ∷ Once ∷ []) (P11 ∷ P11 ∷ []))  -- a cell midway serves the front part
-    ∷ under Midpoint (midway backPart) (tour 16 (Once ∷ Top 2 ∷ Once ∷ []) (P11 ∷ P11 ∷ []))  -- and the back part
-    ∷ under Composite nearBack (tour 26 (Once ∷ Once ∷ Top 2 ∷ []) (P11 ∷ P20 ∷ []))  -- COMPOSITE has 20
-    ∷ under Exact bothEnds (tour 38 (Once ∷ Once ∷ Gap 1 3 ∷ []) (P11 ∷ P22 ∷ []))  -- EXACT has 22
-    ∷ under Composite topTie (tour 56 (Once ∷ Top 2 ∷ Top 1 ∷ Once ∷ []) (P11 ∷ P11 ∷ P11 ∷ []))  -- TOP: large i first
-    ∷ under Midpoint gapTie (tour 32 (Once ∷ Gap 1 6 ∷ Gap 3 6 ∷ Once ∷ []) (P11 ∷ P11 ∷ P11 ∷ []))  -- GAP: small h first
-    ∷ under Exact (alpha ((9 ⨯ 1) ∷ [])) (bothBottom true)  -- EXACT may enter an aisle that holds no article of the list
+    under Exact (alpha ((9 ⨯ 1) ∷ [])) (bothBottom true)  -- EXACT may enter an aisle that holds no article of the list
     ∷ under Return (alpha ((9 ⨯ 1) ∷ [])) (bothBottom false)  -- the others may not
-    ∷ under Traversal (alpha ((9 ⨯ 1) ∷ [])) (bothBottom false)
-    ∷ under Midpoint (alpha ((9 ⨯ 1) ∷ [])) (bothBottom false)
     ∷ under Composite (alpha ((9 ⨯ 1) ∷ [])) (bothBottom false)
     ∷ under Exact (alpha ((9 ⨯ 1) ∷ [])) (bothOnce true)
     ∷ under Traversal (alpha ((9 ⨯ 1) ∷ [])) (bothOnce false)
     ∷ under Midpoint (alpha ((9 ⨯ 1) ∷ [])) (bothOnce false)
-    ∷ under Composite (alpha ((9 ⨯ 1) ∷ [])) (bothOnce false)
+    ∷ underEvery wrongLayout (refusal 2)  -- the first cause that applies
+    ∷ underEvery wrongStock (refusal 3)
+    ∷ underEvery sharedCell (refusal 4)
+    ∷ underEvery sharedArticle (refusal 6)
+    ∷ under Midpoint midwayFront (tour 16 (Once ∷ Bottom 2 ∷ Once ∷ []) (P11 ∷ P11 ∷ []))  -- a cell midway serves the front part
+    ∷ under Midpoint midwayBack (tour 16 (Once ∷ Top 2 ∷ Once ∷ []) (P11 ∷ P11 ∷ []))  -- and the back part
+    ∷ under Midpoint farBack (tour 24 (Once ∷ Bottom 3 ∷ Once ∷ []) (P11 ∷ P11 ∷ []))  -- the halves go by distance
+    ∷ under Composite nearBack (tour 26 (Once ∷ Once ∷ Top 2 ∷ []) (P11 ∷ P20 ∷ []))  -- COMPOSITE has 20
+    ∷ under Exact bothEnds (tour 38 (Once ∷ Once ∷ Gap 1 3 ∷ []) (P11 ∷ P22 ∷ []))  -- EXACT has 22
+    ∷ under Exact bottomOrTop (tour 22 (Bottom 2 ∷ Bottom 1 ∷ Bottom 1 ∷ []) (P02 ∷ P02 ∷ []))  -- BOTTOM before TOP
+    ∷ under Composite topTie (tour 56 (Once ∷ Top 2 ∷ Top 1 ∷ Once ∷ []) (P11 ∷ P11 ∷ P11 ∷ []))  -- TOP: large i first
+    ∷ under Exact topOrGap (tour 38 (Once ∷ Top 1 ∷ Once ∷ []) (P11 ∷ P11 ∷ []))  -- TOP before GAP
+    ∷ under Midpoint gapByFront (tour 32 (Once ∷ Gap 1 6 ∷ Gap 3 6 ∷ Once ∷ []) (P11 ∷ P11 ∷ P11 ∷ []))  -- GAP: small h first
+    ∷ under Midpoint gapByBack (tour 30 (Once ∷ Gap 1 5 ∷ Gap 1 6 ∷ Once ∷ []) (P11 ∷ P11 ∷ P11 ∷ []))  -- then small i
+    ∷ under Exact gapOrOnce (tour 32 (Once ∷ Gap 1 3 ∷ Once ∷ []) (P11 ∷ P11 ∷ []))  -- GAP before ONCE
+    ∷ under Composite frontOrBack (walked 26 (Once ∷ Once ∷ Bottom 2 ∷ []) (P11 ∷ P02 ∷ []) leftFirst)  -- 02 before 20; L before R
     ∷ []
+
+-- texts and their bytes: every word, the order of the fields of a line, and what a refusal prints
+unfoldable pub texts : List (List ℕ × List ℕ)
+texts =
+    (layoutText (ownJob 1 2 3 4 5 6 7 [] [] Exact .layout) Exact, 49 ∷ 32 ∷ 50 ∷ 32 ∷ 51 ∷ 32 ∷ 52 ∷ 32 ∷ 53 ∷ 32 ∷ 54 ∷ 32 ∷ 55 ∷ 32 ∷ 69 ∷ 88 ∷ 65 ∷ 67 ∷ 84 ∷ 10 ∷ [])  -- 1 2 3 4 5 6 7 EXACT
+    ∷ (policyWord Return, 82 ∷ 69 ∷ 84 ∷ 85 ∷ 82 ∷ 78 ∷ [])  -- RETURN
+    ∷ (policyWord Traversal, 84 ∷ 82 ∷ 65 ∷ 86 ∷ 69 ∷ 82 ∷ 83 ∷ 65 ∷ 76 ∷ [])  -- TRAVERSAL
+    ∷ (policyWord Midpoint, 77 ∷ 73 ∷ 68 ∷ 80 ∷ 79 ∷ 73 ∷ 78 ∷ 84 ∷ [])  -- MIDPOINT
+    ∷ (policyWord Composite, 67 ∷ 79 ∷ 77 ∷ 80 ∷ 79 ∷ 83 ∷ 73 ∷ 84 ∷ 69 ∷ [])  -- COMPOSITE
+    ∷ (recordText (stocked 1 2 3 4), 49 ∷ 32 ∷ 50 ∷ 32 ∷ 51 ∷ 32 ∷ 52 ∷ 10 ∷ [])  -- 1 2 3 4
+    ∷ (lineText (7 ⨯ 2), 55 ∷ 32 ∷ 50 ∷ 10 ∷ [])  -- 7 2
+    ∷ (actionText Void, 86 ∷ 79 ∷ 73 ∷ 68 ∷ 10 ∷ [])  -- VOID
+    ∷ (actionText (Bottom 2), 66 ∷ 79 ∷ 84 ∷ 84 ∷ 79 ∷ 77 ∷ 32 ∷ 50 ∷ 10 ∷ [])  -- BOTTOM 2
+    ∷ (actionText (Top 2), 84 ∷ 79 ∷ 80 ∷ 32 ∷ 50 ∷ 10 ∷ [])  -- TOP 2
+    ∷ (actionText (Gap 3 5), 71 ∷ 65 ∷ 80 ∷ 32 ∷ 51 ∷ 32 ∷ 53 ∷ 10 ∷ [])  -- GAP 3 5
+    ∷ (actionText Once, 79 ∷ 78 ∷ 67 ∷ 69 ∷ 10 ∷ [])  -- ONCE
+    ∷ (actionText Twice, 84 ∷ 87 ∷ 73 ∷ 67 ∷ 69 ∷ 10 ∷ [])  -- TWICE
+    ∷ (passageText P20, 50 ∷ 48 ∷ 10 ∷ [])  -- 20
+    ∷ (pickText (record { aisle = 1; cell = 2; article = 3; quantity = 4 }), 49 ∷ 32 ∷ 50 ∷ 32 ∷ 51 ∷ 32 ∷ 52 ∷ 10 ∷ [])  -- 1 2 3 4
+    ∷ (output [], 82 ∷ 32 ∷ 49 ∷ 10 ∷ 49 ∷ 10 ∷ [])  -- R 1, 1: no bytes are no job file
+    ∷ []
+
+-- each text has its bytes
+abbrev pub AllSame : List (List ℕ × List ℕ) → Type 0
+AllSame [] = Unit {0}
+AllSame (x ∷ rest) = (x .0 ≡ x .1) × AllSame rest
 
 -- store α with far too many stock records: so many whose lines have 8 bytes and so many with 9
 unfoldable pub overfull : ℕ → ℕ → Job
@@ -270,3 +346,8 @@ workedSheet =
     ∷ 70 ∷ 32 ∷ 49 ∷ 10  -- F 1
     ∷ 76 ∷ 32 ∷ 49 ∷ 10  -- L 1
     ∷ []
+
+-- what a call on the worked job gives: the number that it returns, and the first number of the work area after it
+pub record CallGives (sheet work : List ℕ) (number first : ℕ) : Type 0 where
+  pub its-number : replyNumber (answer workedJob sheet work .reply) ≡ number
+  pub its-work : headOr 7 (answer workedJob sheet work .work) ≡ first

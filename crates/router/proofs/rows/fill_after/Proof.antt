@@ -1,54 +1,77 @@
--- `router::rows::fill_after` meets its contract. Assumes nothing.
+-- `router::rows::fill_after` meets its contract: the least over the first p passages.
 use native.Mathlib.Omega.{arith}
-use Prim.Native.Nat.{_+_, _*_, _-_, _%_, _≤_, _<_}
-use mathlib.Core.Path.{_≡_, refl, _∙_}
-use Rattle.router.proofs.Passages.{after-none, after-one}
-use Rattle.machine.specs.Steps.{policyOf}
+use Prim.Native.Nat.{ℕ, _+_, _*_, _-_, _≤_, _<_}
+use mathlib.Core.Path.{_≡_, refl, _∙_, subst}
 use lib.ListN.{length}
-use Rattle.router.specs.Rows.{AfterFilled}
-use mathlib.Core.Path.{subst}
-use lib.ListN.{length-set}
+use Rattle.machine.specs.Steps.{policyOf}
+use Rattle.router.proofs.Passages.{AfterTried, after-none, after-one, after-all}
 use Rattle.router.proofs.rows.fill_after.Statement.{statement}
 use Rattle.router.proofs.rows.fill_after.Tie as tie
 
 abbrev Inv-loop : tie.InvT-loop
-Inv-loop after₀ next tried policy side width weight i₀ after i = (i ≤ weight * 9) × ((length after ≡ length after₀) × AfterFilled after next tried (policyOf policy) side width i)
+Inv-loop after₀ next tried policy side width weight p₀ after p = (p ≤ tried) × (length after ≡ length after₀) × AfterTried after next (policyOf policy) side width weight p
 
 abbrev μ-loop : tie.MeasureT-loop
-μ-loop after₀ next tried policy side width weight i₀ after i = weight * 9 - i
+μ-loop after₀ next tried policy side width weight p₀ after p = tried - p
+
+mul-fill-none : tie.Need-mul-fill-none Inv-loop μ-loop
+mul-fill-none c = omega (arith, c .before .before .before .pre .2)
+
+fill-none-requires : tie.Need-fill-none-requires Inv-loop μ-loop
+fill-none-requires c κs = c .before .before .before .pre .0
 
 loop-holds : tie.Need-loop-holds Inv-loop μ-loop
-loop-holds c = (omega arith, (refl, after-none ((c .before .before) .args .next .now) ((c .before .before) .args .tried) (policyOf ((c .before .before) .args .policy)) ((c .before .before) .args .side) ((c .before .before) .args .width) ((c .before .before) .args .after .now)))
+loop-holds c =
+    let at-fill = c .before .before in
+    let p = at-fill .before .before .before .before .args in
+    (omega arith, refl, after-none (p .next .now) (p .policy) (p .side) (p .width) (p .weight) (at-fill .fill-none .last .0) (at-fill .fill-none .ensures .0))
 
-mul-loop : tie.Need-mul-loop Inv-loop μ-loop
-mul-loop c = omega arith
+relax-passage-requires : tie.Need-relax-passage-requires Inv-loop μ-loop
+relax-passage-requires c κs =
+    let at-loop = c .before .before in
+    let at-fill = at-loop .before .before .before in
+    let r = at-fill .before .before .before .before .pre in
+    record {
+      after-long = omega (arith, r .0, at-loop .loop .inv .1, at-fill .fill-none .ensures .1);
+      next-long = r .1;
+      small = r .2;
+      policy-below = r .4;
+      side-below = r .5;
+      passage-below = omega (arith, r .3);
+      width-fits = r .6;
+    }
 
-best-after-requires : tie.Need-best-after-requires Inv-loop μ-loop
-best-after-requires c κs = (record { long = omega (arith, (c .before .before .before .before) .pre .1); demand = omega (arith, (c .before .before .before .before) .pre .2); policy-below = (c .before .before .before .before) .pre .4; side-below = (c .before .before .before .before) .pre .5; state-below = omega arith; width-fits = (c .before .before .before .before) .pre .6 }, (c .before .before .before .before) .pre .3)
-
-cast-after : tie.Need-cast-after Inv-loop μ-loop
-cast-after c = omega arith
-
-mul-after : tie.Need-mul-after Inv-loop μ-loop
-mul-after c = omega (arith, (c .before .before .before .before .before) .pre .2)
-
-slice-write-after : tie.Need-slice-write-after Inv-loop μ-loop
-slice-write-after c = omega (arith, (c .before .before .before .before .before) .pre .0, (c .before .before .loop) .inv .1 .0)
-
-add-i : tie.Need-add-i Inv-loop μ-loop
-add-i c = omega (arith, (c .before .before .before .before .before) .pre .2)
+add-p : tie.Need-add-p Inv-loop μ-loop
+add-p c = omega (arith, c .before .before .before .before .before .before .before .before .before .before .before .before .pre .3)
 
 loop-less : tie.Need-loop-less Inv-loop μ-loop
 loop-less c = omega arith
 
 loop-again : tie.Need-loop-again Inv-loop μ-loop
-loop-again c = (omega arith, (length-set ((c .before .before .loop) .after) ((c .before .before .loop) .i) ((c .best-after) .result % 65536) ∙ (c .before .before .loop) .inv .1 .0, after-one ((c .before .before .before .before .before) .args .next .now) ((c .before .before .before .before .before) .args .tried) (policyOf ((c .before .before .before .before .before) .args .policy)) ((c .before .before .before .before .before) .args .side) ((c .before .before .before .before .before) .args .width) ((c .before .before .loop) .after) ((c .before .before .loop) .i) ((c .best-after) .result % 65536) (omega (arith, (c .before .before .before .before .before) .pre .0, (c .before .before .loop) .inv .1 .0)) ((c .before .before .loop) .inv .1 .1) (omega (arith, (c .best-after) .ensures))))
+loop-again c =
+    let at-passage = c .before .before in
+    let at-loop = at-passage .before .before .before in
+    let at-start = at-loop .before .before .before .before .before .before .before in
+    let p = at-start .args in
+    let o = at-loop .loop in
+    let tried = at-passage .relax-passage in (
+      omega arith,
+      tried .ensures .kept ∙ o .inv .1,
+      after-one (p .next .now) (p .policy) (p .side) (p .width) (p .weight) (o .after) (tried .last .0) (o .p) (omega (arith, at-start .pre .3)) (o .inv .2) (tried .ensures),
+    )
 
 same-length : tie.Need-same-length Inv-loop μ-loop
-same-length c = (c .before .loop) .inv .1 .0
+same-length c = c .before .loop .inv .1 ∙ c .before .before .before .before .fill-none .ensures .1
 
 returns : tie.Need-returns Inv-loop μ-loop
-returns c = let e : (c .before .loop) .i ≡ (c .before .before .before .before) .args .weight * 9 = omega (arith, (c .before .loop) .inv .0) in (subst (λ n. AfterFilled ((c .before .loop) .after) ((c .before .before .before .before) .args .next .now) ((c .before .before .before .before) .args .tried) (policyOf ((c .before .before .before .before) .args .policy)) ((c .before .before .before .before) .args .side) ((c .before .before .before .before) .args .width) n) e ((c .before .loop) .inv .1 .1), (c .before .loop) .inv .1 .0)
+returns c =
+    let at-fill = c .before .before .before .before in
+    let p = at-fill .before .before .before .before .args in
+    let o = c .before .loop in
+    let e : o .p ≡ p .tried = omega (arith, o .inv .0) in (
+      after-all (p .next .now) (p .policy) (p .side) (p .width) (p .weight) (o .after) (p .tried) (subst (λ n. AfterTried (o .after) (p .next .now) (policyOf (p .policy)) (p .side) (p .width) (p .weight) n) e (o .inv .2)),
+      o .inv .1 ∙ at-fill .fill-none .ensures .1,
+    )
 
 pub fill-after-spec : {M : Type 1} → statement M
 fill-after-spec =
@@ -56,13 +79,11 @@ fill-after-spec =
     (tie.spec
     Inv-loop
     μ-loop
+    mul-fill-none
+    fill-none-requires
     loop-holds
-    mul-loop
-    best-after-requires
-    cast-after
-    mul-after
-    slice-write-after
-    add-i
+    relax-passage-requires
+    add-p
     loop-less
     loop-again
     same-length
