@@ -9,12 +9,12 @@ use Rattle.rules.specs.declared.Policy.{Policy}
 use Rattle.rules.specs.declared.Policy.the-variants.{Exact, Return, Traversal, Midpoint, Composite}
 use Rattle.rules.specs.declared.Action.the-variants.{Bottom}
 use Rattle.rules.specs.declared.Passage.the-variants.{P02}
-use Rattle.rules.specs.Jobs.{Job}
+use Rattle.rules.specs.Jobs.{Job, listed, holdsListed}
 use Rattle.rules.specs.Plans.{Plan, WellFormed, Fits, actionAt, planPasses}
 use Rattle.rules.specs.Policies.{Allowed}
-use Rattle.rules.specs.Machine.{accepts}
+use Rattle.rules.specs.Machine.{actionPossible, actionStep, passageStep, accepts}
 use Rattle.rules.specs.Serving.{PlanServes}
-use Rattle.rules.specs.Examples.{_⨯_, alpha, bothBottom, ownCases}
+use Rattle.rules.specs.Examples.{stocked, _⨯_, alpha, bothBottom, ownCases}
 use Rattle.rules.proofs.Serving.{serves-test}
 use Rattle.rules.proofs.Cases.{own-cases-hold}
 use Rattle.tours.proofs.Machine.{accepts-allowed}
@@ -39,11 +39,11 @@ of-store policy = record { aisles = refl; passages = refl; fits = fits }
 -- it serves the list
 pub entering-serves : PlanServes (oneNine Exact) throughAisleOne
 unfolding PlanServes ownCases bothBottom
-entering-serves = serves-test (oneNine Exact) (planPasses throughAisleOne) .0 (own-cases-hold .1 .1 .1 .1 .1 .1 .0 .0)
+entering-serves = serves-test (oneNine Exact) (planPasses throughAisleOne) .0 (own-cases-hold .0 .0)
 
 pub entering-exact : Allowed (oneNine Exact) throughAisleOne
 unfolding ownCases bothBottom alpha
-entering-exact = accepts-allowed (oneNine Exact) throughAisleOne (omega arith) .0 (of-store Exact, own-cases-hold .1 .1 .1 .1 .1 .1 .0 .1)
+entering-exact = accepts-allowed (oneNine Exact) throughAisleOne (omega arith) .0 (of-store Exact, own-cases-hold .0 .1)
 
 -- no other policy allows it
 not-accepted : (policy : Policy) → accepts (oneNine policy) throughAisleOne ≡ false → Allowed (oneNine policy) throughAisleOne → ⊥
@@ -51,9 +51,9 @@ unfolding alpha
 not-accepted policy e a = true≢false (sym (accepts-allowed (oneNine policy) throughAisleOne (omega arith) .1 a .1) ∙ e)
 
 pub entering-others : (policy : Policy) → (policy ≡ Exact → ⊥) → Allowed (oneNine policy) throughAisleOne → ⊥
-unfolding ownCases bothBottom
+unfolding alpha _⨯_ stocked listed holdsListed accepts actionPossible actionStep passageStep
 entering-others Exact n = absurd (n refl)
-entering-others Return n = not-accepted Return (own-cases-hold .1 .1 .1 .1 .1 .1 .1 .0 .1)
-entering-others Traversal n = not-accepted Traversal (own-cases-hold .1 .1 .1 .1 .1 .1 .1 .1 .0 .1)
-entering-others Midpoint n = not-accepted Midpoint (own-cases-hold .1 .1 .1 .1 .1 .1 .1 .1 .1 .0 .1)
-entering-others Composite n = not-accepted Composite (own-cases-hold .1 .1 .1 .1 .1 .1 .1 .1 .1 .1 .0 .1)
+entering-others Return n = not-accepted Return refl
+entering-others Traversal n = not-accepted Traversal refl
+entering-others Midpoint n = not-accepted Midpoint refl
+entering-others Composite n = not-accepted Composite refl

@@ -7,12 +7,13 @@ use mathlib.Core.Option.{some}
 use lib.ListN.{length, take, drop, length-append, length-drop}
 use lib.Seq.{take-at, take-append-seam, drop-append-seam}
 use Rattle.rules.specs.declared.Refusal.{Refusal}
+use Rattle.rules.specs.declared.Refusal.the-variants.{WorkArea, NotAJobFile, LayoutBounds, StockBounds, CellTwice, ListBounds, ArticleTwice, TooHeavy, ShortOfStock, SheetSpace}
 use Rattle.rules.specs.declared.Reply.the-variants.{Served, Refused}
 use Rattle.rules.specs.Jobs.{Job}
 use Rattle.rules.specs.JobFile.{readJob}
 use Rattle.rules.specs.Plans.{planLength}
 use Rattle.rules.specs.BestPlan.{bestPlan}
-use Rattle.rules.specs.Refusals.{Admitted, cleared}
+use Rattle.rules.specs.Refusals.{Admitted, cleared, workAfter}
 use Rattle.rules.specs.Sheet.{sheetOf, sheetText}
 use Rattle.rules.specs.Answers.{answer}
 use Rattle.rules.proofs.Admission.{layout-within}
@@ -64,12 +65,25 @@ best-shortest job a =
       least-walk = best-walk job a;
     }
 
+-- every refusal but that of the sheet space leaves the work area as it was
+kept : (r : Refusal) (work : List ℕ) → (r ≡ SheetSpace → ⊥) → workAfter r work ≡ work
+kept WorkArea work n = refl
+kept NotAJobFile work n = refl
+kept LayoutBounds work n = refl
+kept StockBounds work n = refl
+kept CellTwice work n = refl
+kept ListBounds work n = refl
+kept ArticleTwice work n = refl
+kept TooHeavy work n = refl
+kept ShortOfStock work n = refl
+kept SheetSpace work n = absurd (n refl)
+
 module _ (bytes sheet work : List ℕ) where
   -- a refused call gives what the table says
   pub refused-call : (r : Refusal) → answer bytes sheet work .reply ≡ Refused r → RefusedCall r sheet work (answer bytes sheet work)
   refused-call r e =
       let t = refused-for bytes sheet work r (refused-by bytes sheet work r e) in
-      rw t (record { number = refl; count = refl; sheet-kept = refl; work-left = refl })
+      rw t (record { number = refl; count = refl; sheet-kept = refl; work-left = kept r work; work-cleared = λ e. ap (λ q. workAfter q work) e })
 
   -- a served call gives the sheet of its job
   pub served-call : (n : ℕ) → answer bytes sheet work .reply ≡ Served n → OfJob bytes (λ job. ServedCall job sheet work (answer bytes sheet work))

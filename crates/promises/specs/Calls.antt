@@ -22,19 +22,21 @@ use Rattle.rules.specs.Serving.{PlanServes, WalkServes}
 use Rattle.rules.specs.Walks.{Walk, ClosedWalk, NotAfter, walkTreads, walkLength}
 use Rattle.rules.specs.FirstWalk.{WalkOf}
 use Rattle.rules.specs.BestPlan.{PlanBefore}
-use Rattle.rules.specs.Refusals.{numberOf, workLimit, cleared, workAfter}
+use Rattle.rules.specs.Refusals.{numberOf, workLimit, cleared}
 use Rattle.rules.specs.Sheet.{sheetText}
 use Rattle.rules.specs.Answers.{Answer, answer, replyNumber, replyLength, hostAnswer, hostNumber, sheetLimit, letterR, output}
 use Rattle.rules.specs.Lists.{Sorted}
 use Rattle.promises.specs.Causes.{JobFileOf, OfJob, Cause, FirstCause}
 use Rattle.promises.specs.Contents.{Content, contentText, picked, TakenFrom, PickBefore, pickedFrom, pickedBefore}
 
--- a refused call: the table's number, length 0, the sheet as it was, the work area as the table says
+-- a refused call: the table's number, length 0, the sheet as it was; the work area as it was too,
+-- but all zero where the sheet is longer than its space
 pub record RefusedCall (r : Refusal) (sheet work : List ℕ) (a : Answer) : Type 0 where
   pub number : replyNumber (a .reply) ≡ numberOf r
   pub count : replyLength (a .reply) ≡ 0
   pub sheet-kept : a .sheet ≡ sheet
-  pub work-left : a .work ≡ workAfter r work
+  pub work-left : (r ≡ SheetSpace → ⊥) → a .work ≡ work
+  pub work-cleared : r ≡ SheetSpace → a .work ≡ cleared work
 
 -- a served call: number 0 and the byte count, the text of the job's sheet in front, every byte behind it as it was,
 -- the work area all zero

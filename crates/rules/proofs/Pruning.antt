@@ -1,11 +1,10 @@
 -- A faster way to the best plan of a job: the accepted rests of an aisle are listed once for each state, a dead state has none,
 -- and each length is computed once. It gives the same plan, so that the worked examples can be computed.
 use Prim.Native.Nat.{ℕ, zero, suc}
-use mathlib.Core.Path.{_≡_, refl, sym, _∙_, ap, subst}
+use mathlib.Core.Path.{_≡_, refl, sym, _∙_, ap}
 use mathlib.Core.List.{List, [], _∷_, _++_, map, tail}
 use mathlib.Core.Bool.{Bool, true, false, cond, _&&_}
 use mathlib.Core.Option.{Option, none, some, Option·getD}
-use lib.Dec.{leb}
 use Rattle.rules.specs.declared.Policy.{Policy}
 use Rattle.rules.specs.declared.Policy.the-variants.{Exact, Return, Traversal, Midpoint, Composite}
 use Rattle.rules.specs.declared.Layout.{Layout}
@@ -222,48 +221,41 @@ fast-serving job =
     ∙ ap (select (λ plan. serves job (planPasses plan))) (accepted-from job (job .layout .aisles) 1 nothing)
 
 module _ {A : Type 0} (len : A → ℕ) where
-  -- the first of two with their lengths, unless the second is shorter
-  abbrev shorterPair : ℕ × A → Option (ℕ × A) → ℕ × A
-  shorterPair x none = x
-  shorterPair x (some y) = cond (leb (x .0) (y .0)) x y
+  -- an element beside its length
+  abbrev pair : A → ℕ × A
+  pair x = (len x, x)
+
+  abbrev paired : Option A → Option (ℕ × A)
+  paired none = none
+  paired (some x) = some (pair x)
 
   -- the first of the shortest, each length computed once
   abbrev quickest : List A → Option (ℕ × A)
   quickest [] = none
-  quickest (x ∷ xs) = let n = len x in some (shorterPair (n, x) (quickest xs))
+  quickest (x ∷ xs) = let n = len x in some (shorterOf (λ (p : ℕ × A). p .0) (n, x) (quickest xs))
 
-  -- the length beside an element is its own
-  abbrev Own : Option (ℕ × A) → Option A → Type 0
-  Own none none = Unit {0}
-  Own none (some y) = ⊥
-  Own (some x) none = ⊥
-  Own (some x) (some y) = (x .0 ≡ len y) × (x .1 ≡ y)
+  pair-either : (b : Bool) (x y : A) → cond b (pair x) (pair y) ≡ pair (cond b x y)
+  pair-either true x y = refl
+  pair-either false x y = refl
 
-  quickest-own : (xs : List A) → Own (quickest xs) (firstShortest len xs)
+  shorter-pair : (x : A) (o : Option A) → shorterOf (λ (p : ℕ × A). p .0) (pair x) (paired o) ≡ pair (shorterOf len x o)
   unfolding shorterOf
-  quickest-own [] = tt
-  quickest-own (x ∷ xs) = go (quickest xs) (firstShortest len xs) (quickest-own xs)
-    where
-      go : (o : Option (ℕ × A)) (q : Option A) → Own o q → Own (some (shorterPair (len x, x) o)) (some (shorterOf len x q))
-      go none none h = (refl, refl)
-      go none (some y) h = absurd h
-      go (some o) none h = absurd h
-      go (some o) (some y) h =
-          subst (λ k. Own (some (cond (leb (len x) k) (len x, x) o)) (some (shorterOf len x (some y)))) (sym (h .0)) (pick (leb (len x) (len y)))
-        where
-          pick : (b : Bool) → Own (some (cond b (len x, x) o)) (some (cond b x y))
-          pick true = (refl, refl)
-          pick false = h
+  shorter-pair x none = refl
+  shorter-pair x (some y) = pair-either _ _ _
+
+  quickest-first : (xs : List A) → quickest xs ≡ paired (firstShortest len xs)
+  quickest-first [] = refl
+  quickest-first (x ∷ xs) =
+      ap (λ o. some (shorterOf (λ (p : ℕ × A). p .0) (pair x) o)) (quickest-first xs)
+      ∙ ap some (shorter-pair x (firstShortest len xs))
 
   abbrev second : Option (ℕ × A) → Option A
   second none = none
   second (some x) = some (x .1)
 
-  second-own : (o : Option (ℕ × A)) (q : Option A) → Own o q → q ≡ second o
-  second-own none none h = refl
-  second-own none (some y) h = absurd h
-  second-own (some x) none h = absurd h
-  second-own (some x) (some y) h = ap some (sym (h .1))
+  second-paired : (o : Option A) → o ≡ second (paired o)
+  second-paired none = refl
+  second-paired (some x) = refl
 
 -- the best plan of a job, found the faster way
 unfoldable pub fastBest : Job → Plan
@@ -273,5 +265,7 @@ pub fast-best : (job : Job) → bestPlan job ≡ fastBest job
 unfolding bestPlan fastBest
 fast-best job =
     let len = planLength (job .layout) in
-    ap (λ plans. Option·getD (firstShortest len plans) (emptyPlan (job .layout))) (fast-serving job)
-    ∙ ap (λ (o : Option Plan). Option·getD o (emptyPlan (job .layout))) (second-own len (quickest len (fastServing job)) (firstShortest len (fastServing job)) (quickest-own len (fastServing job)))
+    let chosen : Option Plan → Plan = λ o. Option·getD o (emptyPlan (job .layout)) in
+    ap (λ plans. chosen (firstShortest len plans)) (fast-serving job)
+    ∙ ap chosen (second-paired len (firstShortest len (fastServing job)))
+    ∙ ap (λ o. chosen (second len o)) (sym (quickest-first len (fastServing job)))

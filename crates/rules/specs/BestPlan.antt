@@ -109,7 +109,8 @@ bestPlan job = Option·getD (firstShortest (planLength (job .layout)) (servingPl
 
 -- its declarative twin: the policy allows the plan and it serves the list; no other such plan is shorter;
 -- and of those that are no longer it is the first in the order of plans.
--- That this is `bestPlan`, and no other plan, for every job that is not refused is proved (optimum/proofs/Best, `best-plan`)
+-- That this is `bestPlan`, and no other plan, for every job that is not refused is proved (optimum/proofs/Best, `best-plan`,
+-- `best-plan-only`)
 pub record IsBest (job : Job) (plan : Plan) : Type 0 where
   pub allowed : Allowed job plan
   pub serving : PlanServes job plan

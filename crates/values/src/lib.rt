@@ -24,7 +24,7 @@ pub struct Stage {
     pub passage: Passage,
 }
 
-// A plan: the first `aisles` stages count; the passage behind the last aisle is 00.
+// A plan: the first `aisles` stages count; the passage of the last of them does not.
 pub struct PlanValue {
     pub aisles: usize,
     pub stages: [Stage; 16],
