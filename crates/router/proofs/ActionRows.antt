@@ -1,4 +1,4 @@
--- One more action of a row is looked at. Assumes nothing.
+-- One more action of a row is looked at.
 use Prim.Native.Nat.{ℕ, zero, suc, _+_, _*_, _≤_, _<_, min}
 use native.Mathlib.Omega.{arith}
 use mathlib.Core.Path.{_≡_, refl, sym, _∙_, ap, ap₂}

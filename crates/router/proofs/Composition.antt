@@ -1,4 +1,4 @@
--- What an action supplies is what its front part and its back part supply, so the demand behind it is found in two steps. Assumes nothing.
+-- What an action supplies is what its front part and its back part supply, so the demand behind it is found in two steps.
 use Prim.Native.Nat.{ℕ, suc, _+_, _≤_, _<_}
 use native.Mathlib.Omega.{arith}
 use native.Mathlib.Nat.{mul-suc, zero-mod, zero-div}

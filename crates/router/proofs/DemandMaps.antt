@@ -1,4 +1,4 @@
--- The maps of an aisle: one more number of a row, and one more cell. Assumes nothing.
+-- The maps of an aisle: one more number of a row, and one more cell.
 use Prim.Native.Nat.{ℕ, suc, _+_, _*_, _-_, _≤_, _<_}
 use native.Mathlib.Omega.{arith}
 use native.Mathlib.Numerals.{add-one}

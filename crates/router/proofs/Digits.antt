@@ -1,4 +1,4 @@
--- The digits of a job by its lines, and the demand number less one digit. Assumes nothing.
+-- The digits of a job by its lines, and the demand number less one digit.
 use Prim.Native.Nat.{ℕ, zero, suc, _+_, _*_, _-_, _/_, _%_, _≤_, _<_, min}
 use native.Mathlib.Omega.{arith}
 use native.Mathlib.Nat.{mul-comm, mul-assoc, mul-left-comm, mul-le-mul, mul-le-mul-left, mul-le-mul-right, mul-sub, mod-le, mod-add-div, div-one, div-mul-le-self, div-div-eq-div-mul, div-lt-iff-lt-mul}

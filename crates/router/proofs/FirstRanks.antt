@@ -1,4 +1,4 @@
--- The first rank that attains a value, and the way over an action as the code adds it up. Assumes nothing.
+-- The first rank that attains a value, and the way over an action as the code adds it up.
 use Prim.Native.Nat.{ℕ, zero, suc, _+_, _*_, _≤_, _<_, min}
 use native.Mathlib.Omega.{arith}
 use native.Mathlib.Nat.{eq-or-lt-of-le}

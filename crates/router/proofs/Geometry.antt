@@ -1,4 +1,4 @@
--- Distances of a layout within the bounds, and what a candidate's numbers stand for. Assumes nothing.
+-- Distances of a layout within the bounds, and what a candidate's numbers stand for.
 use Prim.Native.Nat.{ℕ, zero, suc, _+_, _*_, _-_, _≤_, _<_}
 use native.Mathlib.Omega.{arith}
 use native.Mathlib.Nat.{mul-le-mul-left}

@@ -1,4 +1,4 @@
--- The last cases of the numbers of actions and passages, and lists that are filled with zeros. Assumes nothing.
+-- The last cases of the numbers of actions and passages, and lists that are filled with zeros.
 use Prim.Native.Nat.{ℕ, zero, suc, _+_, _≤_, _<_}
 use native.Mathlib.Omega.{arith}
 use mathlib.Core.Path.{_≡_, refl, sym, _∙_}

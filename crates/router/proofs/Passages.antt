@@ -1,4 +1,4 @@
--- The ways on over the passages, one after the other. Assumes nothing.
+-- The ways on over the passages, one after the other.
 use Prim.Native.Nat.{ℕ, zero, suc, _+_, _*_, _/_, _%_, _≤_, _<_, min}
 use native.Mathlib.Omega.{arith}
 use mathlib.Core.Path.{_≡_, refl, sym, _∙_, ap, ap₂}

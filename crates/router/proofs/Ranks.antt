@@ -1,4 +1,4 @@
--- The action of a rank. Assumes nothing.
+-- The action of a rank.
 use Prim.Native.Nat.{ℕ, zero, suc, _+_, _*_, _-_, _≤_, _<_}
 use native.Mathlib.Omega.{arith}
 use native.Mathlib.Numerals.{add-one}

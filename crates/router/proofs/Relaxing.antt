@@ -1,4 +1,4 @@
--- One more state, one more demand of a row is relaxed. Assumes nothing.
+-- One more state, one more demand of a row is relaxed.
 use Prim.Native.Nat.{ℕ, zero, suc, _+_, _*_, _≤_, _<_, min}
 use native.Mathlib.Omega.{arith}
 use native.Mathlib.Nat.{eq-or-lt-of-le}

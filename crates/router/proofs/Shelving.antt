@@ -1,4 +1,4 @@
--- What the cells hold for the lines: the line of an article, and one more record on the shelf. Assumes nothing.
+-- What the cells hold for the lines: the line of an article, and one more record on the shelf.
 use Prim.Native.Nat.{ℕ, zero, suc, _+_, _/_, _≤_, _<_}
 use native.Mathlib.Omega.{arith}
 use native.Mathlib.Numerals.{add-one}

@@ -1,4 +1,4 @@
--- The steps that the tables hold are the machine's. Assumes nothing.
+-- The steps that the tables hold are the machine's.
 use Prim.Native.Nat.{ℕ, _≤_, _<_}
 use native.Mathlib.Omega.{arith}
 use mathlib.Core.Path.{_≡_, refl, sym, ap}

@@ -1,4 +1,4 @@
--- The rows of the table, from the one behind the last aisle to the first. Assumes nothing.
+-- The rows of the table, from the one behind the last aisle to the first.
 use Prim.Native.Nat.{ℕ, zero, suc, _+_, _*_, _-_, _≤_, _<_}
 use native.Mathlib.Omega.{arith}
 use native.Mathlib.Nat.{eq-or-lt-of-le}

@@ -1,4 +1,4 @@
--- The rows that the code fills hold the table's values. Assumes nothing.
+-- The rows that the code fills hold the table's values.
 use Prim.Native.Nat.{ℕ, zero, suc, _+_, _*_, _≤_, _<_, min}
 use native.Mathlib.Omega.{arith}
 use mathlib.Core.Path.{_≡_, refl, sym, _∙_, ap, ap₂}

@@ -1,4 +1,4 @@
--- Where the trace starts, and what it comes to. Assumes nothing.
+-- Where the trace starts, and what it comes to.
 use Prim.Native.Nat.{ℕ, zero, suc, _+_, _-_, _≤_, _<_}
 use native.Mathlib.Omega.{arith}
 use mathlib.Core.Path.{_≡_, refl, sym, _∙_, ap, ap₂, subst}

@@ -1,4 +1,4 @@
--- One more aisle of the best plan is read out of the table. Assumes nothing.
+-- One more aisle of the best plan is read out of the table.
 use Prim.Native.Nat.{ℕ, zero, suc, _+_, _*_, _-_, _≤_, _<_, min}
 use native.Mathlib.Omega.{arith}
 use mathlib.Core.Path.{_≡_, refl, sym, _∙_, ap, ap₂, subst, subst₂}

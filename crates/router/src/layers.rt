@@ -41,7 +41,7 @@ pub fn steps_of(x: Aisle, c: Candidate) -> [usize; 8]
     out
 }
 
-// The first n numbers of a row are 'none'.
+// The first n numbers of a row are 'none': 65,535, no tour.
 pub fn fill_none(row: &mut [u16], n: usize)
     requires { ⌜ n ≤ length (now row) ⌝ }
     ensures { λ r. ⌜ ((k : ℕ) → k < n → getD (now (row .exit)) k 0 ≡ 65535) × (length (now (row .exit)) ≡ length (now (row .entry))) ⌝ }

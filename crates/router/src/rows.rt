@@ -1,4 +1,5 @@
-// One aisle of the table: the row behind the actions, and the row of the aisle itself.
+// One aisle of the table: the row behind the actions, with a number at demand * 9 + state, and the row of the aisle itself, at
+// demand * 8 + state. 65,535 stands for no tour, and no sum that is kept goes beyond it.
 use machine::passage_step;
 ghost use mathlib.Core.Path.{_≡_};
 ghost use Prim.Native.Nat.{ℕ, _+_, _*_, _≤_, _<_, min};
@@ -83,7 +84,7 @@ pub fn passage_length(passage: usize, width: usize) -> usize
     2 * width
 }
 
-// The way on over one passage, from a state behind the actions.
+// The way on over one passage, from a state behind the actions; none where it leads to 8, the dead state.
 pub fn through(
     next: &[u16],
     policy: usize,

@@ -1,4 +1,4 @@
--- `router::candidates::aisle_length` meets its contract. Assumes nothing.
+-- `router::candidates::aisle_length` meets its contract.
 use native.Mathlib.Omega.{arith}
 use Rattle.router.proofs.Geometry.{within, pitch-bound, aisle-bound}
 use Rattle.rules.specs.Store.{aisleLength}

@@ -1,4 +1,4 @@
--- `router::candidates::front_half` meets its contract. Assumes nothing.
+-- `router::candidates::front_half` meets its contract.
 use borrow.Author.Needs.{needs}
 use Prim.Native.Nat.{_+_, _*_, _≤_, _<_}
 use mathlib.Core.Path.{_≡_, _∙_}

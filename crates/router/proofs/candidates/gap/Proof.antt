@@ -1,4 +1,4 @@
--- `router::candidates::gap` meets its contract. Assumes nothing.
+-- `router::candidates::gap` meets its contract.
 use native.Mathlib.Omega.{arith}
 use native.Mathlib.Numerals.{add-one}
 use Prim.Native.Nat.{suc, _+_, _*_, _-_, _≤_, _<_}

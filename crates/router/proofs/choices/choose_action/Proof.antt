@@ -1,4 +1,4 @@
--- `router::choices::choose_action` meets its contract. Assumes nothing.
+-- `router::choices::choose_action` meets its contract.
 use native.Mathlib.Omega.{arith}
 use Prim.Native.Nat.{_+_, _*_, _-_, _≤_, _<_}
 use mathlib.Core.Path.{_≡_, sym, _∙_}

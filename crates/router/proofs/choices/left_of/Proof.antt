@@ -1,4 +1,4 @@
--- `router::choices::left_of` meets its contract. Assumes nothing.
+-- `router::choices::left_of` meets its contract.
 use borrow.Author.Needs.{needs}
 use Prim.Native.Nat.{_+_, _*_, _≤_, _<_}
 use mathlib.Core.Path.{_≡_, _∙_, ap}

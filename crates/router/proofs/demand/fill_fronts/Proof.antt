@@ -1,4 +1,4 @@
--- `router::demand::fill_fronts` meets its contract. Assumes nothing.
+-- `router::demand::fill_fronts` meets its contract.
 use native.Mathlib.Omega.{arith}
 use Prim.Native.Nat.{_+_, _*_, _-_, _≤_}
 use mathlib.Core.Path.{_≡_, refl, _∙_, subst}

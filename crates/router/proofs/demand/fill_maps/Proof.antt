@@ -1,4 +1,4 @@
--- `router::demand::fill_maps` meets its contract. Assumes nothing.
+-- `router::demand::fill_maps` meets its contract.
 use borrow.Author.Needs.{needs}
 use Rattle.values.specs.Values.{jobOf}
 use Rattle.router.proofs.DemandMaps.{maps-ready}

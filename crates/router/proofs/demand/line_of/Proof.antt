@@ -1,4 +1,4 @@
--- `router::demand::line_of` meets its contract. Assumes nothing.
+-- `router::demand::line_of` meets its contract.
 use native.Mathlib.Omega.{arith}
 use Prim.Native.Nat.{_-_, _≤_}
 use mathlib.Core.Path.{_≡_, refl, sym, _∙_, ap}

@@ -1,4 +1,4 @@
--- `router::demand::map_row` meets its contract. Assumes nothing.
+-- `router::demand::map_row` meets its contract.
 use native.Mathlib.Omega.{arith}
 use Prim.Native.Nat.{_+_, _*_, _-_, _≤_}
 use mathlib.Core.Path.{_≡_, _∙_, ap, subst}

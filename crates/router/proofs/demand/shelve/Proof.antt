@@ -1,4 +1,4 @@
--- `router::demand::shelve` meets its contract. Assumes nothing.
+-- `router::demand::shelve` meets its contract.
 use native.Mathlib.Omega.{arith}
 use Prim.Native.Nat.{_-_, _≤_}
 use lib.ListN.{length-map}

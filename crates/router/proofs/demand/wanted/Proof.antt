@@ -1,4 +1,4 @@
--- `router::demand::wanted` meets its contract. Assumes nothing.
+-- `router::demand::wanted` meets its contract.
 use mathlib.Core.Path.{refl}
 use lib.ListN.{take}
 use borrow.Author.Tests.{ne-eqb}

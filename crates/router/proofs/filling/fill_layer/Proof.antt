@@ -1,4 +1,4 @@
--- `router::filling::fill_layer` meets its contract. Assumes nothing.
+-- `router::filling::fill_layer` meets its contract.
 use borrow.Author.Needs.{needs}
 use native.Mathlib.Omega.{arith}
 use Prim.Native.Nat.{_+_, _*_, _-_, _≤_, _<_}

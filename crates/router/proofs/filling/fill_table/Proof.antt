@@ -1,4 +1,4 @@
--- `router::filling::fill_table` meets its contract. Assumes nothing.
+-- `router::filling::fill_table` meets its contract.
 use native.Mathlib.Omega.{arith}
 use Prim.Native.Nat.{suc, _+_, _*_, _≤_, _<_}
 use mathlib.Core.Path.{_≡_, _∙_}

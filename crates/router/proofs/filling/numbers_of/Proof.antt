@@ -1,4 +1,4 @@
--- `router::filling::numbers_of` meets its contract. Assumes nothing.
+-- `router::filling::numbers_of` meets its contract.
 use borrow.Author.Needs.{needs}
 use Prim.Native.Nat.{ℕ, _+_, _*_, _≤_, _<_}
 use mathlib.Core.Path.{_≡_, _∙_, ap}

@@ -1,4 +1,4 @@
--- `router::layers::fill_row` meets its contract. Assumes nothing.
+-- `router::layers::fill_row` meets its contract.
 use native.Mathlib.Omega.{arith}
 use Prim.Native.Nat.{_+_, _*_, _-_, _≤_, _<_}
 use mathlib.Core.Path.{_≡_, refl, sym, _∙_, ap}

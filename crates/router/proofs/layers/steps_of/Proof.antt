@@ -1,4 +1,4 @@
--- `router::layers::steps_of` meets its contract. Assumes nothing.
+-- `router::layers::steps_of` meets its contract.
 use native.Mathlib.Omega.{arith}
 use Prim.Native.Nat.{ℕ, _+_, _*_, _-_, _≤_, _<_}
 use mathlib.Core.Path.{_≡_, refl, _∙_, ap}

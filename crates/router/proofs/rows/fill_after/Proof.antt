@@ -1,4 +1,4 @@
--- `router::rows::fill_after` meets its contract. Assumes nothing.
+-- `router::rows::fill_after` meets its contract.
 use native.Mathlib.Omega.{arith}
 use Prim.Native.Nat.{_+_, _*_, _-_, _%_, _≤_, _<_}
 use mathlib.Core.Path.{_≡_, refl, _∙_}

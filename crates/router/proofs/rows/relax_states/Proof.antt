@@ -1,4 +1,4 @@
--- `router::rows::relax_states` meets its contract. Assumes nothing.
+-- `router::rows::relax_states` meets its contract.
 use native.Mathlib.Omega.{arith}
 use Prim.Native.Nat.{_+_, _*_, _-_, _≤_, _<_}
 use mathlib.Core.Path.{_≡_, _∙_}

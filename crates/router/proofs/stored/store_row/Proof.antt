@@ -1,4 +1,4 @@
--- `router::stored::store_row` meets its contract. Assumes nothing.
+-- `router::stored::store_row` meets its contract.
 use native.Mathlib.Omega.{arith}
 use Prim.Native.Nat.{_+_, _*_, _-_, _≤_, _<_}
 use mathlib.Core.Path.{_≡_, _∙_}

@@ -1,4 +1,4 @@
--- `router::table::action_of` meets its contract. Assumes nothing.
+-- `router::table::action_of` meets its contract.
 use native.Mathlib.Omega.{arith}
 use Prim.Native.Nat.{_+_, _*_, _≤_, _<_}
 use mathlib.Core.Path.{_≡_, sym, _∙_, ap}

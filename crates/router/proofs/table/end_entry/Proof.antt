@@ -1,4 +1,4 @@
--- `router::table::end_entry` meets its contract. Assumes nothing.
+-- `router::table::end_entry` meets its contract.
 use Prim.Native.Nat.{_+_, _*_, _≤_, _<_}
 use mathlib.Core.Path.{_≡_, refl, _∙_}
 use borrow.Author.Tests.{eq-eqb, ne-eqb}

@@ -1,4 +1,4 @@
--- `router::table::side_of` meets its contract. Assumes nothing.
+-- `router::table::side_of` meets its contract.
 use Prim.Native.Nat.{_+_, _*_, _≤_, _<_}
 use mathlib.Core.Path.{_≡_, refl, _∙_}
 use borrow.Author.Tests.{lt-ltb, le-ltb, eq-eqb, ne-eqb}

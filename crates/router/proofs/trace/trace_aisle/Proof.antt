@@ -1,4 +1,4 @@
--- `router::trace::trace_aisle` meets its contract. Assumes nothing.
+-- `router::trace::trace_aisle` meets its contract.
 use borrow.Author.Needs.{needs}
 use native.Mathlib.Omega.{arith}
 use Prim.Native.Nat.{suc, _+_, _*_, _-_, _≤_, _<_}
