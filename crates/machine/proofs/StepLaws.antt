@@ -1,4 +1,4 @@
--- The numbers of states and policies, and the steps by kind, are the machine's. Assumes nothing.
+-- The numbers of states and policies, and the steps by kind, are the machine's.
 use Prim.Native.Nat.{ℕ, _<_}
 use native.Mathlib.Omega.{arith}
 use mathlib.Core.Path.{_≡_, refl}

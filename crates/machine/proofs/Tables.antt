@@ -1,4 +1,4 @@
--- The tables, made by their rules: each is compared with its constant as a whole, and read at one entry. Assumes nothing.
+-- The tables, made by their rules: each is compared with its constant as a whole, and read at one entry.
 use Prim.Native.Nat.{ℕ, zero, suc, _+_, _*_, _/_, _%_, _<_}
 use native.Mathlib.Omega.{arith}
 use mathlib.Core.Path.{_≡_, refl, sym, _∙_, ap}

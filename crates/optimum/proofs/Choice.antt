@@ -1,6 +1,6 @@
 -- One step of a choice: the least over options and what follows each is the least over the options of the least that follows,
 -- and the first that attains it is the first option that does, with the first that attains it there. Over any costs and any
--- number `noWay` for 'none'. Assumes nothing.
+-- number `noWay` for 'none'.
 use Prim.Native.Nat.{ℕ, _+_, min, _≤_, _<_}
 use native.Mathlib.Omega.{arith}
 use mathlib.Core.Path.{_≡_, refl, sym, _∙_, ap, ap₂}

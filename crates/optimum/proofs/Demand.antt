@@ -1,4 +1,4 @@
--- The update of the open demand composes over aisles and counts a cell once; serving a list is reaching zero. Assumes nothing.
+-- The update of the open demand composes over aisles and counts a cell once; serving a list is reaching zero.
 use Prim.Native.Nat.{ℕ, zero, suc, _+_, _-_, _<_}
 use native.Mathlib.Omega.{arith}
 use mathlib.Core.Path.{_≡_, refl, sym, _∙_, ap, ap₂}

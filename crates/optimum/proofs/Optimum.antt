@@ -1,5 +1,5 @@
 -- The plan that the table leads to is the best plan of the rules, and the table's value at the start is its length: the table
--- weighed by length, where 'none' is 65,535 and no tour is longer than 49,920. Assumes nothing.
+-- weighed by length, where 'none' is 65,535 and no tour is longer than 49,920.
 use Prim.Native.Nat.{ℕ, suc, _+_, _≤_}
 use native.Mathlib.Omega.{arith}
 use mathlib.Core.Path.{_≡_}

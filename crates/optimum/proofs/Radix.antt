@@ -1,4 +1,4 @@
--- The number of a demand below the weight and the demand of a number are inverse to each other. Assumes nothing.
+-- The number of a demand below the weight and the demand of a number are inverse to each other.
 use Prim.Native.Nat.{ℕ, suc, _+_, _*_, _-_, _/_, _%_, _<_}
 use native.Mathlib.Omega.{arith}
 use native.Mathlib.Nat.{mod-lt, mod-eq-of-lt, mod-add-div, div-eq-of-lt, add-mul-div-left, add-mul-mod-self-left, div-lt-iff-lt-mul, mul-comm, mul-le-mul-left, mul-suc}

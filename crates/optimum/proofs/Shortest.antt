@@ -1,5 +1,5 @@
 -- The first of the shortest among selected elements is the first that attains the least value, where an element that is
--- not selected counts as 'none'. Over any length and any 'none' above it. Assumes nothing.
+-- not selected counts as 'none'. Over any length and any 'none' above it.
 use Prim.Native.Nat.{ℕ, min, _<_}
 use native.Mathlib.Omega.{arith}
 use mathlib.Core.Path.{_≡_, refl, _∙_, ap}

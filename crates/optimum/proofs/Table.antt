@@ -1,5 +1,5 @@
 -- The table's value is the least cost over the enumeration of rests, and the rest that it leads to is the first of that cost.
--- Over any problem: any states, demands, actions and cost. Assumes nothing.
+-- Over any problem: any states, demands, actions and cost.
 use Prim.Native.Nat.{ℕ, zero, suc, min, _≤_, _<_}
 use native.Mathlib.Omega.{arith}
 use mathlib.Core.Path.{_≡_, refl, sym, _∙_, ap}

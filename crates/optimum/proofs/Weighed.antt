@@ -1,5 +1,5 @@
 -- The plan that the table of a job leads to is the first of the cheapest that are allowed and serve the list, and the table's value
--- at the start is its cost: over any cost that adds up over the actions and passages of a plan. Assumes nothing.
+-- at the start is its cost: over any cost that adds up over the actions and passages of a plan.
 use Prim.Native.Nat.{ℕ, zero, suc, _+_, min, _≤_, _<_}
 use native.Mathlib.Omega.{arith}
 use mathlib.Core.Path.{_≡_, refl, sym, _∙_, ap, ap₂}

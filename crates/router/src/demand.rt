@@ -1,4 +1,5 @@
-// Open demand as a number: the order lines as its digits, the cells that supply them, and the maps of an aisle.
+// Open demand as a number: the order lines as its digits, the cells that supply them, and the maps of an aisle. A map has, at
+// cell * 256 + demand, the demand behind the part of an action that reaches that cell.
 use crate::rows::wide;
 use rules::OrderLine;
 use rules::StockRecord;
@@ -16,7 +17,8 @@ ghost use Rattle.machine.specs.Steps.{bit};
 ghost use Rattle.router.specs.Maps.{MapsReady};
 ghost use Rattle.router.specs.Shelves.{Usable, DigitsOf, lessLine, LineOf, ShelfOf, RowSet, MapsAsked, FrontsTo, BacksFrom};
 
-// The order lines as digits: the radix of each, the product of the radices before it, and the weight of the list.
+// The order lines as digits, the first line the lowest: the radix of each, its quantity + 1, the product of the radices before
+// it, and the weight of the list.
 pub struct Digits {
     pub radix: [usize; 8],
     pub stride: [usize; 8],

@@ -1,4 +1,4 @@
-// Rows of the work area: 2,048 numbers for each aisle.
+// Rows of the work area: 2,048 numbers for each aisle, that of aisle j from (j - 1) * 2048 on.
 ghost use mathlib.Core.Path.{_≡_};
 ghost use Prim.Native.Nat.{ℕ, _+_, _*_, _-_, _≤_, _<_};
 ghost use lib.ListN.{length, getD};

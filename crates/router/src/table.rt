@@ -1,4 +1,4 @@
-// The table: a row of 2,048 numbers for each aisle, filled from the last aisle to the first.
+// The table: a row of 2,048 numbers for each aisle, filled from the last aisle to the first; what stands where is said in lib.rt.
 use crate::candidates::Candidate;
 use rules::Action;
 use rules::Passage;
@@ -91,7 +91,7 @@ pub fn end_row(next: &mut [u16])
     }
 }
 
-// A number of that row.
+// A number of that row: place 1 is demand 0 in state 1, closed.
 fn end_entry(i: usize) -> u16
     ensures { λ r. ⌜ r ≡ endEntry i ⌝ }
 {

@@ -35,7 +35,8 @@ ghost use Rattle.router.specs.TableHolds.{RowHolds, TableFrom};
 ghost use Rattle.router.specs.Shelves.{DigitsOf, MapsAsked, ShelfOf};
 ghost use Rattle.router.specs.Tracing.{Traced};
 
-// Where the trace stands: the stages found, and the number of the state and of the demand behind them.
+// Where the trace stands: the stages found, and the number of the state and of the demand behind them. At the start that is 0,
+// nothing trodden, and weight - 1, the whole list.
 pub struct Trace {
     pub stages: [Stage; 16],
     pub state: usize,

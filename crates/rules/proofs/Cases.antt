@@ -1,5 +1,5 @@
 -- Document 01's cases 1 to 14 hold of the definitions, and the worked example is printed byte for byte.
--- The plans are computed the faster way, which gives the same (Pruning). Assumes nothing.
+-- The plans are computed the faster way, which gives the same (Pruning).
 use Prim.Native.Nat.{ℕ}
 use mathlib.Core.Path.{_≡_, refl, _∙_, ap}
 use mathlib.Core.List.{List, [], _∷_}

@@ -1,4 +1,4 @@
--- `machine::action_digit` meets its contract: ACTIONS is the table of the automata. Assumes nothing.
+-- `machine::action_digit` meets its contract: ACTIONS is the table of the automata.
 use borrow.Author.Needs.{needs}
 use Rattle.machine.specs.Tables.{actionMark}
 use Rattle.machine.proofs.Tables.{actionTable, action-entry}

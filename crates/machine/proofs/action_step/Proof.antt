@@ -1,4 +1,4 @@
--- `machine::action_step` meets its contract: a step that is not possible leads to dead, any other is the automaton's. Assumes nothing.
+-- `machine::action_step` meets its contract: a step that is not possible leads to dead, any other is the automaton's.
 use borrow.Author.Needs.{needs}
 use native.Mathlib.Omega.{arith}
 use mathlib.Core.Path.{_≡_, refl, sym, _∙_, ap}

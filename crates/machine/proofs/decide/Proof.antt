@@ -1,4 +1,4 @@
--- `machine::decide` meets its contract, branch by branch. Assumes nothing.
+-- `machine::decide` meets its contract, branch by branch.
 use native.Mathlib.Omega.{arith}
 use mathlib.Core.Path.{_≡_, refl}
 use borrow.Author.Tests.{lt-ltb, le-ltb}

@@ -1,4 +1,4 @@
--- `machine::next_state` meets its contract: the mark of the table, decided. Assumes nothing.
+-- `machine::next_state` meets its contract: the mark of the table, decided.
 use borrow.Author.Needs.{needs}
 use native.Mathlib.Omega.{arith}
 use mathlib.Core.Path.{_≡_, _∙_, ap}

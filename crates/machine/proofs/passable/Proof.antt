@@ -1,4 +1,4 @@
--- `machine::passable` meets its contract: by the mark of the policy's row. Assumes nothing.
+-- `machine::passable` meets its contract: by the mark of the policy's row.
 use borrow.Author.Needs.{needs}
 use Rattle.machine.proofs.Tables.{passage-by-mark}
 use Rattle.machine.proofs.passable.Statement.{statement}

@@ -1,4 +1,4 @@
--- `machine::passage_digit` meets its contract: PASSAGES is the table of the crossings. Assumes nothing.
+-- `machine::passage_digit` meets its contract: PASSAGES is the table of the crossings.
 use borrow.Author.Needs.{needs}
 use Rattle.machine.specs.Tables.{passageMark}
 use Rattle.machine.proofs.Tables.{passageTable, passage-entry}

@@ -1,4 +1,4 @@
--- `machine::passage_step` meets its contract: a passage that the policy lacks leads to dead, any other is the table's. Assumes nothing.
+-- `machine::passage_step` meets its contract: a passage that the policy lacks leads to dead, any other is the table's.
 use borrow.Author.Needs.{needs}
 use native.Mathlib.Omega.{arith}
 use mathlib.Core.Path.{_≡_, refl, sym, _∙_}

@@ -1,4 +1,4 @@
--- `machine::policy_mark` meets its contract: POLICIES is the table of the policies' rows. Assumes nothing.
+-- `machine::policy_mark` meets its contract: POLICIES is the table of the policies' rows.
 use borrow.Author.Needs.{needs}
 use Rattle.machine.specs.Tables.{policyMark}
 use Rattle.machine.proofs.Tables.{policyEntry, policyTable, policy-entry}

@@ -1,4 +1,4 @@
--- `machine::possible` meets its contract: by the marks of the policy's row. Assumes nothing.
+-- `machine::possible` meets its contract: by the marks of the policy's row.
 use borrow.Author.Needs.{needs}
 use Rattle.machine.proofs.Tables.{possible-by-marks}
 use Rattle.machine.proofs.possible.Statement.{statement}
