@@ -49,6 +49,10 @@ set-one map map′ to q v f room r e =
     here : (k : ℕ) → k ≡ q → getD (set map′ (to * 256 + q) v) (to * 256 + k) 0 ≡ f k
     here k p = rw p (getD-set-same map′ (to * 256 + q) v 0 (omega (arith, r .kept)) ∙ e)
 
+-- the same numbers by another function
+pub row-of : (map map′ : List ℕ) (to n : ℕ) (f g : ℕ → ℕ) → ((q : ℕ) → q < n → f q ≡ g q) → RowSet map map′ to n f → RowSet map map′ to n g
+row-of map map′ to n f g same r = record { kept = r .kept; done = λ q h. r .done q h ∙ same q h; rest = r .rest }
+
 -- another row is not touched
 pub other-row : (map map′ : List ℕ) (to n from q : ℕ) (f : ℕ → ℕ) → n ≤ 256 → q < 256 → (from ≡ to → ⊥) → RowSet map map′ to n f → getD map′ (from * 256 + q) 0 ≡ getD map (from * 256 + q) 0
 other-row map map′ to n from q f small low ne r = r .rest (from * 256 + q) (go (less-or-more from to ne))
@@ -140,6 +144,16 @@ module _ (v : JobValue) (shelf : Shelf) (d : Digits) (j : ℕ) (asked : MapsAske
       ∙ ap (λ hs. lessCode rs hs x) (asked .shelf-of .supplies j c (z .2) (z .3) low (omega arith))
       ∙ ap (lessCode rs (cellGains (jobOf v) j c)) p
       ∙ sym (less-code-plus gs (cellGains (jobOf v) j c) positive e q)
+
+  -- their demands are below the weight
+  pub front-below : (map : List ℕ) (h : ℕ) → FrontsTo (jobOf v) j (h + 1) map → (q : ℕ) → q < d .weight → getD map (h * 256 + q) 0 < d .weight
+  front-below map h t q l =
+      omega (arith, t h q (omega arith) (omega (arith, counted)), counted, count-weight (jobOf v), less-code-below (gains (jobOf v) j (Bottom h)) (radices-positive (jobOf v)) (gains-length (jobOf v) j (Bottom h)) q)
+
+  pub back-below : (map : List ℕ) (n i : ℕ) → n < i → i ≤ suc (v .layout .cells) → BacksFrom (jobOf v) j n map → (q : ℕ) → q < d .weight → getD map (i * 256 + q) 0 < d .weight
+  unfolding jobOf
+  back-below map n i low high t q l =
+      omega (arith, t i q low high (omega (arith, counted)), counted, count-weight (jobOf v), less-code-below (gains (jobOf v) j (Top i)) (radices-positive (jobOf v)) (gains-length (jobOf v) j (Top i)) q)
 
   -- the rows of BOTTOM: the first one, and one more
   pub front-first : (map map′ : List ℕ) → RowSet map map′ 0 (d .weight) (λ q. q) → FrontsTo (jobOf v) j 1 map′

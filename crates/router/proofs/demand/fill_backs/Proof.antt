@@ -5,7 +5,7 @@ use mathlib.Core.Path.{_≡_, refl, _∙_, subst}
 use lib.ListN.{length}
 use Rattle.values.specs.Values.{jobOf}
 use Rattle.router.specs.Shelves.{BacksFrom}
-use Rattle.router.proofs.DemandMaps.{aisle-small, line-small, back-first, back-next}
+use Rattle.router.proofs.DemandMaps.{aisle-small, line-small, back-below, back-first, back-next}
 use Rattle.router.proofs.demand.fill_backs.Statement.{statement}
 use Rattle.router.proofs.demand.fill_backs.Tie as tie
 
@@ -55,7 +55,15 @@ element-copy-out-map-row-2 : tie.Need-element-copy-out-map-row-2 Inv-loop μ-loo
 element-copy-out-map-row-2 c = omega (arith, aisle-small ((c .before .before .before .before .before .before .before .before .before .before .before .before) .args .job) ((c .before .before .before .before .before .before .before .before .before .before .before .before) .args .t3) ((c .before .before .before .before .before .before .before .before .before .before .before .before) .args .d) ((c .before .before .before .before .before .before .before .before .before .before .before .before) .args .j) ((c .before .before .before .before .before .before .before .before .before .before .before .before) .pre .1))
 
 map-row-requires : tie.Need-map-row-requires Inv-loop μ-loop
-map-row-requires c κs = (omega (arith, (c .before .before .before .before .before .before .before .before .before .before .before .before .before) .pre .0, (c .before .before .before .before .before .before .before .before .before .plain-row) .ensures .kept, (c .before .before .before .before .before .before .loop) .inv .1 .0), omega (arith, aisle-small ((c .before .before .before .before .before .before .before .before .before .before .before .before .before) .args .job) ((c .before .before .before .before .before .before .before .before .before .before .before .before .before) .args .t3) ((c .before .before .before .before .before .before .before .before .before .before .before .before .before) .args .d) ((c .before .before .before .before .before .before .before .before .before .before .before .before .before) .args .j) ((c .before .before .before .before .before .before .before .before .before .before .before .before .before) .pre .1)), omega (arith, aisle-small ((c .before .before .before .before .before .before .before .before .before .before .before .before .before) .args .job) ((c .before .before .before .before .before .before .before .before .before .before .before .before .before) .args .t3) ((c .before .before .before .before .before .before .before .before .before .before .before .before .before) .args .d) ((c .before .before .before .before .before .before .before .before .before .before .before .before .before) .args .j) ((c .before .before .before .before .before .before .before .before .before .before .before .before .before) .pre .1)), (λ e. omega arith), (c .before .before .before .before .before .before .before .before .before .before .before .before .before) .pre .1 .digits-of .usable, (c .before .before .before .before .before .before .before .before .before .before .before .before .before) .pre .1 .digits-of .small .1, line-small ((c .before .before .before .before .before .before .before .before .before .before .before .before .before) .args .job) ((c .before .before .before .before .before .before .before .before .before .before .before .before .before) .args .t3) ((c .before .before .before .before .before .before .before .before .before .before .before .before .before) .args .d) ((c .before .before .before .before .before .before .before .before .before .before .before .before .before) .args .j) ((c .before .before .before .before .before .before .before .before .before .before .before .before .before) .pre .1) ((((c .before .before .before .before .before .before .before .before .before .before .before .before .before) .args .j) - 1) * 24 + ((((c .before .before .before .before .before .before .before .before .before .before .before .before .before) .args .job) .layout .cells - (c .before .before .before .before .before .before .loop) .n) - 1)))
+map-row-requires c κs =
+    let at-start = c .before .before .before .before .before .before .before .before .before .before .before .before .before in
+    let o = c .before .before .before .before .before .before .loop in
+    let job = at-start .args .job in
+    let shelf = at-start .args .t3 in
+    let d = at-start .args .d in
+    let j = at-start .args .j in
+    let asked = at-start .pre .1 in
+    (omega (arith, at-start .pre .0, (c .before .before .before .before .before .before .before .before .before .plain-row) .ensures .kept, o .inv .1 .0), omega (arith, aisle-small job shelf d j asked), omega (arith, aisle-small job shelf d j asked), (λ e. omega arith), asked .digits-of .usable, asked .digits-of .small .1, line-small job shelf d j asked ((j - 1) * 24 + ((job .layout .cells - o .n) - 1)), back-below job shelf d j asked (o .map) (job .layout .cells - o .n) (job .layout .cells - o .n + 1) (omega arith) (omega arith) (o .inv .1 .1))
 
 add-n : tie.Need-add-n Inv-loop μ-loop
 add-n c = omega (arith, aisle-small ((c .before .before .before .before .before .before .before .before .before .before .before .before .before .before .before .before) .args .job) ((c .before .before .before .before .before .before .before .before .before .before .before .before .before .before .before .before) .args .t3) ((c .before .before .before .before .before .before .before .before .before .before .before .before .before .before .before .before) .args .d) ((c .before .before .before .before .before .before .before .before .before .before .before .before .before .before .before .before) .args .j) ((c .before .before .before .before .before .before .before .before .before .before .before .before .before .before .before .before) .pre .1))
