@@ -36,7 +36,8 @@ take-below no-radix (suc l) = omega arith
 take-below (one-radix {r = r} h p) (suc l) = mul-le-mul-left r (take-below p l)
 
 -- the product with one more radix; a line that is not there has the radix 1
-take-radix : (ls : List OrderLine) (l : ℕ) → count (take (suc l) (map (λ (k : OrderLine). k .quantity + 1) ls)) ≡ count (take l (map (λ (k : OrderLine). k .quantity + 1) ls)) * (getD ls l noLine .quantity + 1)
+take-radix : (ls : List OrderLine) (l : ℕ)
+    → count (take (suc l) (map (λ (k : OrderLine). k .quantity + 1) ls)) ≡ count (take l (map (λ (k : OrderLine). k .quantity + 1) ls)) * (getD ls l noLine .quantity + 1)
 take-radix [] zero = refl
 take-radix [] (suc l) = refl
 take-radix (k ∷ ls) zero = omega arith
@@ -163,7 +164,8 @@ less-code-digit (one-radix {r = r} {rs = rs} low p) (suc l) n q h k =
     ∙ ap (λ x. q - min (x % d) n * (r * s)) (div-div-eq-div-mul q r s)
 
 -- the number less a line's gains, as the arrays of digits have it
-pub less-line-code : (job : Job) (d : Digits) → DigitsOf job d → (line n q : ℕ) → line ≤ length (job .lines) → q < d .weight → lessLine d line n q ≡ lessCode (radices job) (gainOf (length (job .lines)) line n) q
+pub less-line-code : (job : Job) (d : Digits) → DigitsOf job d → (line n q : ℕ) → line ≤ length (job .lines) → q < d .weight
+    → lessLine d line n q ≡ lessCode (radices job) (gainOf (length (job .lines)) line n) q
 less-line-code job d ok line n q h k = go line h
   where
     p : Positive (radices job)

@@ -81,8 +81,11 @@ loop-again c =
     let p = at-loop .before .args in
     let r = at-loop .before .pre in
     let o = at-loop .loop in
-    let same = other-row (p .map .now) (o .map) (p .to) (o .q) (p .from) (o .q) (λ k. getD (p .map .now) (p .from * 256 + k) 0) (omega (arith, r .4)) (omega (arith, r .4)) (r .3) (o .inv .1) in
-    (omega arith, set-one (p .map .now) (o .map) (p .to) (o .q) (getD (o .map) (p .from * 256 + o .q) 0) (λ k. getD (p .map .now) (p .from * 256 + k) 0) (omega (arith, r .0, r .1, r .4)) (o .inv .1) (same))
+    let same = other-row (p .map .now) (o .map) (p .to) (o .q) (p .from) (o .q) (λ k. getD (p .map .now) (p .from * 256 + k) 0) (omega (arith, r .4)) (omega (arith, r .4)) (r .3) (o .inv .1) in (
+      omega arith,
+      set-one (p .map .now) (o .map) (p .to) (o .q) (getD (o .map) (p .from * 256 + o .q) 0)
+          (λ k. getD (p .map .now) (p .from * 256 + k) 0) (omega (arith, r .0, r .1, r .4)) (o .inv .1) (same),
+    )
 
 same-length : tie.Need-same-length Inv-loop μ-loop
 same-length c = c .before .loop .inv .1 .kept

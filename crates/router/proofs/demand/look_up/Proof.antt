@@ -51,7 +51,8 @@ mul-map c =
     let p = at-loop .before .before .args in
     let r = at-loop .before .before .pre in
     let o = at-loop .loop in
-    let same = other-row (p .map .now) (o .map) (p .to) (o .q) (p .from) (o .q) (λ k. getD (p .table .now) (getD (p .map .now) (p .from * 256 + k) 0) 0) (omega (arith, r .4)) (omega (arith, r .4)) (r .3) (o .inv .1) in
+    let same = other-row (p .map .now) (o .map) (p .to) (o .q) (p .from) (o .q)
+    (λ k. getD (p .table .now) (getD (p .map .now) (p .from * 256 + k) 0) 0) (omega (arith, r .4)) (omega (arith, r .4)) (r .3) (o .inv .1) in
     omega (arith, c .wide .ensures .0, same, r .5 (o .q) (omega arith))
 
 element-copy-out-map : tie.Need-element-copy-out-map Inv-loop μ-loop
@@ -60,7 +61,8 @@ element-copy-out-map c =
     let p = at-loop .before .before .args in
     let r = at-loop .before .before .pre in
     let o = at-loop .loop in
-    let same = other-row (p .map .now) (o .map) (p .to) (o .q) (p .from) (o .q) (λ k. getD (p .table .now) (getD (p .map .now) (p .from * 256 + k) 0) 0) (omega (arith, r .4)) (omega (arith, r .4)) (r .3) (o .inv .1) in
+    let same = other-row (p .map .now) (o .map) (p .to) (o .q) (p .from) (o .q)
+    (λ k. getD (p .table .now) (getD (p .map .now) (p .from * 256 + k) 0) 0) (omega (arith, r .4)) (omega (arith, r .4)) (r .3) (o .inv .1) in
     omega (arith, c .wide .ensures .0, same, r .5 (o .q) (omega arith))
 
 mul-map-2 : tie.Need-mul-map-2 Inv-loop μ-loop
@@ -102,8 +104,13 @@ loop-again c =
     let p = at-loop .before .before .args in
     let r = at-loop .before .before .pre in
     let o = at-loop .loop in
-    let same = other-row (p .map .now) (o .map) (p .to) (o .q) (p .from) (o .q) (λ k. getD (p .table .now) (getD (p .map .now) (p .from * 256 + k) 0) 0) (omega (arith, r .4)) (omega (arith, r .4)) (r .3) (o .inv .1) in
-    (omega arith, set-one (p .map .now) (o .map) (p .to) (o .q) (getD (p .table .now) (c .before .wide .result) 0) (λ k. getD (p .table .now) (getD (p .map .now) (p .from * 256 + k) 0) 0) (omega (arith, r .0, r .1, r .4)) (o .inv .1) (ap (λ n. getD (p .table .now) n 0) (c .before .wide .ensures .0 ∙ same)))
+    let same = other-row (p .map .now) (o .map) (p .to) (o .q) (p .from) (o .q)
+    (λ k. getD (p .table .now) (getD (p .map .now) (p .from * 256 + k) 0) 0) (omega (arith, r .4)) (omega (arith, r .4)) (r .3) (o .inv .1) in (
+      omega arith,
+      set-one (p .map .now) (o .map) (p .to) (o .q) (getD (p .table .now) (c .before .wide .result) 0)
+          (λ k. getD (p .table .now) (getD (p .map .now) (p .from * 256 + k) 0) 0) (omega (arith, r .0, r .1, r .4)) (o .inv .1)
+          (ap (λ n. getD (p .table .now) n 0) (c .before .wide .ensures .0 ∙ same)),
+    )
 
 same-length : tie.Need-same-length Inv-loop μ-loop
 same-length c = c .before .loop .inv .1 .kept

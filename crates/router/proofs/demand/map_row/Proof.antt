@@ -51,7 +51,8 @@ returns c =
     let at-copy = c .before .before in
     let at-then = at-copy .before .before in
     let p = at-then .before .before .args in
-    row-of (p .map .now) (at-copy .copy-row .last .0) (p .to) (p .t4 .weight) (λ q. getD (p .map .now) (p .from * 256 + q) 0) (λ q. lessLine (p .t4) (p .line) (p .n) (getD (p .map .now) (p .from * 256 + q) 0))
+    row-of (p .map .now) (at-copy .copy-row .last .0) (p .to) (p .t4 .weight) (λ q. getD (p .map .now) (p .from * 256 + q) 0)
+    (λ q. lessLine (p .t4) (p .line) (p .n) (getD (p .map .now) (p .from * 256 + q) 0))
     (λ q l. sym (ap (λ k. lessLine (p .t4) k (p .n) (getD (p .map .now) (p .from * 256 + q) 0)) (at-then .if1 .taken)))
     (at-copy .copy-row .ensures)
 
@@ -68,7 +69,8 @@ returns-2 c =
     let r = at-start .pre in
     let table = at-table .less-table in
     let old : ℕ → ℕ = λ q. getD (p .map .now) (p .from * 256 + q) 0 in
-    row-of (p .map .now) (at-look .look-up .last .0) (p .to) (p .t4 .weight) (λ q. getD (table .result) (getD (p .map .now) (p .from * 256 + q) 0) 0) (λ q. lessLine (p .t4) (p .line) (p .n) (getD (p .map .now) (p .from * 256 + q) 0))
+    row-of (p .map .now) (at-look .look-up .last .0) (p .to) (p .t4 .weight) (λ q. getD (table .result) (getD (p .map .now) (p .from * 256 + q) 0) 0)
+    (λ q. lessLine (p .t4) (p .line) (p .n) (getD (p .map .now) (p .from * 256 + q) 0))
     (λ q l. table .ensures (old q) (r .7 q l) ∙ line-less (p .t4) (p .line) (p .n) (old q) (omega (arith, at-else .if1 .left)))
     (at-look .look-up .ensures)
 
