@@ -1,4 +1,5 @@
 // Open demand as a number: the order lines as its digits, the cells that supply them, and the maps of an aisle.
+use crate::rows::DEMANDS;
 use crate::rows::wide;
 use rules::OrderLine;
 use rules::StockRecord;
@@ -16,7 +17,7 @@ ghost use Rattle.router.specs.Steps.{bit};
 ghost use Rattle.router.specs.Maps.{MapsReady};
 ghost use Rattle.router.specs.Shelves.{Usable, DigitsOf, PlaceOf, lessDigit, lessLine, LineOf, ShelfOf, RowSet, MapsAsked, FrontsTo, BacksFrom};
 
-// The order lines as digits: the radix of each, the product of the radices before it, and the weight of the list.
+// The order lines as digits, the first line the lowest: the radix of each, the product of the radices before it, and the weight of the list.
 pub struct Digits {
     pub radix: [usize; 8],
     pub stride: [usize; 8],
@@ -77,11 +78,11 @@ fn taken(digit: usize, n: usize) -> usize
 }
 
 // For each demand number what is left of it after a cell that holds n for a line.
-fn less_table(radix: usize, stride: usize, n: usize, weight: usize) -> [u16; 256]
+fn less_table(radix: usize, stride: usize, n: usize, weight: usize) -> [u16; DEMANDS]
     requires { ⌜ (1 ≤ radix) × (1 ≤ stride) × (weight ≤ 256) ⌝ }
     ensures { λ r. ⌜ ((q : ℕ) → q < weight → getD r q 0 ≡ lessDigit radix stride n q) ⌝ }
 {
-    let mut out = [0u16; 256];
+    let mut out = [0u16; DEMANDS];
     let mut p = Place { low: 0, digit: 0 };
     let mut q = 0;
     while q < weight {
@@ -170,7 +171,7 @@ fn plain_row(map: &mut [u16], to: usize, weight: usize)
 {
     let mut q = 0;
     while q < weight {
-        map[to * 256 + q] = q as u16;
+        map[to * DEMANDS + q] = q as u16;
         q += 1;
     }
 }
@@ -182,20 +183,20 @@ fn copy_row(map: &mut [u16], to: usize, from: usize, weight: usize)
 {
     let mut q = 0;
     while q < weight {
-        map[to * 256 + q] = map[from * 256 + q];
+        map[to * DEMANDS + q] = map[from * DEMANDS + q];
         q += 1;
     }
 }
 
 // A row of a map behind another one: its demands looked up in a table.
-fn look_up(map: &mut [u16], to: usize, from: usize, table: &[u16; 256], weight: usize)
+fn look_up(map: &mut [u16], to: usize, from: usize, table: &[u16; DEMANDS], weight: usize)
     requires { ⌜ (6656 ≤ length (now map)) × (to ≤ 25) × (from ≤ 25) × (from ≡ to → ⊥) × (weight ≤ 256) × ((q : ℕ) → q < weight → getD (now map) (from * 256 + q) 0 < 256) ⌝ }
     ensures { λ r. ⌜ RowSet (now (map .entry)) (now (map .exit)) to weight (λ q. getD (now (table .entry)) (getD (now (map .entry)) (from * 256 + q) 0) 0) ⌝ }
 {
     let mut q = 0;
     while q < weight {
-        let old = wide(map[from * 256 + q]);
-        map[to * 256 + q] = table[old];
+        let old = wide(map[from * DEMANDS + q]);
+        map[to * DEMANDS + q] = table[old];
         q += 1;
     }
 }
