@@ -51,7 +51,8 @@ candidate-parts cells Once f = record { kind-below = omega arith; front-within =
 candidate-parts cells Twice f = record { kind-below = omega arith; front-within = omega arith; back-low = omega arith; back-high = omega arith }
 
 -- the way over an action is that with the answer of its own half rule
-pub way-is : (x : Aisle) (after fronts backs : List ℕ) (s q : ℕ) (a : Action) → throughAction x (nextAt after) fronts backs s q a ≡ wayWith x after fronts backs (candidateHalves (x .layout) (candidateOf (x .layout .cells) a)) s q a
+pub way-is : (x : Aisle) (after fronts backs : List ℕ) (s q : ℕ) (a : Action)
+    → throughAction x (nextAt after) fronts backs s q a ≡ wayWith x after fronts backs (candidateHalves (x .layout) (candidateOf (x .layout .cells) a)) s q a
 unfolding throughAction throughCandidate stepCode stepWith wayWith
 way-is x after fronts backs s q a = refl
 

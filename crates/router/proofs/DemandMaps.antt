@@ -49,6 +49,10 @@ set-one map map′ to q v f room r e =
     here : (k : ℕ) → k ≡ q → getD (set map′ (to * 256 + q) v) (to * 256 + k) 0 ≡ f k
     here k p = rw p (getD-set-same map′ (to * 256 + q) v 0 (omega (arith, r .kept)) ∙ e)
 
+-- the same numbers by another function
+pub row-of : (map map′ : List ℕ) (to n : ℕ) (f g : ℕ → ℕ) → ((q : ℕ) → q < n → f q ≡ g q) → RowSet map map′ to n f → RowSet map map′ to n g
+row-of map map′ to n f g same r = record { kept = r .kept; done = λ q h. r .done q h ∙ same q h; rest = r .rest }
+
 -- another row is not touched
 pub other-row : (map map′ : List ℕ) (to n from q : ℕ) (f : ℕ → ℕ) → n ≤ 256 → q < 256 → (from ≡ to → ⊥) → RowSet map map′ to n f → getD map′ (from * 256 + q) 0 ≡ getD map (from * 256 + q) 0
 other-row map map′ to n from q f small low ne r = r .rest (from * 256 + q) (go (less-or-more from to ne))
@@ -90,7 +94,9 @@ module _ (job : Job) (ok : stockInBounds job ≡ true) (j : ℕ) where
 -- a part that reaches no cell supplies nothing
 no-gains : (job : Job) (p : ℕ → Bool) (j : ℕ) → stockInBounds job ≡ true → ((c : ℕ) → 1 ≤ c → c ≤ job .layout .cells → p c ≡ false) → gainsWhere job j p ≡ replicate (length (job .lines)) 0
 no-gains job p j ok none =
-    ap (λ (g : OrderLine → ℕ). map g (job .lines)) (fun-ext (λ l. sum-agree _ (λ r. 0) (job .stock) (λ s m. (let w = stock-within job .0 ok .records s m .cell in rw (none (s .cell) w.0 w.1, and-false (eqb (s .aisle) j), and-false (eqb (s .article) (l .article))) refl)) ∙ sum-zero (job .stock)))
+    ap (λ (g : OrderLine → ℕ). map g (job .lines))
+    (fun-ext (λ l. sum-agree _ (λ r. 0) (job .stock)
+    (λ s m. (let w = stock-within job .0 ok .records s m .cell in rw (none (s .cell) w.0 w.1, and-false (eqb (s .aisle) j), and-false (eqb (s .article) (l .article))) refl)) ∙ sum-zero (job .stock)))
     ∙ sym (map-zero (job .lines))
   where
     sum-zero : (xs : List StockRecord) → sumOf (λ (r : StockRecord). 0) xs ≡ 0
@@ -130,16 +136,43 @@ module _ (v : JobValue) (shelf : Shelf) (d : Digits) (j : ℕ) (asked : MapsAske
       omega (arith, asked .shelf-of .lines-below k, list-within (jobOf v) .0 (asked .sound .admitted .list) .count .1)
 
   -- a demand after what is before a cell, and then after the cell
-  cell-step : (gs : List ℕ) (c q x : ℕ) → 1 ≤ c → c ≤ v .layout .cells → length gs ≡ length (radices (jobOf v)) → x ≡ lessCode (radices (jobOf v)) gs q → lessLine d (getD (shelf .line) (cellNumber j c) 0) (getD (shelf .quantity) (cellNumber j c) 0) x ≡ lessCode (radices (jobOf v)) (plus gs (cellGains (jobOf v) j c)) q
+  cell-step : (gs : List ℕ) (c q x : ℕ) → 1 ≤ c → c ≤ v .layout .cells → length gs ≡ length (radices (jobOf v))
+      → x ≡ lessCode (radices (jobOf v)) gs q
+      → lessLine d (getD (shelf .line) (cellNumber j c) 0) (getD (shelf .quantity) (cellNumber j c) 0) x ≡ lessCode (radices (jobOf v)) (plus gs (cellGains (jobOf v) j c)) q
   cell-step gs c q x low high e p =
       let rs = radices (jobOf v) in
       let positive = radices-positive (jobOf v) in
       let at = cellNumber j c in
       let z = aisle-small in
-      less-line-code (jobOf v) d (asked .digits-of) (getD (shelf .line) at 0) (getD (shelf .quantity) at 0) x (asked .shelf-of .lines-below at) (rw p (omega (arith, counted, count-weight (jobOf v), less-code-below gs positive e q)))
+      less-line-code (jobOf v) d (asked .digits-of) (getD (shelf .line) at 0) (getD (shelf .quantity) at 0) x (asked .shelf-of .lines-below at)
+      (rw p (omega (arith, counted, count-weight (jobOf v), less-code-below gs positive e q)))
       ∙ ap (λ hs. lessCode rs hs x) (asked .shelf-of .supplies j c (z .2) (z .3) low (omega arith))
       ∙ ap (lessCode rs (cellGains (jobOf v) j c)) p
       ∙ sym (less-code-plus gs (cellGains (jobOf v) j c) positive e q)
+
+  -- their demands are below the weight
+  pub front-below : (map : List ℕ) (h : ℕ) → FrontsTo (jobOf v) j (h + 1) map → (q : ℕ) → q < d .weight → getD map (h * 256 + q) 0 < d .weight
+  front-below map h t q l =
+      omega (
+        arith,
+        t h q (omega arith) (omega (arith, counted)),
+        counted,
+        count-weight (jobOf v),
+        less-code-below (gains (jobOf v) j (Bottom h))
+            (radices-positive (jobOf v)) (gains-length (jobOf v) j (Bottom h)) q,
+      )
+
+  pub back-below : (map : List ℕ) (n i : ℕ) → n < i → i ≤ suc (v .layout .cells) → BacksFrom (jobOf v) j n map → (q : ℕ) → q < d .weight → getD map (i * 256 + q) 0 < d .weight
+  unfolding jobOf
+  back-below map n i low high t q l =
+      omega (
+        arith,
+        t i q low high (omega (arith, counted)),
+        counted,
+        count-weight (jobOf v),
+        less-code-below (gains (jobOf v) j (Top i))
+            (radices-positive (jobOf v)) (gains-length (jobOf v) j (Top i)) q,
+      )
 
   -- the rows of BOTTOM: the first one, and one more
   pub front-first : (map map′ : List ℕ) → RowSet map map′ 0 (d .weight) (λ q. q) → FrontsTo (jobOf v) j 1 map′
@@ -147,7 +180,9 @@ module _ (v : JobValue) (shelf : Shelf) (d : Digits) (j : ℕ) (asked : MapsAske
       let first : h ≡ 0 = omega arith in
       rw first (r .done q (omega (arith, counted)) ∙ sym (front-unchanged (jobOf v) ok j q k))
 
-  pub front-next : (map map′ : List ℕ) (h : ℕ) → h < v .layout .cells → FrontsTo (jobOf v) j (h + 1) map → RowSet map map′ (h + 1) (d .weight) (λ q. lessLine d (getD (shelf .line) ((j - 1) * 24 + h) 0) (getD (shelf .quantity) ((j - 1) * 24 + h) 0) (getD map (h * 256 + q) 0)) → FrontsTo (jobOf v) j (h + 1 + 1) map′
+  pub front-next : (map map′ : List ℕ) (h : ℕ) → h < v .layout .cells → FrontsTo (jobOf v) j (h + 1) map
+      → RowSet map map′ (h + 1) (d .weight) (λ q. lessLine d (getD (shelf .line) ((j - 1) * 24 + h) 0) (getD (shelf .quantity) ((j - 1) * 24 + h) 0) (getD map (h * 256 + q) 0))
+      → FrontsTo (jobOf v) j (h + 1 + 1) map′
   front-next map map′ h low t r i q l k =
       ⊎-elim (λ b. r .rest (i * 256 + q) (inl (omega (arith, counted, asked .digits-of .small))) ∙ t i q b k) (λ e. here e) (below i (h + 1) l)
     where
@@ -171,7 +206,9 @@ module _ (v : JobValue) (shelf : Shelf) (d : Digits) (j : ℕ) (asked : MapsAske
       let next : suc (v .layout .cells) ≡ v .layout .cells + 1 = omega arith in
       rw first (ap (λ n. getD map′ (n * 256 + q) 0) next ∙ r .done q (omega (arith, counted)) ∙ sym (back-unchanged (jobOf v) ok j q k))
 
-  pub back-next : (map map′ : List ℕ) (n i : ℕ) → 1 ≤ i → i ≤ v .layout .cells → n + 1 ≡ i → BacksFrom (jobOf v) j i map → RowSet map map′ i (d .weight) (λ q. lessLine d (getD (shelf .line) (cellNumber j i) 0) (getD (shelf .quantity) (cellNumber j i) 0) (getD map ((i + 1) * 256 + q) 0)) → BacksFrom (jobOf v) j n map′
+  pub back-next : (map map′ : List ℕ) (n i : ℕ) → 1 ≤ i → i ≤ v .layout .cells → n + 1 ≡ i → BacksFrom (jobOf v) j i map
+      → RowSet map map′ i (d .weight) (λ q. lessLine d (getD (shelf .line) (cellNumber j i) 0) (getD (shelf .quantity) (cellNumber j i) 0) (getD map ((i + 1) * 256 + q) 0))
+      → BacksFrom (jobOf v) j n map′
   unfolding jobOf
   back-next map map′ n i low high e t r k q l m h =
       ⊎-elim (λ p. here (sym p)) (λ b. r .rest (k * 256 + q) (inr (omega (arith, asked .digits-of .small))) ∙ t k q b m h) (eq-or-lt-of-le (upper e l))
@@ -183,7 +220,8 @@ module _ (v : JobValue) (shelf : Shelf) (d : Digits) (j : ℕ) (asked : MapsAske
       here p =
           rw p
           (r .done q (omega (arith, counted))
-          ∙ cell-step (gains (jobOf v) j (Top (suc i))) i q (getD map ((i + 1) * 256 + q) 0) low high (gains-length (jobOf v) j (Top (suc i))) (t (i + 1) q (omega arith) (omega arith) h ∙ ap (λ x. lessCode (radices (jobOf v)) (gains (jobOf v) j (Top x)) q) (add-one i))
+          ∙ cell-step (gains (jobOf v) j (Top (suc i))) i q (getD map ((i + 1) * 256 + q) 0) low high (gains-length (jobOf v) j (Top (suc i)))
+          (t (i + 1) q (omega arith) (omega arith) h ∙ ap (λ x. lessCode (radices (jobOf v)) (gains (jobOf v) j (Top x)) q) (add-one i))
           ∙ ap (λ gs. lessCode (radices (jobOf v)) gs q) (sym (back-gains (jobOf v) ok j i)))
 
 -- the rows of both maps

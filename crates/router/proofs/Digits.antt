@@ -1,9 +1,10 @@
 -- The digits of a job by its lines, and the demand number less one digit.
 use Prim.Native.Nat.{ℕ, zero, suc, _+_, _*_, _-_, _/_, _%_, _≤_, _<_, min}
 use native.Mathlib.Omega.{arith}
-use native.Mathlib.Nat.{mul-comm, mul-assoc, mul-left-comm, mul-le-mul, mul-le-mul-left, mul-le-mul-right, mul-sub, mod-le, mod-add-div, div-one, div-mul-le-self, div-div-eq-div-mul, div-lt-iff-lt-mul}
+use native.Mathlib.Nat.{mul-comm, mul-assoc, mul-left-comm, mul-le-mul, mul-le-mul-left, mul-le-mul-right, mul-sub, mod-le, mod-lt, mod-self, mod-eq-of-lt, suc-mod, zero-mod, zero-div, div-self, div-eq-of-lt, add-mul-div-right, mod-add-div, mod-add-div', div-one, div-mul-le-self, div-div-eq-div-mul, div-lt-iff-lt-mul}
+use native.Mathlib.Numerals.{add-one}
 use native.Mathlib.Decide.{ℕ-discrete}
-use mathlib.Core.Path.{_≡_, refl, sym, _∙_, ap, ap₂}
+use mathlib.Core.Path.{_≡_, refl, sym, _∙_, ap, ap₂, subst}
 use mathlib.Core.List.{List, [], _∷_, map}
 use lib.ListN.{length, getD, take, set, replicate, length-set, length-map, getD-replicate, length-take}
 use lib.Seq.{getD-set-same, getD-set-other, getD-take, take-all}
@@ -15,7 +16,8 @@ use Rattle.optimum.proofs.Radix.{count, Positive, no-radix, radix as one-radix,
 use Rattle.values.specs.declared.JobValue.{JobValue}
 use Rattle.values.specs.Values.{jobOf}
 use Rattle.router.specs.declared.demand.Digits.{Digits}
-use Rattle.router.specs.Shelves.{noLine, Usable, DigitsOf, lessDigit, lessLine, gainOf}
+use Rattle.router.specs.declared.demand.Place.{Place}
+use Rattle.router.specs.Shelves.{noLine, Usable, DigitsOf, PlaceOf, lessDigit, lessLine, gainOf}
 use Rattle.router.proofs.Relaxing.{filled-one}
 
 -- the product of the first radices: at least 1, at most the product of all
@@ -34,7 +36,8 @@ take-below no-radix (suc l) = omega arith
 take-below (one-radix {r = r} h p) (suc l) = mul-le-mul-left r (take-below p l)
 
 -- the product with one more radix; a line that is not there has the radix 1
-take-radix : (ls : List OrderLine) (l : ℕ) → count (take (suc l) (map (λ (k : OrderLine). k .quantity + 1) ls)) ≡ count (take l (map (λ (k : OrderLine). k .quantity + 1) ls)) * (getD ls l noLine .quantity + 1)
+take-radix : (ls : List OrderLine) (l : ℕ)
+    → count (take (suc l) (map (λ (k : OrderLine). k .quantity + 1) ls)) ≡ count (take l (map (λ (k : OrderLine). k .quantity + 1) ls)) * (getD ls l noLine .quantity + 1)
 take-radix [] zero = refl
 take-radix [] (suc l) = refl
 take-radix (k ∷ ls) zero = omega arith
@@ -161,7 +164,8 @@ less-code-digit (one-radix {r = r} {rs = rs} low p) (suc l) n q h k =
     ∙ ap (λ x. q - min (x % d) n * (r * s)) (div-div-eq-div-mul q r s)
 
 -- the number less a line's gains, as the arrays of digits have it
-pub less-line-code : (job : Job) (d : Digits) → DigitsOf job d → (line n q : ℕ) → line ≤ length (job .lines) → q < d .weight → lessLine d line n q ≡ lessCode (radices job) (gainOf (length (job .lines)) line n) q
+pub less-line-code : (job : Job) (d : Digits) → DigitsOf job d → (line n q : ℕ) → line ≤ length (job .lines) → q < d .weight
+    → lessLine d line n q ≡ lessCode (radices job) (gainOf (length (job .lines)) line n) q
 less-line-code job d ok line n q h k = go line h
   where
     p : Positive (radices job)
@@ -178,12 +182,74 @@ less-line-code job d ok line n q h k = go line h
     go (suc l) h =
         rw (ok .radix-at l h, ok .stride-at l h, ← long) (sym (less-code-digit p l n q (omega (arith, long)) low))
 
--- what the code takes from a line's digit
-module _ (d : Digits) (n q : ℕ) where
-  pub less-line-taken : (line m : ℕ) → 1 ≤ line → m ≡ min (q / getD (d .stride) (line - 1) 0 % getD (d .radix) (line - 1) 0) n → (q - m * getD (d .stride) (line - 1) 0 ≡ lessLine d line n q) × (m * getD (d .stride) (line - 1) 0 ≤ q)
-  unfolding lessDigit
-  less-line-taken zero m h e = absurd (omega arith)
-  less-line-taken (suc l) m h e = let s : suc l - 1 ≡ l = omega arith in rw (e, s) (refl, digit-within (getD (d .radix) l 0) (getD (d .stride) l 0) n q)
+-- what is taken from a line's digit, as the tables have it
+pub line-less : (d : Digits) (line n q : ℕ) → 1 ≤ line → lessDigit (getD (d .radix) (line - 1) 0) (getD (d .stride) (line - 1) 0) n q ≡ lessLine d line n q
+line-less d zero n q h = absurd (omega arith)
+line-less d (suc l) n q h = let s : suc l - 1 ≡ l = omega arith in rw s refl
+
+-- the place of the next number: the part below the digit counts on, and carries
+module _ (radix stride q : ℕ) (p : Place) (at : PlaceOf radix stride q p) where
+  next-is : q + 1 ≡ suc (q % stride) + q / stride * stride
+  next-is = omega (arith, mod-add-div' q stride)
+
+  next-low : (q + 1) % stride ≡ suc (p .low) % stride
+  next-low = ap (λ n. n % stride) (add-one q) ∙ suc-mod q stride ∙ ap (λ n. suc n % stride) (sym (at .low-is))
+
+  next-part : 0 < stride → (q + 1) / stride ≡ suc (p .low) / stride + q / stride
+  next-part h =
+      ap (λ n. n / stride) next-is
+      ∙ add-mul-div-right (suc (q % stride)) (q / stride) h
+      ∙ ap (λ n. suc n / stride + q / stride) (sym (at .low-is))
+
+  -- within the digit
+  pub place-on : p .low + 1 < stride → PlaceOf radix stride (q + 1) (record { low = p .low + 1; digit = p .digit })
+  place-on h =
+      let low : suc (p .low) < stride = omega arith in
+      let none : suc (p .low) / stride + q / stride ≡ q / stride = ap (λ n. n + q / stride) (div-eq-of-lt low) ∙ omega arith in
+      record {
+        low-is = sym (next-low ∙ mod-eq-of-lt low ∙ omega arith);
+        digit-is = sym (ap (λ n. n % radix) (next-part (omega arith) ∙ none) ∙ sym (at .digit-is));
+      }
+
+  -- at the end of the digit: one more
+  carried : p .low + 1 ≡ stride → 0 < stride → (suc (p .low) % stride ≡ 0) × ((q + 1) / stride ≡ suc (q / stride))
+  carried e h =
+      let s : suc (p .low) ≡ stride = omega arith in
+      (ap (λ n. n % stride) s ∙ mod-self stride, next-part h ∙ ap (λ n. n / stride + q / stride) s ∙ ap (λ n. n + q / stride) (div-self h) ∙ omega arith)
+
+  next-digit : p .low + 1 ≡ stride → 0 < stride → (q + 1) / stride % radix ≡ suc (p .digit) % radix
+  next-digit e h = ap (λ n. n % radix) (carried e h .1) ∙ suc-mod (q / stride) radix ∙ ap (λ n. suc n % radix) (sym (at .digit-is))
+
+  pub place-up : p .low + 1 ≡ stride → 0 < stride → p .digit + 1 < radix → PlaceOf radix stride (q + 1) (record { low = 0; digit = p .digit + 1 })
+  place-up e h l =
+      let small : suc (p .digit) < radix = omega arith in
+      record {
+        low-is = sym (next-low ∙ carried e h .0);
+        digit-is = sym (next-digit e h ∙ mod-eq-of-lt small ∙ omega arith);
+      }
+
+  pub place-round : p .low + 1 ≡ stride → 0 < stride → p .digit + 1 ≡ radix → PlaceOf radix stride (q + 1) (record { low = 0; digit = 0 })
+  place-round e h l =
+      let s : suc (p .digit) ≡ radix = omega arith in
+      record {
+        low-is = sym (next-low ∙ carried e h .0);
+        digit-is = sym (next-digit e h ∙ ap (λ n. n % radix) s ∙ mod-self radix);
+      }
+
+-- the place of 0, and what its bounds are
+pub place-zero : (radix stride : ℕ) → PlaceOf radix stride 0 (record { low = 0; digit = 0 })
+place-zero radix stride = record { low-is = sym (zero-mod stride); digit-is = sym (ap (λ n. n % radix) (zero-div stride) ∙ zero-mod radix) }
+
+pub place-below : (radix stride q : ℕ) (p : Place) → 0 < radix → 0 < stride → PlaceOf radix stride q p → (p .low < stride) × (p .digit < radix)
+place-below radix stride q p r s at =
+    (subst (λ n. n < stride) (sym (at .low-is)) (mod-lt q s), subst (λ n. n < radix) (sym (at .digit-is)) (mod-lt (q / stride) r))
+
+-- what is taken is within the number
+pub taken-within : (radix stride n q : ℕ) (p : Place) (m : ℕ) → PlaceOf radix stride q p → m ≡ min (p .digit) n → (m * stride ≤ q) × (q - m * stride ≡ lessDigit radix stride n q)
+unfolding lessDigit
+taken-within radix stride n q p m at e =
+    let is : m ≡ min (q / stride % radix) n = e ∙ ap (λ k. min k n) (at .digit-is) in
+    rw is (digit-within radix stride n q, refl)
 
 -- the lines of a job's value
 pub line-read : (v : JobValue) (l : ℕ) → l < v .orders → getD (v .lines) l noLine ≡ getD (jobOf v .lines) l noLine

@@ -52,13 +52,15 @@ step-no Return a holds s = inl refl
 step-no Traversal a holds s = inl refl
 step-no Midpoint a holds s = go (actionNamed Midpoint a && (isVoid a || mayEnter Midpoint holds)) (midpoint-no a s)
   where
-    go : (b : Bool) → (midpointBy false a s ≡ midpointBy true a s) ⊎ (midpointBy false a s ≡ dead) → (cond b (midpointBy false a s) dead ≡ cond b (midpointBy true a s) dead) ⊎ (cond b (midpointBy false a s) dead ≡ dead)
+    go : (b : Bool) → (midpointBy false a s ≡ midpointBy true a s) ⊎ (midpointBy false a s ≡ dead)
+        → (cond b (midpointBy false a s) dead ≡ cond b (midpointBy true a s) dead) ⊎ (cond b (midpointBy false a s) dead ≡ dead)
     go true e = e
     go false e = inl refl
 step-no Composite a holds s = inl refl
 
 -- policies and kinds to which the answer does not matter
-pub step-same : (policy kind : ℕ) → (policy ≡ 3 → ⊥) ⊎ ((kind ≡ 0) ⊎ (4 ≤ kind)) → (holds : Bool) (s : State) → stepOf (policyOf policy) (sampleAction kind) holds false s ≡ stepOf (policyOf policy) (sampleAction kind) holds true s
+pub step-same : (policy kind : ℕ) → (policy ≡ 3 → ⊥) ⊎ ((kind ≡ 0) ⊎ (4 ≤ kind)) → (holds : Bool) (s : State)
+    → stepOf (policyOf policy) (sampleAction kind) holds false s ≡ stepOf (policyOf policy) (sampleAction kind) holds true s
 unfolding stepOf
 step-same zero kind free holds s = refl
 step-same (suc zero) kind free holds s = refl

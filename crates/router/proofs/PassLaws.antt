@@ -32,7 +32,8 @@ use Rattle.router.proofs.TurnLaws.{PairOf, pair-action, action-pair, le
 use Rattle.router.proofs.ActionRows.{candidate-parts, way-is, way-dead, way-true, way-any}
 
 -- an aisle that is ready lets all its turns be swept
-pub sweep-ready : (x : Aisle) (row perm fronts backs : List ℕ) (top : ℕ) → AisleReady x fronts backs → 2048 ≤ length row → 2048 ≤ length perm → top ≡ x .layout .cells + 1 → SweepReady row perm fronts backs top (x .weight)
+pub sweep-ready : (x : Aisle) (row perm fronts backs : List ℕ) (top : ℕ) → AisleReady x fronts backs → 2048 ≤ length row → 2048 ≤ length perm
+    → top ≡ x .layout .cells + 1 → SweepReady row perm fronts backs top (x .weight)
 sweep-ready x row perm fronts backs top ready row-long perm-long top-is =
     let w = within (x .layout) (ready .bounds) in
     let light = ready .small in
@@ -51,7 +52,8 @@ or-true : (b c : Bool) → c ≡ true → (b || c) ≡ true
 or-true true c e = refl
 or-true false c e = e
 
-module _ (x : Aisle) (row after fronts backs steps : List ℕ) (kind halves : ℕ) (steps-are : (s : ℕ) → s < 8 → getD steps s 0 ≡ stepWith x kind (bit halves) s) (fits : (k : ℕ) → getD row k 0 < 65536) where
+module _ (x : Aisle) (row after fronts backs steps : List ℕ) (kind halves : ℕ)
+    (steps-are : (s : ℕ) → s < 8 → getD steps s 0 ≡ stepWith x kind (bit halves) s) (fits : (k : ℕ) → getD row k 0 < 65536) where
   abbrev cells : ℕ
   cells = x .layout .cells
 
@@ -69,7 +71,8 @@ module _ (x : Aisle) (row after fronts backs steps : List ℕ) (kind halves : �
       dead-step : (s : ℕ) (a : Action) → s < 8 → OfPass x kind halves a → 8 ≤ stepWith x (candidateOf cells a .kind) (bit halves) s
       dead-step s a l o = subst (λ k. 8 ≤ stepWith x k (bit halves) s) (sym (o .same)) (subst (λ n. 8 ≤ n) (steps-are s l) (none s l))
 
-  module _ (ready : AisleReady x fronts backs) (small : kind < 6) (mode : (halves ≡ 0) ⊎ ((halves ≡ 1) × (kind < 4))) (t : Turns) (turns : TurnsOf (x .layout) kind (bit halves) t) (perm : List ℕ) (permuted : (s q : ℕ) → s < 8 → q < x .weight → tab perm s q ≡ nextAt after (getD steps s 0) q) where
+  module _ (ready : AisleReady x fronts backs) (small : kind < 6) (mode : (halves ≡ 0) ⊎ ((halves ≡ 1) × (kind < 4))) (t : Turns)
+      (turns : TurnsOf (x .layout) kind (bit halves) t) (perm : List ℕ) (permuted : (s q : ℕ) → s < 8 → q < x .weight → tab perm s q ≡ nextAt after (getD steps s 0) q) where
     abbrev frontTest : ℕ → Bool
     frontTest h = frontAt cells kind h && (not (bit halves) || inFrontHalf (x .layout) h)
 
@@ -85,7 +88,9 @@ module _ (x : Aisle) (row after fronts backs steps : List ℕ) (kind halves : �
     back-is i b l e = turns .back i l ∙ ap (λ b. cond b (backCost (x .layout) i) 65535) e
 
     -- the way over the turns of an action is the way over the action
-    pair-way : (s q : ℕ) (a : Action) → let c = candidateOf cells a in s < 8 → q < x .weight → Fits cells a → c .kind ≡ kind → frontTest (c .front) ≡ true → backTest (c .back) ≡ true → turnWay perm fronts backs (t .front) (t .back) s q (c .front) (c .back) ≡ wayWith x after fronts backs (bit halves) s q a
+    pair-way : (s q : ℕ) (a : Action) → let c = candidateOf cells a in s < 8 → q < x .weight → Fits cells a → c .kind ≡ kind
+        → frontTest (c .front) ≡ true → backTest (c .back) ≡ true
+        → turnWay perm fronts backs (t .front) (t .back) s q (c .front) (c .back) ≡ wayWith x after fronts backs (bit halves) s q a
     unfolding wayWith leftCode
     pair-way s q a l h f same u v = ap₂ sat cost value
       where
@@ -144,7 +149,8 @@ module _ (x : Aisle) (row after fronts backs steps : List ℕ) (kind halves : �
       still s q l h e = inl (omega (arith, swept .less s q l h, fits (q * 8 + s)))
 
       -- a way with the answer of the pass is that of the action, or none
-      settle : (s q : ℕ) (a : Action) → s < 8 → q < x .weight → Fits cells a → (halves ≡ 1 → candidateHalves (x .layout) (candidateOf cells a) ≡ true) → tab row′ s q ≡ wayWith x after fronts backs (bit halves) s q a → One s q
+      settle : (s q : ℕ) (a : Action) → s < 8 → q < x .weight → Fits cells a → (halves ≡ 1 → candidateHalves (x .layout) (candidateOf cells a) ≡ true)
+          → tab row′ s q ≡ wayWith x after fronts backs (bit halves) s q a → One s q
       settle s q a l h f keeps e = go mode
         where
           go : (halves ≡ 0) ⊎ ((halves ≡ 1) × (kind < 4)) → One s q
@@ -264,7 +270,9 @@ module _ (x : Aisle) (after fronts backs : List ℕ) where
       here : (p s q : ℕ) (a : Action) → p ≡ n → s < 8 → q < x .weight → OfPass x (passKind p) (passHalves p) a → tab row′ s q ≤ wayWith x after fronts backs (bit (passHalves p)) s q a
       here p s q a e l h = subst (λ k. OfPass x (passKind k) (passHalves k) a → tab row′ s q ≤ wayWith x after fronts backs (bit (passHalves k)) s q a) (sym e) (d .low s q a l h)
 
-      one : (s q : ℕ) → (tab row′ s q ≡ tab row s q) ⊎ ((a : Action) × Fits (x .layout .cells) a × (tab row′ s q ≡ through s q a)) → (tab row s q ≡ 65535) ⊎ ((a : Action) × Fits (x .layout .cells) a × (tab row s q ≡ through s q a)) → (tab row′ s q ≡ 65535) ⊎ ((a : Action) × Fits (x .layout .cells) a × (tab row′ s q ≡ through s q a))
+      one : (s q : ℕ) → (tab row′ s q ≡ tab row s q) ⊎ ((a : Action) × Fits (x .layout .cells) a × (tab row′ s q ≡ through s q a))
+          → (tab row s q ≡ 65535) ⊎ ((a : Action) × Fits (x .layout .cells) a × (tab row s q ≡ through s q a))
+          → (tab row′ s q ≡ 65535) ⊎ ((a : Action) × Fits (x .layout .cells) a × (tab row′ s q ≡ through s q a))
       one s q (inr w) v = inr w
       one s q (inl e) (inl f) = inl (e ∙ f)
       one s q (inl e) (inr (a, f, g)) = inr (a, f, e ∙ g)
@@ -325,7 +333,8 @@ module _ (x : Aisle) (after fronts backs : List ℕ) where
         top (inl e) = omega arith
         top (inr (a, f, e)) = omega arith
 
-        listed : (tab row s q ≡ 65535) ⊎ ((a : Action) × Fits (x .layout .cells) a × (tab row s q ≡ through s q a)) → (tab row s q ≡ 65535) ⊎ ((a : Action) × List·Memᴰ a (actionsOf (x .layout .cells)) × (tab row s q ≡ through s q a))
+        listed : (tab row s q ≡ 65535) ⊎ ((a : Action) × Fits (x .layout .cells) a × (tab row s q ≡ through s q a))
+            → (tab row s q ≡ 65535) ⊎ ((a : Action) × List·Memᴰ a (actionsOf (x .layout .cells)) × (tab row s q ≡ through s q a))
         listed (inl e) = inl e
         listed (inr (a, f, e)) = inr (a, actions-complete (x .layout .cells) a f, e)
 

@@ -68,7 +68,8 @@ module _ (next : List ℕ) (policy : Policy) (side width s q : ℕ) where
   through-alive p n e h = rw (e, lt-ltb n 8 h) refl
 
   -- one more passage is tried
-  pub least-tried : (p : ℕ) → p < 5 → leastOf (throughPassage next policy side width s q) (take (p + 1) passagesInOrder) ≡ min (leastOf (throughPassage next policy side width s q) (take p passagesInOrder)) (throughPassage next policy side width s q (passageOf p))
+  pub least-tried : (p : ℕ) → p < 5
+      → leastOf (throughPassage next policy side width s q) (take (p + 1) passagesInOrder) ≡ min (leastOf (throughPassage next policy side width s q) (take p passagesInOrder)) (throughPassage next policy side width s q (passageOf p))
   unfolding passagesInOrder throughPassage sumUpTo
   least-tried p h =
       least-take noTour (throughPassage next policy side width s q) passagesInOrder p P00 h ∙ rw (passage-at p h) (omega arith)
@@ -104,7 +105,9 @@ module _ (after next steps : List ℕ) (x : Crossing) (steps-are : (s : ℕ) →
   way s q = throughPassage next (policyOf (x .policy)) (x .side) (x .width) s q (passageOf (x .passage))
 
   -- the row behind a passage, its states put in order, then relaxed
-  pub passage-relaxed : (after′ perm perm′ plain : List ℕ) (cost : ℕ) → x .weight ≤ 256 → cost ≡ (backTreads (passageOf (x .passage)) + frontTreads (passageOf (x .passage))) * x .width → ((q : ℕ) → q < 256 → getD plain q 0 ≡ q) → Permuted perm perm′ next steps (x .weight) 8 → RelaxedRow after after′ perm′ plain 0 cost (x .weight) → PassageTried after after′ next x
+  pub passage-relaxed : (after′ perm perm′ plain : List ℕ) (cost : ℕ) → x .weight ≤ 256
+      → cost ≡ (backTreads (passageOf (x .passage)) + frontTreads (passageOf (x .passage))) * x .width → ((q : ℕ) → q < 256 → getD plain q 0 ≡ q)
+      → Permuted perm perm′ next steps (x .weight) 8 → RelaxedRow after after′ perm′ plain 0 cost (x .weight) → PassageTried after after′ next x
   unfolding throughPassage crossCode
   passage-relaxed after′ perm perm′ plain cost light cost-is plain-is permuted relaxed =
       record {
@@ -139,7 +142,9 @@ module _ (next : List ℕ) (policy side width weight : ℕ) where
   after-none after none s q l h = none (q * 8 + s) (omega arith)
 
   -- one more passage
-  pub after-one : (after after′ : List ℕ) (p : ℕ) → p < 5 → AfterTried after next (policyOf policy) side width weight p → PassageTried after after′ next (record { policy = policy; side = side; width = width; passage = p; weight = weight }) → AfterTried after′ next (policyOf policy) side width weight (p + 1)
+  pub after-one : (after after′ : List ℕ) (p : ℕ) → p < 5 → AfterTried after next (policyOf policy) side width weight p
+      → PassageTried after after′ next (record { policy = policy; side = side; width = width; passage = p; weight = weight })
+      → AfterTried after′ next (policyOf policy) side width weight (p + 1)
   after-one after after′ p small tried relaxed s q l h =
       relaxed .done s q l h
       ∙ ap (λ n. min n (throughPassage next (policyOf policy) side width s q (passageOf p))) (tried s q l h)

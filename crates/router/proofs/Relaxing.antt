@@ -24,7 +24,9 @@ pub row-none : (row perm map : List ℕ) (base cost : ℕ) → RelaxedRow row ro
 row-none row perm map base cost = record { kept = refl; done = λ s q l h. absurd (omega arith); rest = λ k h. refl }
 
 -- one more demand
-pub row-one : (row row′ row″ v perm map : List ℕ) (base cost q from : ℕ) → RelaxedRow row row′ perm map base cost q → Shorter row′ (q * 8) perm from cost v 8 → StoredTo row′ row″ v (q * 8) 8 → from ≡ getD map (base + q) 0 * 8 → RelaxedRow row row″ perm map base cost (q + 1)
+pub row-one : (row row′ row″ v perm map : List ℕ) (base cost q from : ℕ) → RelaxedRow row row′ perm map base cost q
+    → Shorter row′ (q * 8) perm from cost v 8 → StoredTo row′ row″ v (q * 8) 8 → from ≡ getD map (base + q) 0 * 8
+    → RelaxedRow row row″ perm map base cost (q + 1)
 row-one row row′ row″ v perm map base cost q from r u t e =
     record {
       kept = t .kept ∙ r .kept;
@@ -49,7 +51,8 @@ pub state-none : (perm after : List ℕ) (s to : ℕ) → StateSet perm perm aft
 state-none perm after s to = record { kept = refl; done = λ q h. absurd (omega arith); rest = λ q t l n. refl }
 
 -- one more demand of a state
-pub state-one : (perm perm′ after : List ℕ) (s to q v : ℕ) → s < 8 → q * 8 + s < length perm → StateSet perm perm′ after s to q → v ≡ nextAt after to q → StateSet perm (set perm′ (q * 8 + s) v) after s to (q + 1)
+pub state-one : (perm perm′ after : List ℕ) (s to q v : ℕ) → s < 8 → q * 8 + s < length perm → StateSet perm perm′ after s to q
+    → v ≡ nextAt after to q → StateSet perm (set perm′ (q * 8 + s) v) after s to (q + 1)
 state-one perm perm′ after s to q v small in-row r e =
     record {
       kept = length-set perm′ (q * 8 + s) v ∙ r .kept;
@@ -68,7 +71,8 @@ pub permuted-none : (perm after steps : List ℕ) (weight : ℕ) → Permuted pe
 permuted-none perm after steps weight = record { kept = refl; done = λ s q l h. absurd (omega arith) }
 
 -- one more state
-pub permuted-one : (perm perm′ perm″ after steps : List ℕ) (weight s : ℕ) → s < 8 → Permuted perm perm′ after steps weight s → StateSet perm′ perm″ after s (getD steps s 0) weight → Permuted perm perm″ after steps weight (s + 1)
+pub permuted-one : (perm perm′ perm″ after steps : List ℕ) (weight s : ℕ) → s < 8 → Permuted perm perm′ after steps weight s
+    → StateSet perm′ perm″ after s (getD steps s 0) weight → Permuted perm perm″ after steps weight (s + 1)
 permuted-one perm perm′ perm″ after steps weight s small r t =
     record {
       kept = t .kept ∙ r .kept;
@@ -93,6 +97,8 @@ pub stored-one : (work work′ row : List ℕ) (at i : ℕ) → at + i < length 
 stored-one work work′ row at i in-work t =
     record {
       kept = length-set work′ (at + i) (getD row i 0) ∙ t .kept;
-      done = λ k h. ⊎-elim (λ l. getD-set-other work′ (at + i) (at + k) (getD row i 0) 0 (λ p. omega arith) ∙ t .done k l) (λ p. ap (λ n. getD (set work′ (at + i) (getD row i 0)) (at + n) 0) p ∙ getD-set-same work′ (at + i) (getD row i 0) 0 (omega (arith, t .kept)) ∙ ap (λ n. getD row n 0) (sym p)) (below k i h);
+      done = λ k h. ⊎-elim (λ l. getD-set-other work′ (at + i) (at + k) (getD row i 0) 0 (λ p. omega arith) ∙ t .done k l)
+          (λ p. ap (λ n. getD (set work′ (at + i) (getD row i 0)) (at + n) 0) p ∙ getD-set-same work′ (at + i) (getD row i 0) 0
+          (omega (arith, t .kept)) ∙ ap (λ n. getD row n 0) (sym p)) (below k i h);
       rest = λ k h. getD-set-other work′ (at + i) k (getD row i 0) 0 (λ p. ⊎-elim (λ l. omega arith) (λ l. omega arith) h) ∙ t .rest k (⊎-elim (λ l. inl l) (λ l. inr (omega arith)) h);
     }

@@ -45,7 +45,8 @@ module _ (perm backs bc : List ℕ) (top weight : ℕ) where
       record { low = λ s y i l m a b. absurd (omega arith); one = λ s y l m. inl (none (y * 8 + s) (omega arith)) }
 
   -- one more back turn, that at height h
-  pub backs-one : (acc acc′ : List ℕ) (h : ℕ) → 1 ≤ h → h ≤ top → BacksDone acc perm backs bc top weight h → RelaxedRow acc acc′ perm backs (h * 256) (getD bc h 0) weight → BacksDone acc′ perm backs bc top weight (h - 1)
+  pub backs-one : (acc acc′ : List ℕ) (h : ℕ) → 1 ≤ h → h ≤ top → BacksDone acc perm backs bc top weight h
+      → RelaxedRow acc acc′ perm backs (h * 256) (getD bc h 0) weight → BacksDone acc′ perm backs bc top weight (h - 1)
   backs-one acc acc′ h pos high r t =
       record { low = low; one = λ s y l m. one s y (min-pick (tab acc s y) (backWay perm backs bc s y h) (tab acc′ s y) (t .done s y l m)) (r .one s y l m) }
     where
@@ -77,7 +78,10 @@ module _ (row perm fronts backs fc bc : List ℕ) (top weight : ℕ) where
       }
 
   -- all pairs whose front turn is at height h too
-  pub swept-one : (row′ row″ acc : List ℕ) (h : ℕ) → h < top → ((k : ℕ) → getD row k 0 < 65536) → ((q : ℕ) → q < weight → getD fronts (h * 256 + q) 0 < weight) → BacksDone acc perm backs bc top weight h → SweptTo row row′ perm fronts backs fc bc top weight (h + 1) → RelaxedRow row′ row″ acc fronts (h * 256) (getD fc h 0) weight → SweptTo row row″ perm fronts backs fc bc top weight h
+  pub swept-one : (row′ row″ acc : List ℕ) (h : ℕ) → h < top → ((k : ℕ) → getD row k 0 < 65536)
+      → ((q : ℕ) → q < weight → getD fronts (h * 256 + q) 0 < weight) → BacksDone acc perm backs bc top weight h
+      → SweptTo row row′ perm fronts backs fc bc top weight (h + 1) → RelaxedRow row′ row″ acc fronts (h * 256) (getD fc h 0) weight
+      → SweptTo row row″ perm fronts backs fc bc top weight h
   swept-one row′ row″ acc h high fits below d r t =
       record {
         kept = t .kept ∙ r .kept;
@@ -112,7 +116,8 @@ module _ (row perm fronts backs fc bc : List ℕ) (top weight : ℕ) where
       still s q e (inl f) = inl (e ∙ f)
       still s q e (inr (a, i, x, y, z, f)) = inr (a, i, omega arith, y, z, e ∙ f)
 
-      one : (s q : ℕ) → s < 8 → q < weight → (tab row″ s q ≡ tab row′ s q) ⊎ (tab row″ s q ≡ turn s q) → SweptOne row′ (h + 1) s q → BackOne perm backs bc top weight acc h s (at q) → SweptOne row″ h s q
+      one : (s q : ℕ) → s < 8 → q < weight → (tab row″ s q ≡ tab row′ s q) ⊎ (tab row″ s q ≡ turn s q) → SweptOne row′ (h + 1) s q
+          → BackOne perm backs bc top weight acc h s (at q) → SweptOne row″ h s q
       one s q l m (inl e) u v = still s q e u
       one s q l m (inr e) u (inr (i, x, z, f)) =
           inr (h, i, le-refl h, x, z, e ∙ ap (sat (getD fc h 0)) f ∙ sat-sat (getD fc h 0) (getD bc i 0) (tab perm s (getD backs (i * 256 + at q) 0)))

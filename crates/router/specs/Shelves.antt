@@ -16,6 +16,7 @@ use Rattle.optimum.specs.Demand.{gains, radices, lessCode}
 use Rattle.values.specs.declared.JobValue.{JobValue}
 use Rattle.values.specs.Values.{jobOf, Sound}
 use Rattle.router.specs.declared.demand.Digits.{Digits}
+use Rattle.router.specs.declared.demand.Place.{Place}
 use Rattle.router.specs.declared.demand.Shelf.{Shelf}
 use Rattle.machine.specs.Steps.{bit}
 
@@ -33,6 +34,11 @@ pub record DigitsOf (job : Job) (d : Digits) : Type 0 where
   pub usable : Usable d
   pub radix-at : (l : ℕ) → l < length (job .lines) → getD (d .radix) l 0 ≡ getD (radices job) l 0
   pub stride-at : (l : ℕ) → l < length (job .lines) → getD (d .stride) l 0 ≡ productOf (λ r. r) (take l (radices job))
+
+-- where a number stands in a digit: what is below the digit, and the digit itself
+pub record PlaceOf (radix stride q : ℕ) (p : Place) : Type 0 where
+  pub low-is : p .low ≡ q % stride
+  pub digit-is : p .digit ≡ q / stride % radix
 
 -- a number less n in one digit
 unfoldable pub lessDigit : ℕ → ℕ → ℕ → ℕ → ℕ

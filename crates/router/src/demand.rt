@@ -1,12 +1,12 @@
-// Open demand as a number: the order lines as its digits, the cells that supply them, and the maps of an aisle. A map has, at
-// cell * 256 + demand, the demand behind the part of an action that reaches that cell.
+// Open demand as a number: the order lines as its digits, the cells that supply them, and the maps of an aisle.
+use crate::rows::DEMANDS;
 use crate::rows::wide;
 use rules::OrderLine;
 use rules::StockRecord;
 use values::JobValue;
 ghost use mathlib.Core.Path.{_≡_};
 ghost use mathlib.Core.Bool.{_&&_};
-ghost use Prim.Native.Nat.{_+_, _*_, _≤_, _<_};
+ghost use Prim.Native.Nat.{ℕ, _+_, _*_, _≤_, _<_, min};
 ghost use lib.Dec.{eqb};
 ghost use lib.ListN.{length, getD, take};
 ghost use Rattle.rules.specs.Lists.{anyOf};
@@ -15,10 +15,9 @@ ghost use Rattle.rules.specs.declared.OrderLine.{OrderLine};
 ghost use Rattle.values.specs.Values.{Sound, jobOf};
 ghost use Rattle.machine.specs.Steps.{bit};
 ghost use Rattle.router.specs.Maps.{MapsReady};
-ghost use Rattle.router.specs.Shelves.{Usable, DigitsOf, lessLine, LineOf, ShelfOf, RowSet, MapsAsked, FrontsTo, BacksFrom};
+ghost use Rattle.router.specs.Shelves.{Usable, DigitsOf, PlaceOf, lessDigit, lessLine, LineOf, ShelfOf, RowSet, MapsAsked, FrontsTo, BacksFrom};
 
-// The order lines as digits, the first line the lowest: the radix of each, its quantity + 1, the product of the radices before
-// it, and the weight of the list.
+// The order lines as digits, the first line the lowest: the radix of each, the product of the radices before it, and the weight of the list.
 pub struct Digits {
     pub radix: [usize; 8],
     pub stride: [usize; 8],
@@ -48,22 +47,50 @@ pub fn digits_of(job: JobValue) -> Digits
     }
 }
 
-// A demand number after a cell that holds n for a line, given as its number + 1; 0 for no line.
-fn less_line(d: Digits, line: usize, n: usize, q: usize) -> usize
-    requires { ⌜ Usable d × (line ≤ 8) ⌝ }
-    ensures { λ r. ⌜ (r ≡ lessLine d line n q) × (r ≤ q) ⌝ }
+// Where a number stands in a digit: what is below the digit, and the digit itself.
+pub struct Place {
+    pub low: usize,
+    pub digit: usize,
+}
+
+// The place of the next number, by counting on.
+fn next_place(p: Place, radix: usize, stride: usize) -> Place
+    requires { ⌜ (p .low < stride) × (p .digit < radix) ⌝ }
+    ensures { λ r. ⌜ ((q : ℕ) → PlaceOf radix stride q p → PlaceOf radix stride (q + 1) r) ⌝ }
 {
-    if line == 0 {
-        return q;
+    let low = p.low + 1;
+    let digit = p.digit;
+    if low < stride {
+        return Place { low, digit };
     }
-    let radix = d.radix[line - 1];
-    let stride = d.stride[line - 1];
-    let digit = q / stride % radix;
-    if digit < n {
-        q - digit * stride
-    } else {
-        q - n * stride
+    let up = digit + 1;
+    if up < radix {
+        return Place { low: 0, digit: up };
     }
+    Place { low: 0, digit: 0 }
+}
+
+// What a cell that holds n takes from a digit.
+fn taken(digit: usize, n: usize) -> usize
+    ensures { λ r. ⌜ r ≡ min digit n ⌝ }
+{
+    if digit < n { digit } else { n }
+}
+
+// For each demand number what is left of it after a cell that holds n for a line.
+fn less_table(radix: usize, stride: usize, n: usize, weight: usize) -> [u16; DEMANDS]
+    requires { ⌜ (1 ≤ radix) × (1 ≤ stride) × (weight ≤ 256) ⌝ }
+    ensures { λ r. ⌜ ((q : ℕ) → q < weight → getD r q 0 ≡ lessDigit radix stride n q) ⌝ }
+{
+    let mut out = [0u16; DEMANDS];
+    let mut p = Place { low: 0, digit: 0 };
+    let mut q = 0;
+    while q < weight {
+        out[q] = (q - taken(p.digit, n) * stride) as u16;
+        p = next_place(p, radix, stride);
+        q += 1;
+    }
+    out
 }
 
 // What each cell of the store holds for the order lines, at (aisle - 1) * 24 + (cell - 1):
@@ -144,22 +171,47 @@ fn plain_row(map: &mut [u16], to: usize, weight: usize)
 {
     let mut q = 0;
     while q < weight {
-        map[to * 256 + q] = q as u16;
+        map[to * DEMANDS + q] = q as u16;
+        q += 1;
+    }
+}
+
+// A row of a map like another one.
+fn copy_row(map: &mut [u16], to: usize, from: usize, weight: usize)
+    requires { ⌜ (6656 ≤ length (now map)) × (to ≤ 25) × (from ≤ 25) × (from ≡ to → ⊥) × (weight ≤ 256) ⌝ }
+    ensures { λ r. ⌜ RowSet (now (map .entry)) (now (map .exit)) to weight (λ q. getD (now (map .entry)) (from * 256 + q) 0) ⌝ }
+{
+    let mut q = 0;
+    while q < weight {
+        map[to * DEMANDS + q] = map[from * DEMANDS + q];
+        q += 1;
+    }
+}
+
+// A row of a map behind another one: its demands looked up in a table.
+fn look_up(map: &mut [u16], to: usize, from: usize, table: &[u16; DEMANDS], weight: usize)
+    requires { ⌜ (6656 ≤ length (now map)) × (to ≤ 25) × (from ≤ 25) × (from ≡ to → ⊥) × (weight ≤ 256) × ((q : ℕ) → q < weight → getD (now map) (from * 256 + q) 0 < 256) ⌝ }
+    ensures { λ r. ⌜ RowSet (now (map .entry)) (now (map .exit)) to weight (λ q. getD (now (table .entry)) (getD (now (map .entry)) (from * 256 + q) 0) 0) ⌝ }
+{
+    let mut q = 0;
+    while q < weight {
+        let old = wide(map[from * DEMANDS + q]);
+        map[to * DEMANDS + q] = table[old];
         q += 1;
     }
 }
 
 // A row of a map behind another one: its demands after one more cell.
 fn map_row(map: &mut [u16], to: usize, from: usize, d: Digits, line: usize, n: usize)
-    requires { ⌜ (6656 ≤ length (now map)) × (to ≤ 25) × (from ≤ 25) × (from ≡ to → ⊥) × Usable d × (d .weight ≤ 256) × (line ≤ 8) ⌝ }
+    requires { ⌜ (6656 ≤ length (now map)) × (to ≤ 25) × (from ≤ 25) × (from ≡ to → ⊥) × Usable d × (d .weight ≤ 256) × (line ≤ 8) × ((q : ℕ) → q < d .weight → getD (now map) (from * 256 + q) 0 < d .weight) ⌝ }
     ensures { λ r. ⌜ RowSet (now (map .entry)) (now (map .exit)) to (d .weight) (λ q. lessLine d line n (getD (now (map .entry)) (from * 256 + q) 0)) ⌝ }
 {
     let weight = d.weight;
-    let mut q = 0;
-    while q < weight {
-        let old = wide(map[from * 256 + q]);
-        map[to * 256 + q] = less_line(d, line, n, old) as u16;
-        q += 1;
+    if line == 0 {
+        copy_row(map, to, from, weight);
+    } else {
+        let table = less_table(d.radix[line - 1], d.stride[line - 1], n, weight);
+        look_up(map, to, from, &table, weight);
     }
 }
 

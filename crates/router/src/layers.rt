@@ -3,6 +3,8 @@ use crate::candidates::aisle_length;
 use crate::candidates::back_half;
 use crate::candidates::front_half;
 use crate::candidates::position_of;
+use crate::rows::DEMANDS;
+use crate::rows::NUMBERS;
 use crate::rows::fill_none;
 use crate::rows::lives;
 use crate::rows::permute;
@@ -144,7 +146,7 @@ fn relax_turn<'a>(
     ensures { λ r. ⌜ RelaxedRow (now (row .entry)) (now (row .exit)) (now (perm .entry)) (now (map .entry)) (h * 256) cost weight ⌝ }
 {
     if cost < 65535 {
-        relax_row(row, perm, map, h * 256, cost, weight);
+        relax_row(row, perm, map, h * DEMANDS, cost, weight);
     }
 }
 
@@ -161,7 +163,7 @@ fn sweep<'a>(
     requires { ⌜ SweepReady (now row) (now perm) (now fronts) (now backs) (t .top) weight ⌝ }
     ensures { λ r. ⌜ SweptTo (now (row .entry)) (now (row .exit)) (now (perm .entry)) (now (fronts .entry)) (now (backs .entry)) (t .front) (t .back) (t .top) weight 0 ⌝ }
 {
-    let mut acc = [65535u16; 2048];
+    let mut acc = [65535u16; NUMBERS];
     let mut h = t.top;
     while 0 < h {
         let back = t.back[h];
@@ -190,7 +192,7 @@ fn relax_pass<'a>(
     let weight = x.weight;
     let steps = steps_of(x, kind, halves);
     if lives(steps) {
-        let mut perm = [0u16; 2048];
+        let mut perm = [0u16; NUMBERS];
         permute(&mut perm, after, steps, weight);
         let t = turns_of(x.layout, kind, halves);
         sweep(row, &perm, fronts, backs, t, weight);

@@ -1,4 +1,6 @@
-// Rows of the table: for each demand its eight states side by side, 65,535 for 'none'.
+// Rows of the table. The length from demand q in state s on stands at q * 8 + s, so that a demand's eight states
+// are side by side; 65,535 is 'none'. The states: 0 nothing yet, 1 closed, 2 at the front, 3 at the back, 4 odd,
+// 5 joined, 6 split, 7 ending; 8 is dead and has no number.
 use machine::passage_step;
 ghost use mathlib.Core.Path.{_≡_};
 ghost use Prim.Native.Nat.{ℕ, _+_, _*_, _≤_, _<_, min};
@@ -9,6 +11,11 @@ ghost use Rattle.optimum.specs.Routing.{noTour, sat, leastOf};
 ghost use Rattle.router.specs.Stored.{StoredTo};
 ghost use Rattle.router.specs.Rows.{Shorter, RelaxReady, RelaxedRow, nextAt, StateSet, Permuted, LivesAs, NextReady, throughPassage, crossCode, CrossingReady, PassageTried, AfterFilled};
 ghost use Rattle.machine.specs.Steps.{policyOf, passageOf};
+
+// The most demands that a list can have, and the numbers of a row: eight states for each demand.
+pub const DEMANDS: usize = 256;
+
+pub const NUMBERS: usize = 2048;
 
 // A number of the table as a wider one.
 pub fn wide(x: u16) -> usize
@@ -219,12 +226,12 @@ fn passage_steps(policy: usize, side: usize, passage: usize) -> [usize; 8]
 }
 
 // The map that leaves every demand as it is.
-fn plain_map() -> [u16; 256]
+fn plain_map() -> [u16; DEMANDS]
     ensures { λ r. ⌜ ((q : ℕ) → q < 256 → getD r q 0 ≡ q) ⌝ }
 {
-    let mut out = [0u16; 256];
+    let mut out = [0u16; DEMANDS];
     let mut q = 0;
-    while q < 256 {
+    while q < DEMANDS {
         out[q] = q as u16;
         q += 1;
     }
@@ -250,7 +257,7 @@ fn relax_passage(after: &mut [u16], next: &[u16], x: Crossing)
     let steps = passage_steps(x.policy, x.side, passage);
     if lives(steps) {
         let plain = plain_map();
-        let mut perm = [0u16; 2048];
+        let mut perm = [0u16; NUMBERS];
         permute(&mut perm, next, steps, weight);
         let cost = passage_length(passage, x.width) as u16;
         relax_row(after, &perm, &plain, 0, cost, weight);

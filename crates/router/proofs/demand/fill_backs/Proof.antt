@@ -5,7 +5,7 @@ use mathlib.Core.Path.{_≡_, refl, _∙_, subst}
 use lib.ListN.{length}
 use Rattle.values.specs.Values.{jobOf}
 use Rattle.router.specs.Shelves.{BacksFrom}
-use Rattle.router.proofs.DemandMaps.{aisle-small, line-small, back-first, back-next}
+use Rattle.router.proofs.DemandMaps.{aisle-small, line-small, back-below, back-first, back-next}
 use Rattle.router.proofs.demand.fill_backs.Statement.{statement}
 use Rattle.router.proofs.demand.fill_backs.Tie as tie
 
@@ -16,61 +16,196 @@ abbrev μ-loop : tie.MeasureT-loop
 μ-loop map₀ job d j shelf n₀ map n = job .layout .cells - n
 
 add-plain-row : tie.Need-add-plain-row Inv-loop μ-loop
-add-plain-row c = omega (arith, aisle-small ((c .before .before .before) .args .job) ((c .before .before .before) .args .t3) ((c .before .before .before) .args .d) ((c .before .before .before) .args .j) ((c .before .before .before) .pre .1))
+add-plain-row c =
+    let at-start = c .before .before .before in
+    let job = at-start .args .job in
+    let shelf = at-start .args .t3 in
+    let d = at-start .args .d in
+    let j = at-start .args .j in
+    let asked = at-start .pre .1 in
+    omega (arith, aisle-small job shelf d j asked)
 
 plain-row-requires : tie.Need-plain-row-requires Inv-loop μ-loop
-plain-row-requires c κs = ((c .before .before .before) .pre .0, omega (arith, aisle-small ((c .before .before .before) .args .job) ((c .before .before .before) .args .t3) ((c .before .before .before) .args .d) ((c .before .before .before) .args .j) ((c .before .before .before) .pre .1)), (c .before .before .before) .pre .1 .digits-of .small .1)
+plain-row-requires c κs =
+    let at-start = c .before .before .before in
+    let job = at-start .args .job in
+    let shelf = at-start .args .t3 in
+    let d = at-start .args .d in
+    let j = at-start .args .j in
+    let asked = at-start .pre .1 in
+    (at-start .pre .0, omega (arith, aisle-small job shelf d j asked), at-start .pre .1 .digits-of .small .1)
 
 loop-holds : tie.Need-loop-holds Inv-loop μ-loop
-loop-holds c = (omega arith, (refl, subst (λ n. BacksFrom (jobOf ((c .before .before .before .before .before .before) .args .job)) ((c .before .before .before .before .before .before) .args .j) n ((c .before .before .plain-row) .last .0)) (omega arith) (back-first ((c .before .before .before .before .before .before) .args .job) ((c .before .before .before .before .before .before) .args .t3) ((c .before .before .before .before .before .before) .args .d) ((c .before .before .before .before .before .before) .args .j) ((c .before .before .before .before .before .before) .pre .1) _ ((c .before .before .plain-row) .last .0) ((c .before .before .plain-row) .ensures))))
+loop-holds c =
+    let at-start = c .before .before .before .before .before .before in
+    let job = at-start .args .job in
+    let shelf = at-start .args .t3 in
+    let d = at-start .args .d in
+    let j = at-start .args .j in
+    let asked = at-start .pre .1 in (
+      omega arith,
+      (
+        refl,
+        subst (λ n. BacksFrom (jobOf job) j n ((c .before .before .plain-row) .last .0)) (omega arith)
+            (back-first job shelf d j asked _ ((c .before .before .plain-row) .last .0) ((c .before .before .plain-row) .ensures)),
+      ),
+    )
 
 sub-i : tie.Need-sub-i Inv-loop μ-loop
 sub-i c = omega arith
 
 sub-at : tie.Need-sub-at Inv-loop μ-loop
-sub-at c = omega (arith, aisle-small ((c .before .before .before .before .before .before .before .before .before .before) .args .job) ((c .before .before .before .before .before .before .before .before .before .before) .args .t3) ((c .before .before .before .before .before .before .before .before .before .before) .args .d) ((c .before .before .before .before .before .before .before .before .before .before) .args .j) ((c .before .before .before .before .before .before .before .before .before .before) .pre .1))
+sub-at c =
+    let at-start = c .before .before .before .before .before .before .before .before .before .before in
+    let job = at-start .args .job in
+    let shelf = at-start .args .t3 in
+    let d = at-start .args .d in
+    let j = at-start .args .j in
+    let asked = at-start .pre .1 in
+    omega (arith, aisle-small job shelf d j asked)
 
 mul-at : tie.Need-mul-at Inv-loop μ-loop
-mul-at c = omega (arith, aisle-small ((c .before .before .before .before .before .before .before .before .before .before) .args .job) ((c .before .before .before .before .before .before .before .before .before .before) .args .t3) ((c .before .before .before .before .before .before .before .before .before .before) .args .d) ((c .before .before .before .before .before .before .before .before .before .before) .args .j) ((c .before .before .before .before .before .before .before .before .before .before) .pre .1))
+mul-at c =
+    let at-start = c .before .before .before .before .before .before .before .before .before .before in
+    let job = at-start .args .job in
+    let shelf = at-start .args .t3 in
+    let d = at-start .args .d in
+    let j = at-start .args .j in
+    let asked = at-start .pre .1 in
+    omega (arith, aisle-small job shelf d j asked)
 
 sub-at-2 : tie.Need-sub-at-2 Inv-loop μ-loop
 sub-at-2 c = omega arith
 
 add-at : tie.Need-add-at Inv-loop μ-loop
-add-at c = omega (arith, aisle-small ((c .before .before .before .before .before .before .before .before .before .before) .args .job) ((c .before .before .before .before .before .before .before .before .before .before) .args .t3) ((c .before .before .before .before .before .before .before .before .before .before) .args .d) ((c .before .before .before .before .before .before .before .before .before .before) .args .j) ((c .before .before .before .before .before .before .before .before .before .before) .pre .1))
+add-at c =
+    let at-start = c .before .before .before .before .before .before .before .before .before .before in
+    let job = at-start .args .job in
+    let shelf = at-start .args .t3 in
+    let d = at-start .args .d in
+    let j = at-start .args .j in
+    let asked = at-start .pre .1 in
+    omega (arith, aisle-small job shelf d j asked)
 
 add-map-row : tie.Need-add-map-row Inv-loop μ-loop
-add-map-row c = omega (arith, aisle-small ((c .before .before .before .before .before .before .before .before .before .before .before) .args .job) ((c .before .before .before .before .before .before .before .before .before .before .before) .args .t3) ((c .before .before .before .before .before .before .before .before .before .before .before) .args .d) ((c .before .before .before .before .before .before .before .before .before .before .before) .args .j) ((c .before .before .before .before .before .before .before .before .before .before .before) .pre .1))
+add-map-row c =
+    let at-start = c .before .before .before .before .before .before .before .before .before .before .before in
+    let job = at-start .args .job in
+    let shelf = at-start .args .t3 in
+    let d = at-start .args .d in
+    let j = at-start .args .j in
+    let asked = at-start .pre .1 in
+    omega (arith, aisle-small job shelf d j asked)
 
 mul-map-row : tie.Need-mul-map-row Inv-loop μ-loop
-mul-map-row c = omega (arith, aisle-small ((c .before .before .before .before .before .before .before .before .before .before .before) .args .job) ((c .before .before .before .before .before .before .before .before .before .before .before) .args .t3) ((c .before .before .before .before .before .before .before .before .before .before .before) .args .d) ((c .before .before .before .before .before .before .before .before .before .before .before) .args .j) ((c .before .before .before .before .before .before .before .before .before .before .before) .pre .1))
+mul-map-row c =
+    let at-start = c .before .before .before .before .before .before .before .before .before .before .before in
+    let job = at-start .args .job in
+    let shelf = at-start .args .t3 in
+    let d = at-start .args .d in
+    let j = at-start .args .j in
+    let asked = at-start .pre .1 in
+    omega (arith, aisle-small job shelf d j asked)
 
 element-copy-out-map-row : tie.Need-element-copy-out-map-row Inv-loop μ-loop
-element-copy-out-map-row c = omega (arith, aisle-small ((c .before .before .before .before .before .before .before .before .before .before .before) .args .job) ((c .before .before .before .before .before .before .before .before .before .before .before) .args .t3) ((c .before .before .before .before .before .before .before .before .before .before .before) .args .d) ((c .before .before .before .before .before .before .before .before .before .before .before) .args .j) ((c .before .before .before .before .before .before .before .before .before .before .before) .pre .1))
+element-copy-out-map-row c =
+    let at-start = c .before .before .before .before .before .before .before .before .before .before .before in
+    let job = at-start .args .job in
+    let shelf = at-start .args .t3 in
+    let d = at-start .args .d in
+    let j = at-start .args .j in
+    let asked = at-start .pre .1 in
+    omega (arith, aisle-small job shelf d j asked)
 
 mul-map-row-2 : tie.Need-mul-map-row-2 Inv-loop μ-loop
-mul-map-row-2 c = omega (arith, aisle-small ((c .before .before .before .before .before .before .before .before .before .before .before .before) .args .job) ((c .before .before .before .before .before .before .before .before .before .before .before .before) .args .t3) ((c .before .before .before .before .before .before .before .before .before .before .before .before) .args .d) ((c .before .before .before .before .before .before .before .before .before .before .before .before) .args .j) ((c .before .before .before .before .before .before .before .before .before .before .before .before) .pre .1))
+mul-map-row-2 c =
+    let at-start = c .before .before .before .before .before .before .before .before .before .before .before .before in
+    let job = at-start .args .job in
+    let shelf = at-start .args .t3 in
+    let d = at-start .args .d in
+    let j = at-start .args .j in
+    let asked = at-start .pre .1 in
+    omega (arith, aisle-small job shelf d j asked)
 
 element-copy-out-map-row-2 : tie.Need-element-copy-out-map-row-2 Inv-loop μ-loop
-element-copy-out-map-row-2 c = omega (arith, aisle-small ((c .before .before .before .before .before .before .before .before .before .before .before .before) .args .job) ((c .before .before .before .before .before .before .before .before .before .before .before .before) .args .t3) ((c .before .before .before .before .before .before .before .before .before .before .before .before) .args .d) ((c .before .before .before .before .before .before .before .before .before .before .before .before) .args .j) ((c .before .before .before .before .before .before .before .before .before .before .before .before) .pre .1))
+element-copy-out-map-row-2 c =
+    let at-start = c .before .before .before .before .before .before .before .before .before .before .before .before in
+    let job = at-start .args .job in
+    let shelf = at-start .args .t3 in
+    let d = at-start .args .d in
+    let j = at-start .args .j in
+    let asked = at-start .pre .1 in
+    omega (arith, aisle-small job shelf d j asked)
 
 map-row-requires : tie.Need-map-row-requires Inv-loop μ-loop
-map-row-requires c κs = (omega (arith, (c .before .before .before .before .before .before .before .before .before .before .before .before .before) .pre .0, (c .before .before .before .before .before .before .before .before .before .plain-row) .ensures .kept, (c .before .before .before .before .before .before .loop) .inv .1 .0), omega (arith, aisle-small ((c .before .before .before .before .before .before .before .before .before .before .before .before .before) .args .job) ((c .before .before .before .before .before .before .before .before .before .before .before .before .before) .args .t3) ((c .before .before .before .before .before .before .before .before .before .before .before .before .before) .args .d) ((c .before .before .before .before .before .before .before .before .before .before .before .before .before) .args .j) ((c .before .before .before .before .before .before .before .before .before .before .before .before .before) .pre .1)), omega (arith, aisle-small ((c .before .before .before .before .before .before .before .before .before .before .before .before .before) .args .job) ((c .before .before .before .before .before .before .before .before .before .before .before .before .before) .args .t3) ((c .before .before .before .before .before .before .before .before .before .before .before .before .before) .args .d) ((c .before .before .before .before .before .before .before .before .before .before .before .before .before) .args .j) ((c .before .before .before .before .before .before .before .before .before .before .before .before .before) .pre .1)), (λ e. omega arith), (c .before .before .before .before .before .before .before .before .before .before .before .before .before) .pre .1 .digits-of .usable, (c .before .before .before .before .before .before .before .before .before .before .before .before .before) .pre .1 .digits-of .small .1, line-small ((c .before .before .before .before .before .before .before .before .before .before .before .before .before) .args .job) ((c .before .before .before .before .before .before .before .before .before .before .before .before .before) .args .t3) ((c .before .before .before .before .before .before .before .before .before .before .before .before .before) .args .d) ((c .before .before .before .before .before .before .before .before .before .before .before .before .before) .args .j) ((c .before .before .before .before .before .before .before .before .before .before .before .before .before) .pre .1) ((((c .before .before .before .before .before .before .before .before .before .before .before .before .before) .args .j) - 1) * 24 + ((((c .before .before .before .before .before .before .before .before .before .before .before .before .before) .args .job) .layout .cells - (c .before .before .before .before .before .before .loop) .n) - 1)))
+map-row-requires c κs =
+    let at-start = c .before .before .before .before .before .before .before .before .before .before .before .before .before in
+    let o = c .before .before .before .before .before .before .loop in
+    let job = at-start .args .job in
+    let shelf = at-start .args .t3 in
+    let d = at-start .args .d in
+    let j = at-start .args .j in
+    let asked = at-start .pre .1 in (
+      omega (
+        arith,
+        at-start .pre .0,
+        (c .before .before .before .before .before .before .before .before .before .plain-row) .ensures .kept,
+        o .inv .1 .0,
+      ),
+      omega
+          (arith, aisle-small job shelf d j asked),
+      omega (arith, aisle-small job shelf d j asked),
+      (λ e. omega arith),
+      asked .digits-of .usable,
+      asked .digits-of .small .1,
+      line-small job shelf d j asked
+          ((j - 1) * 24 + ((job .layout .cells - o .n) - 1)),
+      back-below job shelf d j asked (o .map) (job .layout .cells - o .n)
+          (job .layout .cells - o .n + 1) (omega arith) (omega arith) (o .inv .1 .1),
+    )
 
 add-n : tie.Need-add-n Inv-loop μ-loop
-add-n c = omega (arith, aisle-small ((c .before .before .before .before .before .before .before .before .before .before .before .before .before .before .before .before) .args .job) ((c .before .before .before .before .before .before .before .before .before .before .before .before .before .before .before .before) .args .t3) ((c .before .before .before .before .before .before .before .before .before .before .before .before .before .before .before .before) .args .d) ((c .before .before .before .before .before .before .before .before .before .before .before .before .before .before .before .before) .args .j) ((c .before .before .before .before .before .before .before .before .before .before .before .before .before .before .before .before) .pre .1))
+add-n c =
+    let at-start = c .before .before .before .before .before .before .before .before .before .before .before .before .before .before .before .before in
+    let job = at-start .args .job in
+    let shelf = at-start .args .t3 in
+    let d = at-start .args .d in
+    let j = at-start .args .j in
+    let asked = at-start .pre .1 in
+    omega (arith, aisle-small job shelf d j asked)
 
 loop-less : tie.Need-loop-less Inv-loop μ-loop
 loop-less c = omega arith
 
 loop-again : tie.Need-loop-again Inv-loop μ-loop
-loop-again c = (omega arith, ((c .before .before .map-row) .ensures .kept ∙ (c .before .before .before .before .before .before .before .before .before .loop) .inv .1 .0, back-next ((c .before .before .before .before .before .before .before .before .before .before .before .before .before .before .before .before) .args .job) ((c .before .before .before .before .before .before .before .before .before .before .before .before .before .before .before .before) .args .t3) ((c .before .before .before .before .before .before .before .before .before .before .before .before .before .before .before .before) .args .d) ((c .before .before .before .before .before .before .before .before .before .before .before .before .before .before .before .before) .args .j) ((c .before .before .before .before .before .before .before .before .before .before .before .before .before .before .before .before) .pre .1) ((c .before .before .before .before .before .before .before .before .before .loop) .map) ((c .before .before .map-row) .last .0) (((c .before .before .before .before .before .before .before .before .before .before .before .before .before .before .before .before) .args .job) .layout .cells - ((c .before .before .before .before .before .before .before .before .before .loop) .n + 1)) (((c .before .before .before .before .before .before .before .before .before .before .before .before .before .before .before .before) .args .job) .layout .cells - (c .before .before .before .before .before .before .before .before .before .loop) .n) (omega arith) (omega arith) (omega arith) ((c .before .before .before .before .before .before .before .before .before .loop) .inv .1 .1) ((c .before .before .map-row) .ensures)))
+loop-again c =
+    let at-start = c .before .before .before .before .before .before .before .before .before .before .before .before .before .before .before .before in
+    let o = c .before .before .before .before .before .before .before .before .before .loop in
+    let row = c .before .before .map-row in
+    let job = at-start .args .job in
+    let shelf = at-start .args .t3 in
+    let d = at-start .args .d in
+    let j = at-start .args .j in
+    let asked = at-start .pre .1 in (
+      omega arith,
+      (
+        row .ensures .kept ∙ o .inv .1 .0,
+        back-next job shelf d j asked (o .map) (row .last .0) (job .layout .cells - (o .n + 1))
+            (job .layout .cells - o .n) (omega arith) (omega arith) (omega arith) (o .inv .1 .1) (row .ensures),
+      ),
+    )
 
 same-length : tie.Need-same-length Inv-loop μ-loop
 same-length c = (c .before .before .loop) .inv .1 .0 ∙ (c .before .before .before .before .before .plain-row) .ensures .kept
 
 returns : tie.Need-returns Inv-loop μ-loop
-returns c = let e : ((c .before .before .before .before .before .before .before .before .before) .args .job) .layout .cells - (c .before .before .loop) .n ≡ 0 = omega (arith, (c .before .before .loop) .inv .0) in (subst (λ n. BacksFrom (jobOf ((c .before .before .before .before .before .before .before .before .before) .args .job)) ((c .before .before .before .before .before .before .before .before .before) .args .j) n ((c .before .before .loop) .map)) e ((c .before .before .loop) .inv .1 .1), (c .before .before .loop) .inv .1 .0 ∙ (c .before .before .before .before .before .plain-row) .ensures .kept)
+returns c =
+    let at-start = c .before .before .before .before .before .before .before .before .before in
+    let o = c .before .before .loop in
+    let job = at-start .args .job in
+    let j = at-start .args .j in
+    let e : job .layout .cells - o .n ≡ 0 = omega (arith, o .inv .0) in
+    (subst (λ n. BacksFrom (jobOf job) j n (o .map)) e (o .inv .1 .1), o .inv .1 .0 ∙ (c .before .before .before .before .before .plain-row) .ensures .kept)
 
 pub fill-backs-spec : {M : Type 1} → statement M
 fill-backs-spec =

@@ -5,7 +5,7 @@ use mathlib.Core.Path.{_≡_, refl, _∙_, subst}
 use lib.ListN.{length}
 use Rattle.values.specs.Values.{jobOf}
 use Rattle.router.specs.Shelves.{FrontsTo}
-use Rattle.router.proofs.DemandMaps.{aisle-small, line-small, front-first, front-next}
+use Rattle.router.proofs.DemandMaps.{aisle-small, line-small, front-below, front-first, front-next}
 use Rattle.router.proofs.demand.fill_fronts.Statement.{statement}
 use Rattle.router.proofs.demand.fill_fronts.Tie as tie
 
@@ -19,49 +19,156 @@ plain-row-requires : tie.Need-plain-row-requires Inv-loop μ-loop
 plain-row-requires c κs = ((c .before .before) .pre .0, omega arith, (c .before .before) .pre .1 .digits-of .small .1)
 
 loop-holds : tie.Need-loop-holds Inv-loop μ-loop
-loop-holds c = (omega arith, (refl, front-first ((c .before .before .before .before .before) .args .job) ((c .before .before .before .before .before) .args .t3) ((c .before .before .before .before .before) .args .d) ((c .before .before .before .before .before) .args .j) ((c .before .before .before .before .before) .pre .1) _ ((c .before .before .plain-row) .last .0) ((c .before .before .plain-row) .ensures)))
+loop-holds c =
+    let at-start = c .before .before .before .before .before in
+    let job = at-start .args .job in
+    let shelf = at-start .args .t3 in
+    let d = at-start .args .d in
+    let j = at-start .args .j in
+    let asked = at-start .pre .1 in
+    (omega arith, (refl, front-first job shelf d j asked _ ((c .before .before .plain-row) .last .0) ((c .before .before .plain-row) .ensures)))
 
 sub-at : tie.Need-sub-at Inv-loop μ-loop
-sub-at c = omega (arith, aisle-small ((c .before .before .before .before .before .before .before .before) .args .job) ((c .before .before .before .before .before .before .before .before) .args .t3) ((c .before .before .before .before .before .before .before .before) .args .d) ((c .before .before .before .before .before .before .before .before) .args .j) ((c .before .before .before .before .before .before .before .before) .pre .1))
+sub-at c =
+    let at-start = c .before .before .before .before .before .before .before .before in
+    let job = at-start .args .job in
+    let shelf = at-start .args .t3 in
+    let d = at-start .args .d in
+    let j = at-start .args .j in
+    let asked = at-start .pre .1 in
+    omega (arith, aisle-small job shelf d j asked)
 
 mul-at : tie.Need-mul-at Inv-loop μ-loop
-mul-at c = omega (arith, aisle-small ((c .before .before .before .before .before .before .before .before) .args .job) ((c .before .before .before .before .before .before .before .before) .args .t3) ((c .before .before .before .before .before .before .before .before) .args .d) ((c .before .before .before .before .before .before .before .before) .args .j) ((c .before .before .before .before .before .before .before .before) .pre .1))
+mul-at c =
+    let at-start = c .before .before .before .before .before .before .before .before in
+    let job = at-start .args .job in
+    let shelf = at-start .args .t3 in
+    let d = at-start .args .d in
+    let j = at-start .args .j in
+    let asked = at-start .pre .1 in
+    omega (arith, aisle-small job shelf d j asked)
 
 add-at : tie.Need-add-at Inv-loop μ-loop
-add-at c = omega (arith, aisle-small ((c .before .before .before .before .before .before .before .before) .args .job) ((c .before .before .before .before .before .before .before .before) .args .t3) ((c .before .before .before .before .before .before .before .before) .args .d) ((c .before .before .before .before .before .before .before .before) .args .j) ((c .before .before .before .before .before .before .before .before) .pre .1))
+add-at c =
+    let at-start = c .before .before .before .before .before .before .before .before in
+    let job = at-start .args .job in
+    let shelf = at-start .args .t3 in
+    let d = at-start .args .d in
+    let j = at-start .args .j in
+    let asked = at-start .pre .1 in
+    omega (arith, aisle-small job shelf d j asked)
 
 add-map-row : tie.Need-add-map-row Inv-loop μ-loop
-add-map-row c = omega (arith, aisle-small ((c .before .before .before .before .before .before .before .before .before) .args .job) ((c .before .before .before .before .before .before .before .before .before) .args .t3) ((c .before .before .before .before .before .before .before .before .before) .args .d) ((c .before .before .before .before .before .before .before .before .before) .args .j) ((c .before .before .before .before .before .before .before .before .before) .pre .1))
+add-map-row c =
+    let at-start = c .before .before .before .before .before .before .before .before .before in
+    let job = at-start .args .job in
+    let shelf = at-start .args .t3 in
+    let d = at-start .args .d in
+    let j = at-start .args .j in
+    let asked = at-start .pre .1 in
+    omega (arith, aisle-small job shelf d j asked)
 
 mul-map-row : tie.Need-mul-map-row Inv-loop μ-loop
-mul-map-row c = omega (arith, aisle-small ((c .before .before .before .before .before .before .before .before .before) .args .job) ((c .before .before .before .before .before .before .before .before .before) .args .t3) ((c .before .before .before .before .before .before .before .before .before) .args .d) ((c .before .before .before .before .before .before .before .before .before) .args .j) ((c .before .before .before .before .before .before .before .before .before) .pre .1))
+mul-map-row c =
+    let at-start = c .before .before .before .before .before .before .before .before .before in
+    let job = at-start .args .job in
+    let shelf = at-start .args .t3 in
+    let d = at-start .args .d in
+    let j = at-start .args .j in
+    let asked = at-start .pre .1 in
+    omega (arith, aisle-small job shelf d j asked)
 
 element-copy-out-map-row : tie.Need-element-copy-out-map-row Inv-loop μ-loop
-element-copy-out-map-row c = omega (arith, aisle-small ((c .before .before .before .before .before .before .before .before .before) .args .job) ((c .before .before .before .before .before .before .before .before .before) .args .t3) ((c .before .before .before .before .before .before .before .before .before) .args .d) ((c .before .before .before .before .before .before .before .before .before) .args .j) ((c .before .before .before .before .before .before .before .before .before) .pre .1))
+element-copy-out-map-row c =
+    let at-start = c .before .before .before .before .before .before .before .before .before in
+    let job = at-start .args .job in
+    let shelf = at-start .args .t3 in
+    let d = at-start .args .d in
+    let j = at-start .args .j in
+    let asked = at-start .pre .1 in
+    omega (arith, aisle-small job shelf d j asked)
 
 mul-map-row-2 : tie.Need-mul-map-row-2 Inv-loop μ-loop
-mul-map-row-2 c = omega (arith, aisle-small ((c .before .before .before .before .before .before .before .before .before .before) .args .job) ((c .before .before .before .before .before .before .before .before .before .before) .args .t3) ((c .before .before .before .before .before .before .before .before .before .before) .args .d) ((c .before .before .before .before .before .before .before .before .before .before) .args .j) ((c .before .before .before .before .before .before .before .before .before .before) .pre .1))
+mul-map-row-2 c =
+    let at-start = c .before .before .before .before .before .before .before .before .before .before in
+    let job = at-start .args .job in
+    let shelf = at-start .args .t3 in
+    let d = at-start .args .d in
+    let j = at-start .args .j in
+    let asked = at-start .pre .1 in
+    omega (arith, aisle-small job shelf d j asked)
 
 element-copy-out-map-row-2 : tie.Need-element-copy-out-map-row-2 Inv-loop μ-loop
-element-copy-out-map-row-2 c = omega (arith, aisle-small ((c .before .before .before .before .before .before .before .before .before .before) .args .job) ((c .before .before .before .before .before .before .before .before .before .before) .args .t3) ((c .before .before .before .before .before .before .before .before .before .before) .args .d) ((c .before .before .before .before .before .before .before .before .before .before) .args .j) ((c .before .before .before .before .before .before .before .before .before .before) .pre .1))
+element-copy-out-map-row-2 c =
+    let at-start = c .before .before .before .before .before .before .before .before .before .before in
+    let job = at-start .args .job in
+    let shelf = at-start .args .t3 in
+    let d = at-start .args .d in
+    let j = at-start .args .j in
+    let asked = at-start .pre .1 in
+    omega (arith, aisle-small job shelf d j asked)
 
 map-row-requires : tie.Need-map-row-requires Inv-loop μ-loop
-map-row-requires c κs = (omega (arith, (c .before .before .before .before .before .before .before .before .before .before .before) .pre .0, (c .before .before .before .before .before .before .before .before .plain-row) .ensures .kept, (c .before .before .before .before .before .loop) .inv .1 .0), omega (arith, aisle-small ((c .before .before .before .before .before .before .before .before .before .before .before) .args .job) ((c .before .before .before .before .before .before .before .before .before .before .before) .args .t3) ((c .before .before .before .before .before .before .before .before .before .before .before) .args .d) ((c .before .before .before .before .before .before .before .before .before .before .before) .args .j) ((c .before .before .before .before .before .before .before .before .before .before .before) .pre .1)), omega (arith, aisle-small ((c .before .before .before .before .before .before .before .before .before .before .before) .args .job) ((c .before .before .before .before .before .before .before .before .before .before .before) .args .t3) ((c .before .before .before .before .before .before .before .before .before .before .before) .args .d) ((c .before .before .before .before .before .before .before .before .before .before .before) .args .j) ((c .before .before .before .before .before .before .before .before .before .before .before) .pre .1)), (λ e. omega arith), (c .before .before .before .before .before .before .before .before .before .before .before) .pre .1 .digits-of .usable, (c .before .before .before .before .before .before .before .before .before .before .before) .pre .1 .digits-of .small .1, line-small ((c .before .before .before .before .before .before .before .before .before .before .before) .args .job) ((c .before .before .before .before .before .before .before .before .before .before .before) .args .t3) ((c .before .before .before .before .before .before .before .before .before .before .before) .args .d) ((c .before .before .before .before .before .before .before .before .before .before .before) .args .j) ((c .before .before .before .before .before .before .before .before .before .before .before) .pre .1) ((((c .before .before .before .before .before .before .before .before .before .before .before) .args .j) - 1) * 24 + (c .before .before .before .before .before .loop) .h))
+map-row-requires c κs =
+    let at-start = c .before .before .before .before .before .before .before .before .before .before .before in
+    let o = c .before .before .before .before .before .loop in
+    let job = at-start .args .job in
+    let shelf = at-start .args .t3 in
+    let d = at-start .args .d in
+    let j = at-start .args .j in
+    let asked = at-start .pre .1 in (
+      omega (
+        arith,
+        at-start .pre .0,
+        (c .before .before .before .before .before .before .before .before .plain-row) .ensures .kept,
+        o .inv .1 .0,
+      ),
+      omega
+          (arith, aisle-small job shelf d j asked),
+      omega (arith, aisle-small job shelf d j asked),
+      (λ e. omega arith),
+      asked .digits-of .usable,
+      asked .digits-of .small .1,
+      line-small job shelf d j asked ((j - 1) * 24 + o .h),
+      front-below job shelf d j asked (o .map) (o .h) (o .inv .1 .1),
+    )
 
 add-h : tie.Need-add-h Inv-loop μ-loop
-add-h c = omega (arith, aisle-small ((c .before .before .before .before .before .before .before .before .before .before .before .before .before .before) .args .job) ((c .before .before .before .before .before .before .before .before .before .before .before .before .before .before) .args .t3) ((c .before .before .before .before .before .before .before .before .before .before .before .before .before .before) .args .d) ((c .before .before .before .before .before .before .before .before .before .before .before .before .before .before) .args .j) ((c .before .before .before .before .before .before .before .before .before .before .before .before .before .before) .pre .1))
+add-h c =
+    let at-start = c .before .before .before .before .before .before .before .before .before .before .before .before .before .before in
+    let job = at-start .args .job in
+    let shelf = at-start .args .t3 in
+    let d = at-start .args .d in
+    let j = at-start .args .j in
+    let asked = at-start .pre .1 in
+    omega (arith, aisle-small job shelf d j asked)
 
 loop-less : tie.Need-loop-less Inv-loop μ-loop
 loop-less c = omega arith
 
 loop-again : tie.Need-loop-again Inv-loop μ-loop
-loop-again c = (omega arith, ((c .before .before .map-row) .ensures .kept ∙ (c .before .before .before .before .before .before .before .before .loop) .inv .1 .0, front-next ((c .before .before .before .before .before .before .before .before .before .before .before .before .before .before) .args .job) ((c .before .before .before .before .before .before .before .before .before .before .before .before .before .before) .args .t3) ((c .before .before .before .before .before .before .before .before .before .before .before .before .before .before) .args .d) ((c .before .before .before .before .before .before .before .before .before .before .before .before .before .before) .args .j) ((c .before .before .before .before .before .before .before .before .before .before .before .before .before .before) .pre .1) ((c .before .before .before .before .before .before .before .before .loop) .map) ((c .before .before .map-row) .last .0) ((c .before .before .before .before .before .before .before .before .loop) .h) (omega arith) ((c .before .before .before .before .before .before .before .before .loop) .inv .1 .1) ((c .before .before .map-row) .ensures)))
+loop-again c =
+    let at-start = c .before .before .before .before .before .before .before .before .before .before .before .before .before .before in
+    let o = c .before .before .before .before .before .before .before .before .loop in
+    let row = c .before .before .map-row in
+    let job = at-start .args .job in
+    let shelf = at-start .args .t3 in
+    let d = at-start .args .d in
+    let j = at-start .args .j in
+    let asked = at-start .pre .1 in
+    (omega arith, (row .ensures .kept ∙ o .inv .1 .0, front-next job shelf d j asked (o .map) (row .last .0) (o .h) (omega arith) (o .inv .1 .1) (row .ensures)))
 
 same-length : tie.Need-same-length Inv-loop μ-loop
 same-length c = (c .before .before .loop) .inv .1 .0 ∙ (c .before .before .before .before .before .plain-row) .ensures .kept
 
 returns : tie.Need-returns Inv-loop μ-loop
-returns c = let e : (c .before .before .loop) .h ≡ ((c .before .before .before .before .before .before .before .before) .args .job) .layout .cells = omega (arith, (c .before .before .loop) .inv .0) in (subst (λ n. FrontsTo (jobOf ((c .before .before .before .before .before .before .before .before) .args .job)) ((c .before .before .before .before .before .before .before .before) .args .j) (n + 1) ((c .before .before .loop) .map)) e ((c .before .before .loop) .inv .1 .1), (c .before .before .loop) .inv .1 .0 ∙ (c .before .before .before .before .before .plain-row) .ensures .kept)
+returns c =
+    let at-start = c .before .before .before .before .before .before .before .before in
+    let o = c .before .before .loop in
+    let job = at-start .args .job in
+    let j = at-start .args .j in
+    let e : o .h ≡ job .layout .cells = omega (arith, o .inv .0) in
+    (subst (λ n. FrontsTo (jobOf job) j (n + 1) (o .map)) e (o .inv .1 .1), o .inv .1 .0 ∙ (c .before .before .before .before .before .plain-row) .ensures .kept)
 
 pub fill-fronts-spec : {M : Type 1} → statement M
 fill-fronts-spec =

@@ -1,91 +1,93 @@
--- `router::demand::map_row` meets its contract.
+-- `router::demand::map_row` meets its contract: a copy where the cell supplies no line, else looked up in the table of its line.
 use native.Mathlib.Omega.{arith}
-use Prim.Native.Nat.{_+_, _*_, _-_, _≤_}
-use mathlib.Core.Path.{_≡_, _∙_, ap, subst}
+use Prim.Native.Nat.{ℕ, _+_, _*_, _-_, _≤_, _<_}
+use mathlib.Core.Path.{_≡_, sym, _∙_, ap}
 use lib.ListN.{getD}
-use Rattle.router.specs.Shelves.{lessLine, RowSet}
 use borrow.Author.Needs.{needs}
-use Rattle.router.proofs.DemandMaps.{set-none, set-one, other-row}
+use Rattle.router.specs.Shelves.{lessLine}
+use Rattle.router.proofs.Digits.{line-less}
+use Rattle.router.proofs.DemandMaps.{row-of}
 use Rattle.router.proofs.demand.map_row.Statement.{statement}
 use Rattle.router.proofs.demand.map_row.Tie as tie
 
-abbrev Inv-loop : tie.InvT-loop
-Inv-loop map₀ to from d line n weight q₀ map q = (q ≤ weight) × RowSet map₀ map to q (λ k. lessLine d line n (getD map₀ (from * 256 + k) 0))
+copy-row-requires : tie.Need-copy-row-requires
+copy-row-requires c κs = search needs
 
-abbrev μ-loop : tie.MeasureT-loop
-μ-loop map₀ to from d line n weight q₀ map q = weight - q
+sub-less-table : tie.Need-sub-less-table
+sub-less-table c = search needs
 
-loop-holds : tie.Need-loop-holds Inv-loop μ-loop
-loop-holds c = (omega arith, set-none ((c .before) .args .map .now) ((c .before) .args .to) (λ k. lessLine ((c .before) .args .d) ((c .before) .args .line) ((c .before) .args .n) (getD ((c .before) .args .map .now) (((c .before) .args .from) * 256 + k) 0)))
+mul-less-table : tie.Need-mul-less-table
+mul-less-table c = search needs
 
-mul-wide : tie.Need-mul-wide Inv-loop μ-loop
-mul-wide c = omega (arith, (c .before .before .before) .pre .0, (c .before .before .before) .pre .1, (c .before .before .before) .pre .2, (c .before .before .before) .pre .5, (c .before .loop) .inv .0, (c .before .loop) .inv .1 .kept)
+element-copy-out-less-table : tie.Need-element-copy-out-less-table
+element-copy-out-less-table c = search needs
 
-add-wide : tie.Need-add-wide Inv-loop μ-loop
-add-wide c = omega (arith, (c .before .before .before) .pre .0, (c .before .before .before) .pre .1, (c .before .before .before) .pre .2, (c .before .before .before) .pre .5, (c .before .loop) .inv .0, (c .before .loop) .inv .1 .kept)
+sub-less-table-2 : tie.Need-sub-less-table-2
+sub-less-table-2 c = search needs
 
-mul-wide-2 : tie.Need-mul-wide-2 Inv-loop μ-loop
-mul-wide-2 c = omega (arith, (c .before .before .before) .pre .0, (c .before .before .before) .pre .1, (c .before .before .before) .pre .2, (c .before .before .before) .pre .5, (c .before .loop) .inv .0, (c .before .loop) .inv .1 .kept)
+mul-less-table-2 : tie.Need-mul-less-table-2
+mul-less-table-2 c = search needs
 
-slice-read-wide : tie.Need-slice-read-wide Inv-loop μ-loop
-slice-read-wide c = omega (arith, (c .before .before .before .before) .pre .0, (c .before .before .before .before) .pre .1, (c .before .before .before .before) .pre .2, (c .before .before .before .before) .pre .5, (c .before .before .loop) .inv .0, (c .before .before .loop) .inv .1 .kept)
+element-copy-out-less-table-2 : tie.Need-element-copy-out-less-table-2
+element-copy-out-less-table-2 c = search needs
 
-wide-requires : tie.Need-wide-requires Inv-loop μ-loop
-wide-requires c κs = search needs
+less-table-requires : tie.Need-less-table-requires
+less-table-requires c κs =
+    let at-start = c .before .before .before .before in
+    let r = at-start .pre in
+    let l = at-start .args .line - 1 in
+    (r .4 .radix-positive l (omega (arith, r .6)), r .4 .stride-positive l (omega (arith, r .6)), r .5)
 
-less-line-requires : tie.Need-less-line-requires Inv-loop μ-loop
-less-line-requires c κs = ((c .before .before .before .before .before) .pre .4, (c .before .before .before .before .before) .pre .6)
+look-up-requires : tie.Need-look-up-requires
+look-up-requires c κs =
+    let r = c .before .before .before .before .before .before .before .pre in
+    (r .0, r .1, r .2, r .3, r .5, λ q l. omega (arith, r .5, r .7 q l))
 
-cast-map : tie.Need-cast-map Inv-loop μ-loop
-cast-map c = omega (arith, (c .less-line) .ensures .1, (c .before .wide) .ensures .1)
+same-length : tie.Need-same-length
+same-length c = search needs
 
-mul-map : tie.Need-mul-map Inv-loop μ-loop
-mul-map c = omega (arith, (c .before .before .before .before .before .before) .pre .0, (c .before .before .before .before .before .before) .pre .1, (c .before .before .before .before .before .before) .pre .2, (c .before .before .before .before .before .before) .pre .5, (c .before .before .before .before .loop) .inv .0, (c .before .before .before .before .loop) .inv .1 .kept)
+returns : tie.Need-returns
+returns c =
+    let at-copy = c .before .before in
+    let at-then = at-copy .before .before in
+    let p = at-then .before .before .args in
+    row-of (p .map .now) (at-copy .copy-row .last .0) (p .to) (p .t4 .weight) (λ q. getD (p .map .now) (p .from * 256 + q) 0)
+    (λ q. lessLine (p .t4) (p .line) (p .n) (getD (p .map .now) (p .from * 256 + q) 0))
+    (λ q l. sym (ap (λ k. lessLine (p .t4) k (p .n) (getD (p .map .now) (p .from * 256 + q) 0)) (at-then .if1 .taken)))
+    (at-copy .copy-row .ensures)
 
-add-map : tie.Need-add-map Inv-loop μ-loop
-add-map c = omega (arith, (c .before .before .before .before .before .before) .pre .0, (c .before .before .before .before .before .before) .pre .1, (c .before .before .before .before .before .before) .pre .2, (c .before .before .before .before .before .before) .pre .5, (c .before .before .before .before .loop) .inv .0, (c .before .before .before .before .loop) .inv .1 .kept)
+same-length-2 : tie.Need-same-length-2
+same-length-2 c = search needs
 
-mul-map-2 : tie.Need-mul-map-2 Inv-loop μ-loop
-mul-map-2 c = omega (arith, (c .before .before .before .before .before .before) .pre .0, (c .before .before .before .before .before .before) .pre .1, (c .before .before .before .before .before .before) .pre .2, (c .before .before .before .before .before .before) .pre .5, (c .before .before .before .before .loop) .inv .0, (c .before .before .before .before .loop) .inv .1 .kept)
-
-slice-write-map : tie.Need-slice-write-map Inv-loop μ-loop
-slice-write-map c = omega (arith, (c .before .before .before .before .before .before) .pre .0, (c .before .before .before .before .before .before) .pre .1, (c .before .before .before .before .before .before) .pre .2, (c .before .before .before .before .before .before) .pre .5, (c .before .before .before .before .loop) .inv .0, (c .before .before .before .before .loop) .inv .1 .kept)
-
-add-q : tie.Need-add-q Inv-loop μ-loop
-add-q c = omega (arith, (c .before .before .before .before .before .before) .pre .0, (c .before .before .before .before .before .before) .pre .1, (c .before .before .before .before .before .before) .pre .2, (c .before .before .before .before .before .before) .pre .5, (c .before .before .before .before .loop) .inv .0, (c .before .before .before .before .loop) .inv .1 .kept)
-
-loop-less : tie.Need-loop-less Inv-loop μ-loop
-loop-less c = omega arith
-
-loop-again : tie.Need-loop-again Inv-loop μ-loop
-loop-again c = (omega arith, set-one ((c .before .before .before .before .before .before) .args .map .now) ((c .before .before .before .before .loop) .map) ((c .before .before .before .before .before .before) .args .to) ((c .before .before .before .before .loop) .q) ((c .less-line) .result) (λ k. lessLine ((c .before .before .before .before .before .before) .args .d) ((c .before .before .before .before .before .before) .args .line) ((c .before .before .before .before .before .before) .args .n) (getD ((c .before .before .before .before .before .before) .args .map .now) (((c .before .before .before .before .before .before) .args .from) * 256 + k) 0)) (omega (arith, (c .before .before .before .before .before .before) .pre .0, (c .before .before .before .before .before .before) .pre .1, (c .before .before .before .before .before .before) .pre .2, (c .before .before .before .before .before .before) .pre .5, (c .before .before .before .before .loop) .inv .0, (c .before .before .before .before .loop) .inv .1 .kept)) ((c .before .before .before .before .loop) .inv .1) ((c .less-line) .ensures .0 ∙ ap (lessLine ((c .before .before .before .before .before .before) .args .d) ((c .before .before .before .before .before .before) .args .line) ((c .before .before .before .before .before .before) .args .n)) ((c .before .wide) .ensures .0 ∙ other-row ((c .before .before .before .before .before .before) .args .map .now) ((c .before .before .before .before .loop) .map) ((c .before .before .before .before .before .before) .args .to) ((c .before .before .before .before .loop) .q) ((c .before .before .before .before .before .before) .args .from) ((c .before .before .before .before .loop) .q) (λ k. lessLine ((c .before .before .before .before .before .before) .args .d) ((c .before .before .before .before .before .before) .args .line) ((c .before .before .before .before .before .before) .args .n) (getD ((c .before .before .before .before .before .before) .args .map .now) (((c .before .before .before .before .before .before) .args .from) * 256 + k) 0)) (omega (arith, (c .before .before .before .before .before .before) .pre .5)) (omega (arith, (c .before .before .before .before .before .before) .pre .5)) ((c .before .before .before .before .before .before) .pre .3) ((c .before .before .before .before .loop) .inv .1))))
-
-same-length : tie.Need-same-length Inv-loop μ-loop
-same-length c = (c .before .loop) .inv .1 .kept
-
-returns : tie.Need-returns Inv-loop μ-loop
-returns c = let e : ((c .before .loop) .q) ≡ ((c .before .before .before) .args .d) .weight = omega (arith, (c .before .loop) .inv .0) in subst (λ n. RowSet ((c .before .before .before) .args .map .now) ((c .before .loop) .map) ((c .before .before .before) .args .to) n (λ k. lessLine ((c .before .before .before) .args .d) ((c .before .before .before) .args .line) ((c .before .before .before) .args .n) (getD ((c .before .before .before) .args .map .now) (((c .before .before .before) .args .from) * 256 + k) 0))) e ((c .before .loop) .inv .1)
+returns-2 : tie.Need-returns-2
+returns-2 c =
+    let at-look = c .before .before in
+    let at-table = at-look .before .before .before in
+    let at-else = at-table .before .before .before in
+    let at-start = at-else .before .before in
+    let p = at-start .args in
+    let r = at-start .pre in
+    let table = at-table .less-table in
+    let old : ℕ → ℕ = λ q. getD (p .map .now) (p .from * 256 + q) 0 in
+    row-of (p .map .now) (at-look .look-up .last .0) (p .to) (p .t4 .weight) (λ q. getD (table .result) (getD (p .map .now) (p .from * 256 + q) 0) 0)
+    (λ q. lessLine (p .t4) (p .line) (p .n) (getD (p .map .now) (p .from * 256 + q) 0))
+    (λ q l. table .ensures (old q) (r .7 q l) ∙ line-less (p .t4) (p .line) (p .n) (old q) (omega (arith, at-else .if1 .left)))
+    (at-look .look-up .ensures)
 
 pub map-row-spec : {M : Type 1} → statement M
 map-row-spec =
     tie.close
     (tie.spec
-    Inv-loop
-    μ-loop
-    loop-holds
-    mul-wide
-    add-wide
-    mul-wide-2
-    slice-read-wide
-    wide-requires
-    less-line-requires
-    cast-map
-    mul-map
-    add-map
-    mul-map-2
-    slice-write-map
-    add-q
-    loop-less
-    loop-again
+    copy-row-requires
+    sub-less-table
+    mul-less-table
+    element-copy-out-less-table
+    sub-less-table-2
+    mul-less-table-2
+    element-copy-out-less-table-2
+    less-table-requires
+    look-up-requires
     same-length
-    returns)
+    returns
+    same-length-2
+    returns-2)

@@ -47,7 +47,8 @@ returns c =
     let at = c .before .before .before .before .back-at .ensures in
     let cost = ap₂ (λ m n. 2 * (m - n)) (c .before .aisle-length .ensures .0) (c .position-of .ensures .0) in
     cost
-    ∙ turn-yes (backAt (p .z .cells + 1) (p .kind) (p .i)) (inBackHalf (p .z) (p .i)) (p .halves) (backCost (p .z) (p .i)) (ap₂ (λ a f. a && (eqb (p .halves) 0 || f)) (sym at) (sym half) ∙ c .before .before .if1 .taken)
+    ∙ turn-yes (backAt (p .z .cells + 1) (p .kind) (p .i)) (inBackHalf (p .z) (p .i)) (p .halves) (backCost (p .z) (p .i))
+    (ap₂ (λ a f. a && (eqb (p .halves) 0 || f)) (sym at) (sym half) ∙ c .before .before .if1 .taken)
 
 returns-2 : tie.Need-returns-2
 unfolding backTurn

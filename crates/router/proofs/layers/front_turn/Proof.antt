@@ -30,7 +30,8 @@ returns c =
     let at = c .before .before .before .front-at .ensures in
     let cost = c .front-cost .ensures .0 in
     cost
-    ∙ turn-yes (frontAt (p .z .cells) (p .kind) (p .h)) (inFrontHalf (p .z) (p .h)) (p .halves) (frontCost (p .z) (p .kind) (p .h)) (ap₂ (λ a f. a && (eqb (p .halves) 0 || f)) (sym at) (sym half) ∙ c .before .if1 .taken)
+    ∙ turn-yes (frontAt (p .z .cells) (p .kind) (p .h)) (inFrontHalf (p .z) (p .h)) (p .halves) (frontCost (p .z) (p .kind) (p .h))
+    (ap₂ (λ a f. a && (eqb (p .halves) 0 || f)) (sym at) (sym half) ∙ c .before .if1 .taken)
 
 returns-2 : tie.Need-returns-2
 unfolding frontTurn
@@ -38,7 +39,8 @@ returns-2 c =
     let p = c .before .before .before .args in
     let half = c .before .front-half .ensures in
     let at = c .before .before .front-at .ensures in
-    turn-no (frontAt (p .z .cells) (p .kind) (p .h)) (inFrontHalf (p .z) (p .h)) (p .halves) (frontCost (p .z) (p .kind) (p .h)) (ap₂ (λ a f. a && (eqb (p .halves) 0 || f)) (sym at) (sym half) ∙ c .if1 .left)
+    turn-no (frontAt (p .z .cells) (p .kind) (p .h)) (inFrontHalf (p .z) (p .h)) (p .halves) (frontCost (p .z) (p .kind) (p .h))
+    (ap₂ (λ a f. a && (eqb (p .halves) 0 || f)) (sym at) (sym half) ∙ c .if1 .left)
 
 pub front-turn-spec : {M : Type 1} → statement M
 front-turn-spec =

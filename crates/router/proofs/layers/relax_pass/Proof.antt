@@ -41,7 +41,8 @@ sweep-requires c κs =
     let at-start = at-permute .before .before .before .before .before .before .before .before .before in
     let p = at-start .args in
     let r = at-start .pre in
-    sweep-ready (p .x) (p .row .now) (at-permute .permute .last .0) (p .fronts .now) (p .backs .now) (at-turns .turns-of .result .top) (r .0) (r .1) (omega (arith, at-permute .permute .ensures .kept)) (at-turns .turns-of .ensures .top)
+    sweep-ready (p .x) (p .row .now) (at-permute .permute .last .0) (p .fronts .now) (p .backs .now) (at-turns .turns-of .result .top) (r .0) (r .1)
+    (omega (arith, at-permute .permute .ensures .kept)) (at-turns .turns-of .ensures .top)
 
 same-length : tie.Need-same-length
 same-length c = search needs
@@ -56,7 +57,8 @@ returns c =
     let p = at-row .before .args in
     let r = at-row .before .pre in
     let steps = at-steps .steps-of in
-    pass-swept (p .x) (p .row .now) (p .after .now) (p .fronts .now) (p .backs .now) (steps .result) (passKind (p .pass)) (passHalves (p .pass)) (steps .ensures) (λ k. omega (arith, at-row .slice-known .given k))
+    pass-swept (p .x) (p .row .now) (p .after .now) (p .fronts .now) (p .backs .now) (steps .result) (passKind (p .pass)) (passHalves (p .pass))
+    (steps .ensures) (λ k. omega (arith, at-row .slice-known .given k))
     (r .0) (pass-kind (p .pass) (r .3)) (pass-mode (p .pass) (r .3)) (at-turns .turns-of .result) (at-turns .turns-of .ensures) (at-permute .permute .last .0) (at-permute .permute .ensures .done)
     (at-sweep .sweep .last .0) (at-sweep .sweep .ensures)
 
@@ -67,7 +69,8 @@ returns-2 c =
     let at-row = at-steps .before .before .before .before in
     let p = at-row .before .args in
     let steps = at-steps .steps-of in
-    pass-skipped (p .x) (p .row .now) (p .after .now) (p .fronts .now) (p .backs .now) (steps .result) (passKind (p .pass)) (passHalves (p .pass)) (steps .ensures) (λ k. omega (arith, at-row .slice-known .given k))
+    pass-skipped (p .x) (p .row .now) (p .after .now) (p .fronts .now) (p .backs .now) (steps .result) (passKind (p .pass)) (passHalves (p .pass))
+    (steps .ensures) (λ k. omega (arith, at-row .slice-known .given k))
     (subst (λ b. LivesAs (steps .result) b) (c .if1 .left) (at-lives .lives .ensures))
 
 pub relax-pass-spec : {M : Type 1} → statement M

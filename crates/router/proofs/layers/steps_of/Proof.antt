@@ -11,7 +11,8 @@ use Rattle.router.proofs.layers.steps_of.Statement.{statement}
 use Rattle.router.proofs.layers.steps_of.Tie as tie
 
 abbrev Inv-loop : tie.InvT-loop
-Inv-loop kind halves policy holds out₀ s₀ out s = (s ≤ 8) × (length out ≡ 8) × ((k : ℕ) → k < s → getD out k 0 ≡ stateCode (stepOf (policyOf policy) (sampleAction kind) (bit holds) (bit halves) (stateOf k)))
+Inv-loop kind halves policy holds out₀ s₀ out s = (s ≤ 8) × (length out ≡ 8) ×
+    ((k : ℕ) → k < s → getD out k 0 ≡ stateCode (stepOf (policyOf policy) (sampleAction kind) (bit holds) (bit halves) (stateOf k)))
 
 abbrev μ-loop : tie.MeasureT-loop
 μ-loop kind halves policy holds out₀ s₀ out s = 8 - s
@@ -41,7 +42,8 @@ loop-again c =
     let step = c .action-step in (
       omega arith,
       length-set (o .out) (o .s) (step .result) ∙ o .inv .1,
-      filled-one (λ k. stateCode (stepOf (policyOf (p .x .policy)) (sampleAction (p .kind)) (bit (p .x .holds)) (bit (p .halves)) (stateOf k))) (o .out) (o .s) (step .result) (omega (arith, o .inv .1)) (o .inv .2) (step .ensures),
+      filled-one (λ k. stateCode (stepOf (policyOf (p .x .policy)) (sampleAction (p .kind)) (bit (p .x .holds)) (bit (p .halves)) (stateOf k)))
+          (o .out) (o .s) (step .result) (omega (arith, o .inv .1)) (o .inv .2) (step .ensures),
     )
 
 returns : tie.Need-returns Inv-loop μ-loop

@@ -69,7 +69,8 @@ returns c =
     let p = at-fill .before .before .before .before .args in
     let o = c .before .loop in
     let e : o .p ≡ p .tried = omega (arith, o .inv .0) in (
-      after-all (p .next .now) (p .policy) (p .side) (p .width) (p .weight) (o .after) (p .tried) (subst (λ n. AfterTried (o .after) (p .next .now) (policyOf (p .policy)) (p .side) (p .width) (p .weight) n) e (o .inv .2)),
+      after-all (p .next .now) (p .policy) (p .side) (p .width) (p .weight) (o .after) (p .tried)
+          (subst (λ n. AfterTried (o .after) (p .next .now) (policyOf (p .policy)) (p .side) (p .width) (p .weight) n) e (o .inv .2)),
       o .inv .1 ∙ at-fill .fill-none .ensures .1,
     )
 

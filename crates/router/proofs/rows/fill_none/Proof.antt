@@ -30,7 +30,14 @@ loop-less : tie.Need-loop-less Inv-loop μ-loop
 loop-less c = omega arith
 
 loop-again : tie.Need-loop-again Inv-loop μ-loop
-loop-again c = (omega arith, (length-set ((c .before .loop) .row) ((c .before .loop) .i) 65535 ∙ (c .before .loop) .inv .1 .0, filled-one (λ k. 65535) ((c .before .loop) .row) ((c .before .loop) .i) 65535 (omega (arith, (c .before .loop) .inv .1 .0)) ((c .before .loop) .inv .1 .1) refl))
+loop-again c = (
+  omega arith,
+  (
+    length-set ((c .before .loop) .row) ((c .before .loop) .i) 65535 ∙ (c .before .loop) .inv .1 .0,
+    filled-one (λ k. 65535)
+        ((c .before .loop) .row) ((c .before .loop) .i) 65535 (omega (arith, (c .before .loop) .inv .1 .0)) ((c .before .loop) .inv .1 .1) refl,
+  ),
+)
 
 same-length : tie.Need-same-length Inv-loop μ-loop
 same-length c = (c .before .loop) .inv .1 .0

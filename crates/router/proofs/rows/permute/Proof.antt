@@ -34,8 +34,11 @@ loop-less c = omega arith
 loop-again : tie.Need-loop-again Inv-loop μ-loop
 loop-again c =
     let p = c .before .before .before .before .before .before .before .before .args in
-    let o = c .before .before .before .before .before .loop in
-    (omega arith, permuted-one (p .perm .now) (o .perm) (c .before .before .permute-state .last .0) (p .after .now) (p .t3) (p .weight) (o .s) (omega arith) (o .inv .1) (c .before .before .permute-state .ensures))
+    let o = c .before .before .before .before .before .loop in (
+      omega arith,
+      permuted-one (p .perm .now) (o .perm) (c .before .before .permute-state .last .0) (p .after .now) (p .t3) (p .weight) (o .s)
+          (omega arith) (o .inv .1) (c .before .before .permute-state .ensures),
+    )
 
 same-length : tie.Need-same-length Inv-loop μ-loop
 same-length c = c .before .loop .inv .1 .kept

@@ -44,7 +44,10 @@ same-length : tie.Need-same-length Inv-loop μ-loop
 same-length c = c .before .loop .inv .1 .kept
 
 returns : tie.Need-returns Inv-loop μ-loop
-returns c = let p = c .before .before .args in let e : c .before .loop .s ≡ 8 = omega (arith, c .before .loop .inv .0) in subst (λ n. StoredTo (p .row .now) (c .before .loop .row) (p .t3) (p .at) n) e (c .before .loop .inv .1)
+returns c =
+    let p = c .before .before .args in
+    let e : c .before .loop .s ≡ 8 = omega (arith, c .before .loop .inv .0) in
+    subst (λ n. StoredTo (p .row .now) (c .before .loop .row) (p .t3) (p .at) n) e (c .before .loop .inv .1)
 
 pub put-spec : {M : Type 1} → statement M
 put-spec =

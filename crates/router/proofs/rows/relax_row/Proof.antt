@@ -31,19 +31,25 @@ wide-requires : tie.Need-wide-requires Inv-loop μ-loop
 wide-requires c κs = search needs
 
 mul-from : tie.Need-mul-from Inv-loop μ-loop
-mul-from c = omega (arith, c .before .before .before .before .before .before .before .pre .small, c .before .before .before .before .before .before .before .pre .below (c .before .before .before .loop .q) (omega arith), c .wide .ensures .0)
+mul-from c =
+    omega (arith, c .before .before .before .before .before .before .before .pre .small, c .before .before .before .before .before .before .before .pre .below (c .before .before .before .loop .q) (omega arith), c .wide .ensures .0)
 
 mul-shorter : tie.Need-mul-shorter Inv-loop μ-loop
 mul-shorter c = omega (arith, c .before .before .before .before .before .before .before .before .pre .small)
 
 shorter-requires : tie.Need-shorter-requires Inv-loop μ-loop
-shorter-requires c κs = let r = c .before .before .before .before .before .before .before .before .pre in let o = c .before .before .before .before .loop in (omega (arith, r .row-long, o .inv .1 .kept), omega (arith, r .perm-long, r .below (o .q) (omega arith), c .before .wide .ensures .0))
+shorter-requires c κs =
+    let r = c .before .before .before .before .before .before .before .before .pre in
+    let o = c .before .before .before .before .loop in
+    (omega (arith, r .row-long, o .inv .1 .kept), omega (arith, r .perm-long, r .below (o .q) (omega arith), c .before .wide .ensures .0))
 
 mul-put : tie.Need-mul-put Inv-loop μ-loop
 mul-put c = omega (arith, c .before .before .before .before .before .before .before .before .before .before .pre .small)
 
 put-requires : tie.Need-put-requires Inv-loop μ-loop
-put-requires c κs = let o = c .before .before .before .before .before .before .loop in omega (arith, c .before .before .before .before .before .before .before .before .before .before .pre .row-long, o .inv .1 .kept)
+put-requires c κs =
+    let o = c .before .before .before .before .before .before .loop in
+    omega (arith, c .before .before .before .before .before .before .before .before .before .before .pre .row-long, o .inv .1 .kept)
 
 add-q : tie.Need-add-q Inv-loop μ-loop
 add-q c = omega arith
@@ -56,14 +62,20 @@ loop-again c =
     let p = c .before .before .before .before .before .before .before .before .before .before .before .before .before .args in
     let o = c .before .before .before .before .before .before .before .before .before .loop in (
       omega arith,
-      row-one (p .row .now) (o .row) (c .before .before .put .last .0) (c .before .before .before .before .shorter .result) (p .perm .now) (p .map .now) (p .base) (p .cost) (o .q) (c .before .before .before .before .before .before .wide .result * 8) (o .inv .1) (c .before .before .before .before .shorter .ensures) (c .before .before .put .ensures) (ap (λ n. n * 8) (c .before .before .before .before .before .before .wide .ensures .0)),
+      row-one (p .row .now) (o .row) (c .before .before .put .last .0) (c .before .before .before .before .shorter .result) (p .perm .now)
+          (p .map .now) (p .base) (p .cost) (o .q) (c .before .before .before .before .before .before .wide .result * 8) (o .inv .1)
+          (c .before .before .before .before .shorter .ensures) (c .before .before .put .ensures) (ap (λ n. n * 8) (c .before .before .before .before .before .before .wide .ensures .0)),
     )
 
 same-length : tie.Need-same-length Inv-loop μ-loop
 same-length c = c .before .loop .inv .1 .kept
 
 returns : tie.Need-returns Inv-loop μ-loop
-returns c = let p = c .before .before .before .before .before .args in let o = c .before .loop in let e : o .q ≡ p .weight = omega (arith, o .inv .0) in subst (λ n. RelaxedRow (p .row .now) (o .row) (p .perm .now) (p .map .now) (p .base) (p .cost) n) e (o .inv .1)
+returns c =
+    let p = c .before .before .before .before .before .args in
+    let o = c .before .loop in
+    let e : o .q ≡ p .weight = omega (arith, o .inv .0) in
+    subst (λ n. RelaxedRow (p .row .now) (o .row) (p .perm .now) (p .map .now) (p .base) (p .cost) n) e (o .inv .1)
 
 pub relax-row-spec : {M : Type 1} → statement M
 relax-row-spec =
