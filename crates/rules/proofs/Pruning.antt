@@ -241,7 +241,7 @@ module _ {A : Type 0} (len : A → ℕ) where
   shorter-pair : (x : A) (o : Option A) → shorterOf (λ (p : ℕ × A). p .0) (pair x) (paired o) ≡ pair (shorterOf len x o)
   unfolding shorterOf
   shorter-pair x none = refl
-  shorter-pair x (some y) = pair-either _ _ _
+  shorter-pair x (some y) = simp (pair-either) refl
 
   quickest-first : (xs : List A) → quickest xs ≡ paired (firstShortest len xs)
   quickest-first [] = refl
