@@ -6,7 +6,7 @@
 // A demand is a number in mixed radix. Each order line is a digit, what the line still lacks, and its radix is its quantity + 1;
 // the first line is the lowest digit. So 0 lacks nothing, and weight - 1 the whole list.
 // The states have the numbers of machine/src/lib.rt: 0 nothing, 1 closed, 2 atFront, 3 atBack, 4 odd, 5 joined, 6 split, 7 ending,
-// 8 dead. A row has no place for 8; only the row behind the actions has, at demand * 9 + state.
+// 8 dead. A row has no place for 8, whose value is 65,535.
 mod candidates;
 mod choices;
 mod demand;
