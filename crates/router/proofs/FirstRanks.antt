@@ -13,10 +13,10 @@ use lib.ListN.{length, getD}
 use Rattle.rules.specs.declared.Action.{Action}
 use Rattle.rules.specs.Lists.{firstOf}
 use Rattle.optimum.specs.Least.{sumUpTo, firstAt}
-use Rattle.router.specs.declared.candidates.Candidate.{Candidate}
-use Rattle.router.specs.declared.layers.Aisle.{Aisle}
-use Rattle.router.specs.Candidates.{candidateOf, candidateLength}
-use Rattle.router.specs.Layers.{stepCode, leftCode, throughCandidate, throughAction}
+use Rattle.table.specs.declared.candidates.Candidate.{Candidate}
+use Rattle.table.specs.declared.layers.Aisle.{Aisle}
+use Rattle.table.specs.Candidates.{candidateOf, candidateLength}
+use Rattle.table.specs.Layers.{stepCode, leftCode, throughCandidate, throughAction}
 use Rattle.router.specs.Choosing.{FirstRank}
 
 -- the way over an action, from its parts

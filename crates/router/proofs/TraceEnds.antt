@@ -29,7 +29,7 @@ use Rattle.values.specs.declared.Stage.{Stage}
 use Rattle.values.specs.declared.PlanValue.{PlanValue}
 use Rattle.values.specs.Values.{planOf}
 use Rattle.router.specs.Tracing.{stagesRest, Traced}
-use Rattle.router.proofs.Composition.{whole-code}
+use Rattle.demand.proofs.Composition.{whole-code}
 
 module _ (job : Job) (ok : Admitted job) where
   -- the whole demand has the last number below the weight

@@ -25,25 +25,26 @@ use Rattle.optimum.specs.Routing.{noTour, sat, routing, allActions, restOf}
 use Rattle.optimum.proofs.Choice.{first-agree, first-at-cong, first-at-holds}
 use Rattle.optimum.proofs.Radix.{radices-positive, gains-length, less-code}
 use Rattle.values.specs.declared.Stage.{Stage}
-use Rattle.router.specs.declared.candidates.Candidate.{Candidate}
-use Rattle.router.specs.declared.layers.Aisle.{Aisle}
+use Rattle.table.specs.declared.candidates.Candidate.{Candidate}
+use Rattle.table.specs.declared.layers.Aisle.{Aisle}
 use Rattle.machine.specs.States.{stateCode, stateOf}
 use Rattle.machine.specs.Steps.{policyOf, policyCode, passageOf, crossOf}
-use Rattle.router.specs.Candidates.{candidateOf, actionOf}
-use Rattle.router.specs.Rows.{throughPassage}
-use Rattle.router.specs.Layers.{stepCode, leftCode, throughAction}
-use Rattle.router.specs.Maps.{MapsReady}
-use Rattle.router.specs.Choosing.{leastAfter, FirstRank}
-use Rattle.router.specs.TableHolds.{sideOf, aisleOf, triedAt, RowHolds}
+use Rattle.table.specs.Candidates.{candidateOf, actionOf}
+use Rattle.table.specs.Rows.{throughPassage}
+use Rattle.table.specs.Layers.{stepCode, leftCode, throughAction}
+use Rattle.demand.specs.Maps.{MapsReady}
+use Rattle.table.specs.Rows.{leastAfter}
+use Rattle.router.specs.Choosing.{FirstRank}
+use Rattle.table.specs.TableHolds.{sideOf, aisleOf, triedAt, RowHolds}
 use Rattle.router.specs.Tracing.{stagesRest, Traced}
 use Rattle.machine.proofs.StepLaws.{state-of-code}
-use Rattle.router.proofs.StepLaws.{cross-of, step-code}
-use Rattle.router.proofs.Passages.{passage-tried, tried-length}
-use Rattle.router.proofs.ActionRows.{ranked-fits}
-use Rattle.router.proofs.Geometry.{action-of-candidate}
-use Rattle.router.proofs.TableFills.{tried-five}
+use Rattle.table.proofs.StepLaws.{cross-of, step-code}
+use Rattle.table.proofs.PassageLaws.{passage-tried, tried-length}
+use Rattle.table.proofs.ActionRows.{ranked-fits}
+use Rattle.table.proofs.Geometry.{action-of-candidate}
+use Rattle.table.proofs.TableFills.{tried-five}
 use Rattle.router.proofs.FirstRanks.{rank-within}
-use Rattle.router.proofs.TableValues.{values, behind, tried-passages, value-dead, below-weight, passage-value, least-after-value, left-code, through-value}
+use Rattle.table.proofs.TableValues.{values, behind, tried-passages, value-dead, below-weight, passage-value, least-after-value, left-code, through-value}
 
 -- a way on that leads somewhere started from something found
 on-found : {A B : Type 0} (o : Option A) (g : A → Option B) (y : B) → onFrom o g ≡ some y → (x : A) × (o ≡ some x) × (g x ≡ some y)

@@ -2,15 +2,7 @@
 use Prim.Native.Nat.{ℕ, _≤_, _<_}
 use mathlib.Core.Path.{_≡_}
 use mathlib.Core.List.{List}
-use lib.ListN.{length, getD, take}
-use Rattle.rules.specs.declared.Policy.{Policy}
-use Rattle.rules.specs.BestPlan.{passagesInOrder}
-use Rattle.optimum.specs.Routing.{leastOf}
-use Rattle.router.specs.Rows.{throughPassage}
-
--- the least over the passages from a state and a demand behind the actions
-unfoldable pub leastAfter : List ℕ → ℕ → Policy → ℕ → ℕ → ℕ → ℕ → ℕ
-leastAfter next tried policy side width s q = leastOf (throughPassage next policy side width s q) (take tried passagesInOrder)
+use lib.ListN.{length, getD}
 
 -- the number of the first element at which f has the value v; the length where there is none
 pub record FirstRank {A : Type 0} (f : A → ℕ) (v : ℕ) (xs : List A) (d : A) (r : ℕ) : Type 0 where

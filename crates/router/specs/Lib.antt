@@ -1,10 +1,2 @@
-pub mod Candidates
-pub mod Rows
-pub mod Maps
-pub mod Turns
-pub mod Layers
-pub mod TableHolds
 pub mod Choosing
 pub mod Tracing
-pub mod Stored
-pub mod Shelves

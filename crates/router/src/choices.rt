@@ -1,26 +1,27 @@
 // The first action and the first passage that attain a value of the table, found by comparing sums.
-use crate::candidates::Candidate;
-use crate::candidates::action_at;
-use crate::candidates::action_count;
-use crate::candidates::action_length;
-use crate::candidates::keeps_halves;
-use crate::layers::Aisle;
-use crate::rows::best_after;
-use crate::rows::through;
-use crate::rows::wide;
+use crate::ranks::action_at;
+use crate::ranks::action_count;
+use demand::digits::wide;
 use machine::action_step;
-ghost use mathlib.Core.Path.{_≡_};
-ghost use mathlib.Core.Bool.{true};
-ghost use Prim.Native.Nat.{ℕ, _+_, _*_, _≤_, _<_};
-ghost use lib.ListN.{length, getD, take};
+use machine::passage_step;
+use table::candidates::Candidate;
+use table::candidates::action_length;
+use table::candidates::keeps_halves;
+use table::layers::Aisle;
+use table::passages::passage_length;
+ghost use Prim.Native.Nat.{_*_, _+_, _<_, _≤_};
+ghost use Rattle.machine.specs.Steps.{passageOf, policyOf};
+ghost use Rattle.optimum.specs.Routing.{leastOf};
+ghost use Rattle.router.specs.Choosing.{FirstRank};
+ghost use Rattle.table.specs.Layers.{AisleReady, leftCode, stepCode, throughAction};
+ghost use Rattle.table.specs.Rows.{NextReady, leastAfter, throughPassage};
+ghost use Rattle.rules.specs.BestPlan.{actionsOf, passagesInOrder};
+ghost use Rattle.rules.specs.Store.{layoutInBounds};
 ghost use Rattle.rules.specs.declared.Action.the-variants.{Void};
 ghost use Rattle.rules.specs.declared.Passage.the-variants.{P00};
-ghost use Rattle.rules.specs.Store.{layoutInBounds};
-ghost use Rattle.rules.specs.BestPlan.{actionsOf, passagesInOrder};
-ghost use Rattle.machine.specs.Steps.{policyOf};
-ghost use Rattle.router.specs.Rows.{NextReady, throughPassage};
-ghost use Rattle.router.specs.Layers.{stepCode, leftCode, throughAction, AisleReady};
-ghost use Rattle.router.specs.Choosing.{leastAfter, FirstRank};
+ghost use lib.ListN.{getD, length, take};
+ghost use mathlib.Core.Bool.{true};
+ghost use mathlib.Core.Path.{_≡_};
 
 // The number of the state after a candidate.
 pub fn step_of(x: Aisle, c: Candidate, s: usize) -> usize
@@ -114,4 +115,50 @@ pub fn choose_passage(
         p += 1;
     }
     tried
+}
+
+// The way on over one passage, from a state behind the actions.
+pub fn through(
+    next: &[u16],
+    policy: usize,
+    side: usize,
+    width: usize,
+    s: usize,
+    q: usize,
+    passage: usize,
+) -> usize
+    requires { ⌜ NextReady (now next) policy side width s q × (passage < 5) ⌝ }
+    ensures { λ r. ⌜ (r ≡ throughPassage (now (next .entry)) (policyOf policy) side width s q (passageOf passage)) × (r ≤ 65535) ⌝ }
+{
+    let to = passage_step(policy, passage, side, s);
+    if to == 8 {
+        return 65535;
+    }
+    let sum = passage_length(passage, width) + wide(next[q * 8 + to]);
+    if sum < 65535 { sum } else { 65535 }
+}
+
+// The least over the first `tried` passages.
+pub fn best_after(
+    next: &[u16],
+    tried: usize,
+    policy: usize,
+    side: usize,
+    width: usize,
+    s: usize,
+    q: usize,
+) -> usize
+    requires { ⌜ NextReady (now next) policy side width s q × (tried ≤ 5) ⌝ }
+    ensures { λ r. ⌜ (r ≡ leastOf (throughPassage (now (next .entry)) (policyOf policy) side width s q) (take tried passagesInOrder)) × (r ≤ 65535) ⌝ }
+{
+    let mut best = 65535;
+    let mut p = 0;
+    while p < tried {
+        let v = through(next, policy, side, width, s, q, p);
+        if v < best {
+            best = v;
+        }
+        p += 1;
+    }
+    best
 }

@@ -1,39 +1,70 @@
 // The plan that the table leads to, aisle by aisle.
-use crate::candidates::action_at;
+use crate::choices::best_after;
 use crate::choices::choose_action;
 use crate::choices::choose_passage;
 use crate::choices::left_of;
 use crate::choices::step_of;
-use crate::demand::Digits;
-use crate::demand::Shelf;
-use crate::demand::fill_maps;
-use crate::filling::numbers_of;
-use crate::filling::tried_of;
-use crate::rows::best_after;
-use crate::rows::wide;
-use crate::stored::load_row;
-use crate::table::action_of;
-use crate::table::end_row;
-use crate::table::passage_of;
-use crate::table::side_of;
+use crate::ranks::action_at;
+use demand::digits::Digits;
+use demand::digits::wide;
+use demand::maps::fill_maps;
+use demand::shelf::Shelf;
 use machine::passage_step;
 use rules::Action;
 use rules::Passage;
+use table::candidates::Candidate;
+use table::filling::end_row;
+use table::filling::numbers_of;
+use table::filling::side_of;
+use table::filling::tried_of;
+use table::stored::load_row;
 use values::JobValue;
 use values::PlanValue;
 use values::Stage;
-ghost use mathlib.Core.Path.{_≡_};
-ghost use Prim.Native.Nat.{ℕ, suc, _+_, _*_, _-_, _≤_, _<_};
-ghost use lib.ListN.{length, getD};
-ghost use Rattle.rules.specs.BestPlan.{bestPlan};
-ghost use Rattle.optimum.specs.Table.{value};
-ghost use Rattle.optimum.specs.Demand.{radices, demandOf};
-ghost use Rattle.optimum.specs.Routing.{routing, allActions};
-ghost use Rattle.values.specs.Values.{jobOf, planOf, Sound};
+ghost use Prim.Native.Nat.{_*_, _+_, _-_, _<_, _≤_, suc};
 ghost use Rattle.machine.specs.States.{stateOf};
-ghost use Rattle.router.specs.TableHolds.{RowHolds, TableFrom};
-ghost use Rattle.router.specs.Shelves.{DigitsOf, MapsAsked, ShelfOf};
+ghost use Rattle.machine.specs.Steps.{passageOf};
+ghost use Rattle.optimum.specs.Demand.{demandOf, radices};
+ghost use Rattle.optimum.specs.Routing.{allActions, routing};
+ghost use Rattle.optimum.specs.Table.{value};
+ghost use Rattle.table.specs.Candidates.{actionOf};
+ghost use Rattle.demand.specs.Shelves.{DigitsOf, MapsAsked, ShelfOf};
+ghost use Rattle.table.specs.TableHolds.{RowHolds, TableFrom};
 ghost use Rattle.router.specs.Tracing.{Traced};
+ghost use Rattle.rules.specs.BestPlan.{bestPlan};
+ghost use Rattle.values.specs.Values.{Sound, jobOf, planOf};
+ghost use lib.ListN.{length};
+ghost use mathlib.Core.Path.{_≡_};
+
+// The passage of a number.
+pub fn passage_of(p: usize) -> Passage
+    ensures { λ r. ⌜ r ≡ passageOf p ⌝ }
+{
+    match p {
+        0 => Passage::P00,
+        1 => Passage::P02,
+        2 => Passage::P11,
+        3 => Passage::P20,
+        _ => Passage::P22,
+    }
+}
+
+// The action of a candidate.
+pub fn action_of(c: Candidate) -> Action
+    ensures { λ r. ⌜ r ≡ actionOf c ⌝ }
+{
+    let kind = c.kind;
+    let front = c.front;
+    let back = c.back;
+    match kind {
+        0 => Action::Void,
+        1 => Action::Bottom(front),
+        2 => Action::Top(back),
+        3 => Action::Gap(front, back),
+        4 => Action::Once,
+        _ => Action::Twice,
+    }
+}
 
 // Where the trace stands: the stages found, and the number of the state and of the demand behind them. At the start that is 0,
 // nothing trodden, and weight - 1, the whole list.

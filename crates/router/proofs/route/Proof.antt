@@ -11,7 +11,7 @@ use Rattle.optimum.specs.Demand.{radices, demandOf}
 use Rattle.optimum.specs.Routing.{routing, allActions}
 use Rattle.rules.specs.Machine.{nothing}
 use lib.ListN.{replicate}
-use Rattle.router.proofs.Geometry.{within}
+use Rattle.table.proofs.Geometry.{within}
 use Rattle.router.proofs.TraceEnds.{start-length}
 use Rattle.router.proofs.route.Statement.{statement}
 use Rattle.router.proofs.route.Tie as tie

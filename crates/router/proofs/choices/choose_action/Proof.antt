@@ -4,12 +4,12 @@ use Prim.Native.Nat.{_+_, _*_, _-_, _≤_, _<_}
 use mathlib.Core.Path.{_≡_, sym, _∙_}
 use Rattle.router.proofs.FirstRanks.{NoneBefore, rank-found, rank-none}
 use borrow.Author.Count.{below-more}
-use Rattle.router.specs.Layers.{throughAction}
+use Rattle.table.specs.Layers.{throughAction}
 use Rattle.rules.specs.BestPlan.{actionsOf}
 use Rattle.rules.specs.declared.Action.the-variants.{Void}
-use Rattle.router.specs.Choosing.{leastAfter}
+use Rattle.table.specs.Rows.{leastAfter}
 use Rattle.machine.specs.Steps.{policyOf}
-use Rattle.router.proofs.Geometry.{within}
+use Rattle.table.proofs.Geometry.{within}
 use mathlib.Core.Path.{subst}
 use lib.ListN.{getD}
 use Rattle.router.proofs.choices.choose_action.Statement.{statement}

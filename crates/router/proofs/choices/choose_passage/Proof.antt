@@ -4,11 +4,11 @@ use Prim.Native.Nat.{_+_, _*_, _-_, _≤_, _<_}
 use mathlib.Core.Path.{_≡_, sym, _∙_, ap}
 use Rattle.router.proofs.FirstRanks.{NoneBefore, rank-found, rank-none}
 use borrow.Author.Count.{below-more}
-use Rattle.router.specs.Rows.{throughPassage}
+use Rattle.table.specs.Rows.{throughPassage}
 use Rattle.rules.specs.BestPlan.{passagesInOrder}
 use Rattle.rules.specs.declared.Passage.the-variants.{P00}
 use lib.ListN.{take}
-use Rattle.router.proofs.Passages.{passage-tried, tried-length}
+use Rattle.table.proofs.PassageLaws.{passage-tried, tried-length}
 use Rattle.machine.specs.Steps.{policyOf}
 use lib.ListN.{getD}
 use Rattle.router.proofs.choices.choose_passage.Statement.{statement}

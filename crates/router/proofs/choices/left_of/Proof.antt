@@ -2,7 +2,7 @@
 use borrow.Author.Needs.{needs}
 use Prim.Native.Nat.{_+_, _*_, _≤_, _<_}
 use mathlib.Core.Path.{_≡_, _∙_, ap}
-use Rattle.router.specs.Layers.{leftCode}
+use Rattle.table.specs.Layers.{leftCode}
 use lib.ListN.{getD}
 use Rattle.router.proofs.choices.left_of.Statement.{statement}
 use Rattle.router.proofs.choices.left_of.Tie as tie

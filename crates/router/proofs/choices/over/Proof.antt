@@ -3,14 +3,14 @@ use borrow.Author.Needs.{needs}
 use native.Mathlib.Omega.{arith}
 use Prim.Native.Nat.{_+_, _*_, _≤_, _<_}
 use mathlib.Core.Path.{_≡_, sym, _∙_}
-use Rattle.router.specs.Layers.{leftCode}
-use Rattle.router.proofs.ActionRows.{ranked-fits, Parts, candidate-parts}
-use Rattle.router.proofs.Geometry.{within}
-use Rattle.router.specs.declared.candidates.Candidate.{Candidate}
+use Rattle.table.specs.Layers.{leftCode}
+use Rattle.table.proofs.ActionRows.{ranked-fits, Parts, candidate-parts}
+use Rattle.table.proofs.Geometry.{within}
+use Rattle.table.specs.declared.candidates.Candidate.{Candidate}
 use mathlib.Core.Path.{subst}
 use Rattle.rules.specs.BestPlan.{actionsOf}
 use Rattle.rules.specs.declared.Action.the-variants.{Void}
-use Rattle.router.specs.Choosing.{leastAfter}
+use Rattle.table.specs.Rows.{leastAfter}
 use lib.ListN.{getD}
 use Rattle.router.proofs.FirstRanks.{over-parts}
 use Rattle.machine.specs.Steps.{policyOf}

@@ -2,10 +2,10 @@
 use borrow.Author.Needs.{needs}
 use Prim.Native.Nat.{_+_, _*_, _≤_, _<_}
 use mathlib.Core.Path.{_≡_, sym, _∙_, ap}
-use Rattle.router.specs.Layers.{stepCode}
+use Rattle.table.specs.Layers.{stepCode}
 use Rattle.machine.specs.Steps.{policyOf, sampleAction, bit, stepOf}
 use Rattle.machine.specs.States.{stateCode, stateOf}
-use Rattle.router.proofs.ActionRows.{step-small}
+use Rattle.table.proofs.ActionRows.{step-small}
 use mathlib.Core.Path.{subst}
 use Rattle.router.proofs.choices.step_of.Statement.{statement}
 use Rattle.router.proofs.choices.step_of.Tie as tie

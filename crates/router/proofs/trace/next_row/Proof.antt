@@ -5,9 +5,9 @@ use mathlib.Core.Path.{_≡_, _∙_}
 use mathlib.Core.Path.{subst}
 use native.Mathlib.Numerals.{add-one}
 use Rattle.values.specs.Values.{jobOf}
-use Rattle.router.specs.TableHolds.{RowHolds}
-use Rattle.router.proofs.Geometry.{within}
-use Rattle.router.proofs.TableFills.{end-holds, row-loaded}
+use Rattle.table.specs.TableHolds.{RowHolds}
+use Rattle.table.proofs.Geometry.{within}
+use Rattle.table.proofs.TableFills.{end-holds, row-loaded}
 use Rattle.router.proofs.trace.next_row.Statement.{statement}
 use Rattle.router.proofs.trace.next_row.Tie as tie
 

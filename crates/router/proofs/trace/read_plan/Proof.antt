@@ -9,9 +9,9 @@ use mathlib.Core.Path.{subst}
 use native.Mathlib.Numerals.{add-one}
 use Rattle.values.specs.Values.{jobOf}
 use Rattle.router.specs.Tracing.{Traced}
-use Rattle.router.specs.TableHolds.{RowHolds}
-use Rattle.router.specs.Shelves.{MapsAsked}
-use Rattle.router.proofs.Geometry.{within}
+use Rattle.table.specs.TableHolds.{RowHolds}
+use Rattle.demand.specs.Shelves.{MapsAsked}
+use Rattle.table.proofs.Geometry.{within}
 use Rattle.router.proofs.TraceEnds.{trace-start, trace-end}
 use Rattle.optimum.specs.Table.{value}
 use Rattle.optimum.specs.Demand.{radices, demandOf}

@@ -9,17 +9,17 @@ use native.Mathlib.Numerals.{add-one}
 use Rattle.rules.specs.BestPlan.{actionsOf}
 use Rattle.rules.specs.declared.Action.the-variants.{Void}
 use Rattle.values.specs.Values.{jobOf}
-use Rattle.router.specs.declared.candidates.Candidate.{Candidate}
-use Rattle.router.specs.declared.layers.Aisle.{Aisle}
-use Rattle.router.specs.Maps.{MapsReady}
-use Rattle.router.specs.Layers.{AisleReady, leftCode}
-use Rattle.router.specs.Shelves.{MapsAsked}
-use Rattle.router.specs.Choosing.{leastAfter}
-use Rattle.router.specs.TableHolds.{sideOf, aisleOf, triedAt}
-use Rattle.router.proofs.Geometry.{within}
-use Rattle.router.proofs.ActionRows.{ranked-fits, Parts, candidate-parts}
-use Rattle.router.proofs.StepLaws.{side-below}
-use Rattle.router.proofs.TableFills.{aisle-ready}
+use Rattle.table.specs.declared.candidates.Candidate.{Candidate}
+use Rattle.table.specs.declared.layers.Aisle.{Aisle}
+use Rattle.demand.specs.Maps.{MapsReady}
+use Rattle.table.specs.Layers.{AisleReady, leftCode}
+use Rattle.demand.specs.Shelves.{MapsAsked}
+use Rattle.table.specs.Rows.{leastAfter}
+use Rattle.table.specs.TableHolds.{sideOf, aisleOf, triedAt}
+use Rattle.table.proofs.Geometry.{within}
+use Rattle.table.proofs.ActionRows.{ranked-fits, Parts, candidate-parts}
+use Rattle.table.proofs.StepLaws.{side-below}
+use Rattle.table.proofs.TableFills.{aisle-ready}
 use Rattle.router.proofs.TraceLaws.{rank-in, passage-in, trace-on}
 use Rattle.router.proofs.trace.trace_aisle.Statement.{statement}
 use Rattle.router.proofs.trace.trace_aisle.Tie as tie

@@ -1,0 +1,5 @@
+pub mod Filling
+pub mod DigitLaws
+pub mod Shelving
+pub mod DemandMaps
+pub mod Composition

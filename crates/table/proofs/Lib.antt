@@ -1,0 +1,13 @@
+pub mod Geometry
+pub mod Relaxing
+pub mod Bridge
+pub mod Sweeping
+pub mod PassageLaws
+pub mod TurnLaws
+pub mod HalfSteps
+pub mod ActionRows
+pub mod PassLaws
+pub mod Parting
+pub mod StepLaws
+pub mod TableValues
+pub mod TableFills

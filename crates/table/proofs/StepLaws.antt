@@ -1,0 +1,85 @@
+-- The steps that the tables hold are the machine's.
+use Prim.Native.Nat.{ℕ, _≤_, _<_}
+use native.Mathlib.Omega.{arith}
+use mathlib.Core.Path.{_≡_, refl, sym, ap}
+use mathlib.Core.Bool.{Bool, true, false, cond}
+use lib.Dec.{ltb, leb, eqb}
+use borrow.Author.Tests.{ltb-true, ltb-false, eqb-true, eqb-false, lt-ltb, le-ltb, le-leb, lt-leb, ne-eqb}
+use Rattle.rules.specs.declared.Action.{Action}
+use Rattle.rules.specs.declared.Action.the-variants.{Void, Bottom, Top, Gap, Once, Twice}
+use Rattle.rules.specs.declared.Passage.{Passage}
+use Rattle.rules.specs.Jobs.{Job, holdsListed}
+use Rattle.rules.specs.Policies.{passageNamed}
+use Rattle.rules.specs.Machine.{State, dead, actionPossible, actionStep, crossStep, passageStep}
+use Rattle.machine.specs.States.{stateCode, stateOf}
+use Rattle.machine.specs.Steps.{policyOf, policyCode, kindCode, bit, crossOf}
+use Rattle.machine.proofs.StepLaws.{policy-of-code, by-kind}
+use Rattle.table.specs.Candidates.{candidateOf}
+use Rattle.table.specs.Layers.{stepCode}
+use Rattle.table.specs.TableHolds.{sideOf, flagOf, aisleOf}
+use Rattle.table.proofs.Geometry.{halves-of-candidate}
+
+-- the numbers of tests stand for them
+pub bit-of-flag : (b : Bool) → bit (flagOf b) ≡ b
+bit-of-flag true = refl
+bit-of-flag false = refl
+
+pub flag-below : (b : Bool) → flagOf b < 2
+flag-below true = omega arith
+flag-below false = omega arith
+
+kind-of-candidate : (cells : ℕ) (a : Action) → candidateOf cells a .kind ≡ kindCode a
+kind-of-candidate cells Void = refl
+kind-of-candidate cells (Bottom i) = refl
+kind-of-candidate cells (Top i) = refl
+kind-of-candidate cells (Gap h i) = refl
+kind-of-candidate cells Once = refl
+kind-of-candidate cells Twice = refl
+
+-- the state after a candidate is the state after its action
+pub step-code : (job : Job) (j : ℕ) (a : Action) (s : ℕ) → stepCode (aisleOf job j) (candidateOf (job .layout .cells) a) s ≡ stateCode (actionStep job j a (stateOf s))
+unfolding stepCode aisleOf actionStep actionPossible
+step-code job j a s =
+    rw (policy-of-code (job .policy), kind-of-candidate (job .layout .cells) a, bit-of-flag (holdsListed job j), halves-of-candidate (job .layout) a)
+    (ap stateCode (by-kind (job .policy) (job .layout) a (holdsListed job j) (stateOf s)))
+
+-- where an aisle lies answers the three tests on the depot
+record Tests (d j side : ℕ) : Type 0 where
+  here : eqb side 1 ≡ eqb j d
+  reached : leb 1 side ≡ leb d j
+  passed : ltb 1 side ≡ ltb d j
+
+side-tests : (d j : ℕ) → Tests d j (sideOf d j)
+unfolding sideOf
+side-tests d j = go (ltb j d) refl
+  where
+    at : (b : Bool) → eqb j d ≡ b → d ≤ j → Tests d j (cond b 1 2)
+    at true e l = record { here = sym e; reached = sym (le-leb d j l); passed = sym (le-ltb d j (omega (arith, eqb-true j d e))) }
+    at false e l = record { here = sym e; reached = sym (le-leb d j l); passed = sym (lt-ltb d j (omega (arith, eqb-false j d e))) }
+
+    go : (b : Bool) → ltb j d ≡ b → Tests d j (cond b 0 (cond (eqb j d) 1 2))
+    go true e =
+        let l = ltb-true j d e in
+        record { here = sym (ne-eqb j d (λ p. omega arith)); reached = sym (lt-leb d j l); passed = sym (le-ltb d j (omega arith)) }
+    go false e = at (eqb j d) refl (ltb-false j d e)
+
+pub side-below : (d j : ℕ) → sideOf d j < 3
+unfolding sideOf
+side-below d j = go (ltb j d) (eqb j d)
+  where
+    go : (a b : Bool) → cond a 0 (cond b 1 2) < 3
+    go true b = omega arith
+    go false true = omega arith
+    go false false = omega arith
+
+-- the machine asks of the depot these three only
+cross-by-side : (d j side : ℕ) → Tests d j side → (p : Passage) (s : State) → crossStep 1 side p s ≡ crossStep d j p s
+cross-by-side d j side t p s = rw (t .here, t .reached, t .passed) refl
+
+-- the passages of the table are the machine's
+pub cross-of : (job : Job) (j : ℕ) (p : Passage) (s : State) → crossOf (policyOf (policyCode (job .policy))) p (sideOf (job .layout .depot) j) s ≡ passageStep job j p s
+unfolding crossOf passageStep
+cross-of job j p s =
+    rw (policy-of-code (job .policy))
+    (let d = job .layout .depot in
+    ap (λ t. cond (passageNamed (job .policy) p) t dead) (cross-by-side d j (sideOf d j) (side-tests d j) p s))

@@ -1,0 +1,54 @@
+-- `table::layers::front_turn` meets its contract by its test.
+use native.Mathlib.Omega.{arith}
+use mathlib.Core.Path.{_≡_, sym, _∙_, ap₂}
+use mathlib.Core.Bool.{_&&_, _||_}
+use lib.Dec.{eqb}
+use borrow.Author.Needs.{needs}
+use Rattle.rules.specs.Policies.{inFrontHalf}
+use Rattle.table.specs.Turns.{frontAt, frontCost, frontTurn}
+use Rattle.table.proofs.TurnLaws.{turn-yes, turn-no}
+use Rattle.table.proofs.layers.front_turn.Statement.{statement}
+use Rattle.table.proofs.layers.front_turn.Tie as tie
+
+front-at-requires : tie.Need-front-at-requires
+front-at-requires c κs = search needs
+
+front-half-requires : tie.Need-front-half-requires
+front-half-requires c κs = search needs
+
+front-cost-requires : tie.Need-front-cost-requires
+front-cost-requires c κs = search needs
+
+cast-result : tie.Need-cast-result
+cast-result c = search needs
+
+returns : tie.Need-returns
+unfolding frontTurn
+returns c =
+    let p = c .before .before .before .before .args in
+    let half = c .before .before .front-half .ensures in
+    let at = c .before .before .before .front-at .ensures in
+    let cost = c .front-cost .ensures .0 in
+    cost
+    ∙ turn-yes (frontAt (p .z .cells) (p .kind) (p .h)) (inFrontHalf (p .z) (p .h)) (p .halves) (frontCost (p .z) (p .kind) (p .h))
+    (ap₂ (λ a f. a && (eqb (p .halves) 0 || f)) (sym at) (sym half) ∙ c .before .if1 .taken)
+
+returns-2 : tie.Need-returns-2
+unfolding frontTurn
+returns-2 c =
+    let p = c .before .before .before .args in
+    let half = c .before .front-half .ensures in
+    let at = c .before .before .front-at .ensures in
+    turn-no (frontAt (p .z .cells) (p .kind) (p .h)) (inFrontHalf (p .z) (p .h)) (p .halves) (frontCost (p .z) (p .kind) (p .h))
+    (ap₂ (λ a f. a && (eqb (p .halves) 0 || f)) (sym at) (sym half) ∙ c .if1 .left)
+
+pub front-turn-spec : {M : Type 1} → statement M
+front-turn-spec =
+    tie.close
+    (tie.spec
+    front-at-requires
+    front-half-requires
+    front-cost-requires
+    cast-result
+    returns
+    returns-2)

@@ -1,0 +1,91 @@
+-- `table::layers::relax_pass` meets its contract: the sweep over the turns of its kind, or nothing for a kind that leads nowhere.
+use native.Mathlib.Omega.{arith}
+use Prim.Native.Nat.{_*_, _<_, _≤_}
+use mathlib.Core.Path.{_≡_, subst}
+use mathlib.Core.Bool.{false}
+use borrow.Author.Needs.{needs}
+use Rattle.table.specs.Rows.{LivesAs}
+use Rattle.table.specs.Layers.{passKind, passHalves}
+use Rattle.table.proofs.PassLaws.{sweep-ready, pass-kind, pass-mode, pass-skipped, pass-swept}
+use Rattle.table.proofs.layers.relax_pass.Statement.{statement}
+use Rattle.table.proofs.layers.relax_pass.Tie as tie
+
+mul-kind : tie.Need-mul-kind
+mul-kind c = search needs
+
+sub-kind : tie.Need-sub-kind
+sub-kind c = search needs
+
+steps-of-requires : tie.Need-steps-of-requires
+steps-of-requires c κs = search needs
+
+lives-requires : tie.Need-lives-requires
+lives-requires c κs = search needs
+
+slice-aggregate-permute : tie.Need-slice-aggregate-permute
+slice-aggregate-permute c = search needs
+
+permute-requires : tie.Need-permute-requires
+permute-requires c κs = search needs
+
+turns-of-requires : tie.Need-turns-of-requires
+turns-of-requires c κs = search needs
+
+slice-aggregate-sweep : tie.Need-slice-aggregate-sweep
+slice-aggregate-sweep c = search needs
+
+sweep-requires : tie.Need-sweep-requires
+sweep-requires c κs =
+    let at-turns = c .before .before in
+    let at-permute = at-turns .before .before in
+    let at-start = at-permute .before .before .before .before .before .before .before .before .before in
+    let p = at-start .args in
+    let r = at-start .pre in
+    sweep-ready (p .x) (p .row .now) (at-permute .permute .last .0) (p .fronts .now) (p .backs .now) (at-turns .turns-of .result .top) (r .0) (r .1)
+    (omega (arith, at-permute .permute .ensures .kept)) (at-turns .turns-of .ensures .top)
+
+same-length : tie.Need-same-length
+same-length c = search needs
+
+returns : tie.Need-returns
+returns c =
+    let at-sweep = c .before .before in
+    let at-turns = at-sweep .before .before .before in
+    let at-permute = at-turns .before .before in
+    let at-steps = at-permute .before .before .before .before in
+    let at-row = at-steps .before .before .before .before in
+    let p = at-row .before .args in
+    let r = at-row .before .pre in
+    let steps = at-steps .steps-of in
+    pass-swept (p .x) (p .row .now) (p .after .now) (p .fronts .now) (p .backs .now) (steps .result) (passKind (p .pass)) (passHalves (p .pass))
+    (steps .ensures) (λ k. omega (arith, at-row .slice-known .given k))
+    (r .0) (pass-kind (p .pass) (r .3)) (pass-mode (p .pass) (r .3)) (at-turns .turns-of .result) (at-turns .turns-of .ensures) (at-permute .permute .last .0) (at-permute .permute .ensures .done)
+    (at-sweep .sweep .last .0) (at-sweep .sweep .ensures)
+
+returns-2 : tie.Need-returns-2
+returns-2 c =
+    let at-lives = c .before in
+    let at-steps = at-lives .before in
+    let at-row = at-steps .before .before .before .before in
+    let p = at-row .before .args in
+    let steps = at-steps .steps-of in
+    pass-skipped (p .x) (p .row .now) (p .after .now) (p .fronts .now) (p .backs .now) (steps .result) (passKind (p .pass)) (passHalves (p .pass))
+    (steps .ensures) (λ k. omega (arith, at-row .slice-known .given k))
+    (subst (λ b. LivesAs (steps .result) b) (c .if1 .left) (at-lives .lives .ensures))
+
+pub relax-pass-spec : {M : Type 1} → statement M
+relax-pass-spec =
+    tie.close
+    (tie.spec
+    mul-kind
+    sub-kind
+    steps-of-requires
+    lives-requires
+    slice-aggregate-permute
+    permute-requires
+    turns-of-requires
+    slice-aggregate-sweep
+    sweep-requires
+    same-length
+    returns
+    returns-2)

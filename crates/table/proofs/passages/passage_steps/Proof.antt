@@ -1,0 +1,64 @@
+-- `table::passages::passage_steps` meets its contract: the states before s are looked up.
+use native.Mathlib.Omega.{arith}
+use Prim.Native.Nat.{ℕ, _+_, _*_, _-_, _≤_, _<_}
+use mathlib.Core.Path.{_≡_, refl, _∙_}
+use lib.ListN.{length, getD, length-set}
+use Rattle.demand.proofs.Filling.{filled-one}
+use Rattle.machine.specs.Steps.{policyOf, passageOf, crossOf}
+use Rattle.machine.specs.States.{stateCode, stateOf}
+use Rattle.table.specs.Rows.{crossCode}
+use Rattle.table.proofs.passages.passage_steps.Statement.{statement}
+use Rattle.table.proofs.passages.passage_steps.Tie as tie
+
+abbrev Inv-loop : tie.InvT-loop
+Inv-loop policy side passage out₀ s₀ out s = (s ≤ 8) × (length out ≡ 8) × ((k : ℕ) → k < s → getD out k 0 ≡ stateCode (crossOf (policyOf policy) (passageOf passage) side (stateOf k)))
+
+abbrev μ-loop : tie.MeasureT-loop
+μ-loop policy side passage out₀ s₀ out s = 8 - s
+
+loop-holds : tie.Need-loop-holds Inv-loop μ-loop
+loop-holds c = (omega arith, refl, λ k h. absurd (omega arith))
+
+passage-step-requires : tie.Need-passage-step-requires Inv-loop μ-loop
+passage-step-requires c κs = let r = c .before .before .pre in (r .0, r .2, r .1, omega arith)
+
+mul-out : tie.Need-mul-out Inv-loop μ-loop
+mul-out c = omega arith
+
+array-write-out : tie.Need-array-write-out Inv-loop μ-loop
+array-write-out c = omega arith
+
+add-s : tie.Need-add-s Inv-loop μ-loop
+add-s c = omega arith
+
+loop-less : tie.Need-loop-less Inv-loop μ-loop
+loop-less c = omega arith
+
+loop-again : tie.Need-loop-again Inv-loop μ-loop
+loop-again c =
+    let p = c .before .before .before .args in
+    let o = c .before .before .loop in
+    let step = c .passage-step in (
+      omega arith,
+      length-set (o .out) (o .s) (step .result) ∙ o .inv .1,
+      filled-one (λ k. stateCode (crossOf (policyOf (p .policy)) (passageOf (p .passage)) (p .side) (stateOf k))) (o .out) (o .s) (step .result) (omega (arith, o .inv .1)) (o .inv .2) (step .ensures),
+    )
+
+returns : tie.Need-returns Inv-loop μ-loop
+unfolding crossCode
+returns c = λ k h. c .before .loop .inv .2 k (omega arith)
+
+pub passage-steps-spec : {M : Type 1} → statement M
+passage-steps-spec =
+    tie.close
+    (tie.spec
+    Inv-loop
+    μ-loop
+    loop-holds
+    passage-step-requires
+    mul-out
+    array-write-out
+    add-s
+    loop-less
+    loop-again
+    returns)

@@ -1,0 +1,101 @@
+// The actions of an aisle as numbers, and what they cost.
+use rules::Layout;
+ghost use Prim.Native.Nat.{_*_, _+_, _<_, _≤_};
+ghost use Rattle.machine.specs.Steps.{bit};
+ghost use Rattle.table.specs.Candidates.{candidateHalves, candidateLength};
+ghost use Rattle.rules.specs.Policies.{inBackHalf, inFrontHalf};
+ghost use Rattle.rules.specs.Store.{aisleLength, layoutInBounds, position};
+ghost use lib.ListN.{length};
+ghost use mathlib.Core.Bool.{true};
+ghost use mathlib.Core.Path.{_≡_};
+
+// An action as numbers: its kind, and the cells that its front and its back part reach.
+pub struct Candidate {
+    pub kind: usize,
+    pub front: usize,
+    pub back: usize,
+}
+
+// The length of an aisle.
+pub fn aisle_length(z: Layout) -> usize
+    requires { ⌜ layoutInBounds z ≡ true ⌝ }
+    ensures { λ r. ⌜ (r ≡ aisleLength z) × (r ≤ 810) ⌝ }
+{
+    z.front + (z.cells - 1) * z.pitch + z.back
+}
+
+// The distance of a height from the front.
+pub fn position_of(z: Layout, k: usize) -> usize
+    requires { ⌜ layoutInBounds z ≡ true ⌝ }
+    ensures { λ r. ⌜ (r ≡ position z k) × (r ≤ 810) ⌝ }
+{
+    if k == 0 {
+        return 0;
+    }
+    if k <= z.cells {
+        return z.front + (k - 1) * z.pitch;
+    }
+    aisle_length(z)
+}
+
+// What a candidate adds to the length of a plan.
+pub fn action_length(z: Layout, c: Candidate) -> usize
+    requires { ⌜ (layoutInBounds z ≡ true) × (c .kind < 6) ⌝ }
+    ensures { λ r. ⌜ (r ≡ candidateLength z c) × (r ≤ 3240) ⌝ }
+{
+    let whole = aisle_length(z);
+    let kind = c.kind;
+    if kind == 4 {
+        return whole;
+    }
+    if kind == 5 {
+        return 2 * whole;
+    }
+    2 * position_of(z, c.front) + 2 * (whole - position_of(z, c.back))
+}
+
+// Whether a front part keeps to the front half.
+pub fn front_half(z: Layout, k: usize) -> bool
+    requires { ⌜ layoutInBounds z ≡ true ⌝ }
+    ensures { λ r. ⌜ r ≡ inFrontHalf z k ⌝ }
+{
+    2 * position_of(z, k) <= aisle_length(z)
+}
+
+// Whether a back part keeps to the back half.
+pub fn back_half(z: Layout, k: usize) -> bool
+    requires { ⌜ layoutInBounds z ≡ true ⌝ }
+    ensures { λ r. ⌜ r ≡ inBackHalf z k ⌝ }
+{
+    aisle_length(z) <= 2 * position_of(z, k)
+}
+
+// A test as 0 or 1.
+fn flag(b: bool) -> usize
+    ensures { λ r. ⌜ (bit r ≡ b) × (r < 2) ⌝ }
+{
+    if b { 1 } else { 0 }
+}
+
+// Whether a candidate keeps to the halves, as 0 or 1.
+pub fn keeps_halves(z: Layout, c: Candidate) -> usize
+    requires { ⌜ (layoutInBounds z ≡ true) × (c .kind < 6) ⌝ }
+    ensures { λ r. ⌜ (bit r ≡ candidateHalves z c) × (r < 2) ⌝ }
+{
+    let kind = c.kind;
+    let front = c.front;
+    let back = c.back;
+    if kind == 0 {
+        return 1;
+    }
+    if kind == 1 {
+        return flag(front_half(z, front));
+    }
+    if kind == 2 {
+        return flag(back_half(z, back));
+    }
+    if kind == 3 {
+        return flag(front_half(z, front) & back_half(z, back));
+    }
+    0
+}

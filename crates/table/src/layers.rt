@@ -1,0 +1,221 @@
+// One aisle of the table: the ways over all its actions, a kind of action at a time.
+use crate::candidates::aisle_length;
+use crate::candidates::back_half;
+use crate::candidates::front_half;
+use crate::candidates::position_of;
+use crate::rows::NUMBERS;
+use crate::rows::fill_none;
+use crate::rows::lives;
+use crate::rows::permute;
+use crate::rows::relax_row;
+use demand::digits::DEMANDS;
+use machine::action_step;
+use rules::Layout;
+ghost use Prim.Native.Nat.{_*_, _+_, _<_, _≤_, ℕ};
+ghost use Rattle.machine.specs.Steps.{bit};
+ghost use Rattle.table.specs.Layers.{AisleReady, PassDone, RowFilled, passHalves, passKind, passesOf, stepWith};
+ghost use Rattle.table.specs.Rows.{RelaxReady, RelaxedRow};
+ghost use Rattle.table.specs.Turns.{SweepReady, SweptTo, TurnsOf, backAt, backTurn, frontAt, frontCost, frontTurn};
+ghost use Rattle.rules.specs.Store.{layoutInBounds};
+ghost use lib.ListN.{getD, length};
+ghost use mathlib.Core.Bool.{true};
+ghost use mathlib.Core.Path.{_≡_};
+
+// What the table needs of an aisle: the layout, the policy, whether it holds a listed article (0 or 1), and the weight.
+pub struct Aisle {
+    pub layout: Layout,
+    pub policy: usize,
+    pub holds: usize,
+    pub weight: usize,
+}
+
+// What the turns of a kind of action cost, by the cell that the front and the back part reach: 65,535 where it has none.
+// `top` is the height of the back crossing.
+pub struct Turns {
+    pub front: [u16; 26],
+    pub back: [u16; 26],
+    pub top: usize,
+}
+
+// The state after a kind of action, for each of eight states.
+fn steps_of(x: Aisle, kind: usize, halves: usize) -> [usize; 8]
+    requires { ⌜ (x .policy < 5) × (x .holds < 2) × (kind < 6) × (halves < 2) ⌝ }
+    ensures { λ r. ⌜ ((s : ℕ) → s < 8 → getD r s 0 ≡ stepWith x kind (bit halves) s) ⌝ }
+{
+    let policy = x.policy;
+    let holds = x.holds;
+    let mut out = [0usize; 8];
+    let mut s = 0;
+    while s < 8 {
+        out[s] = action_step(policy, kind, holds, halves, s);
+        s += 1;
+    }
+    out
+}
+
+// Whether an action of a kind has a front part that reaches height h; 0 for none.
+fn front_at(cells: usize, kind: usize, h: usize) -> bool
+    ensures { λ r. ⌜ r ≡ frontAt cells kind h ⌝ }
+{
+    match kind {
+        0 => h == 0,
+        1 => (1 <= h) & (h <= cells),
+        2 => h == 0,
+        3 => (1 <= h) & (h < cells),
+        _ => h == cells,
+    }
+}
+
+// Whether an action of a kind has a back part that reaches height i; the back crossing for none.
+fn back_at(top: usize, kind: usize, i: usize) -> bool
+    ensures { λ r. ⌜ r ≡ backAt top kind i ⌝ }
+{
+    match kind {
+        0 => i == top,
+        1 => i == top,
+        2 => (1 <= i) & (i < top),
+        3 => (2 <= i) & (i < top),
+        _ => i == top,
+    }
+}
+
+// What the front part of an action costs.
+fn front_cost(z: Layout, kind: usize, h: usize) -> usize
+    requires { ⌜ layoutInBounds z ≡ true ⌝ }
+    ensures { λ r. ⌜ (r ≡ frontCost z kind h) × (r ≤ 1620) ⌝ }
+{
+    if kind < 4 {
+        return 2 * position_of(z, h);
+    }
+    if kind == 4 {
+        return aisle_length(z);
+    }
+    2 * aisle_length(z)
+}
+
+// The front turn of a kind at height h; with halves = 1 in the front half alone.
+fn front_turn(z: Layout, kind: usize, halves: usize, h: usize) -> u16
+    requires { ⌜ (layoutInBounds z ≡ true) × (halves < 2) ⌝ }
+    ensures { λ r. ⌜ r ≡ frontTurn z kind (bit halves) h ⌝ }
+{
+    if front_at(z.cells, kind, h) & ((halves == 0) | front_half(z, h)) {
+        return front_cost(z, kind, h) as u16;
+    }
+    65535
+}
+
+// The back turn of a kind at height i; with halves = 1 in the back half alone.
+fn back_turn(z: Layout, kind: usize, halves: usize, i: usize) -> u16
+    requires { ⌜ (layoutInBounds z ≡ true) × (halves < 2) ⌝ }
+    ensures { λ r. ⌜ r ≡ backTurn z kind (bit halves) i ⌝ }
+{
+    if back_at(z.cells + 1, kind, i) & ((halves == 0) | back_half(z, i)) {
+        return (2 * (aisle_length(z) - position_of(z, i))) as u16;
+    }
+    65535
+}
+
+// The turns of a kind.
+fn turns_of(z: Layout, kind: usize, halves: usize) -> Turns
+    requires { ⌜ (layoutInBounds z ≡ true) × (halves < 2) ⌝ }
+    ensures { λ r. ⌜ TurnsOf z kind (bit halves) r ⌝ }
+{
+    let mut front = [65535u16; 26];
+    let mut back = [65535u16; 26];
+    let top = z.cells + 1;
+    let mut h = 0;
+    while h <= top {
+        front[h] = front_turn(z, kind, halves, h);
+        back[h] = back_turn(z, kind, halves, h);
+        h += 1;
+    }
+    Turns { front, back, top }
+}
+
+// A row relaxed over a turn at height h, if there is one.
+fn relax_turn<'a>(
+    row: &mut [u16],
+    perm: &'a [u16],
+    map: &'a [u16],
+    h: usize,
+    cost: u16,
+    weight: usize,
+)
+    requires { ⌜ (h ≤ 25) × RelaxReady (now row) (now perm) (now map) (h * 256) weight ⌝ }
+    ensures { λ r. ⌜ RelaxedRow (now (row .entry)) (now (row .exit)) (now (perm .entry)) (now (map .entry)) (h * 256) cost weight ⌝ }
+{
+    if cost < 65535 {
+        relax_row(row, perm, map, h * DEMANDS, cost, weight);
+    }
+}
+
+// All actions of a kind in one sweep: the best over the back parts past height h is kept while h falls,
+// so that each turn costs a row, and not each pair of turns.
+fn sweep<'a>(
+    row: &mut [u16],
+    perm: &'a [u16],
+    fronts: &'a [u16],
+    backs: &'a [u16],
+    t: Turns,
+    weight: usize,
+)
+    requires { ⌜ SweepReady (now row) (now perm) (now fronts) (now backs) (t .top) weight ⌝ }
+    ensures { λ r. ⌜ SweptTo (now (row .entry)) (now (row .exit)) (now (perm .entry)) (now (fronts .entry)) (now (backs .entry)) (t .front) (t .back) (t .top) weight 0 ⌝ }
+{
+    let mut acc = [65535u16; NUMBERS];
+    let mut h = t.top;
+    while 0 < h {
+        let back = t.back[h];
+        relax_turn(&mut acc, perm, backs, h, back, weight);
+        h -= 1;
+        let front = t.front[h];
+        relax_turn(row, &acc, fronts, h, front, weight);
+    }
+}
+
+// The ways over the actions of a pass: those of the kinds in turn, and, for MIDPOINT, BOTTOM, TOP and GAP once more
+// as far as they keep to the halves.
+fn relax_pass<'a>(
+    row: &mut [u16],
+    after: &[u16],
+    fronts: &'a [u16],
+    backs: &'a [u16],
+    x: Aisle,
+    pass: usize,
+)
+    requires { ⌜ AisleReady x (now fronts) (now backs) × (2048 ≤ length (now row)) × (2048 ≤ length (now after)) × (pass < 9) ⌝ }
+    ensures { λ r. ⌜ PassDone x (now (row .entry)) (now (row .exit)) (now (after .entry)) (now (fronts .entry)) (now (backs .entry)) (passKind pass) (passHalves pass) ⌝ }
+{
+    let halves = pass / 6;
+    let kind = pass - halves * 5;
+    let weight = x.weight;
+    let steps = steps_of(x, kind, halves);
+    if lives(steps) {
+        let mut perm = [0u16; NUMBERS];
+        permute(&mut perm, after, steps, weight);
+        let t = turns_of(x.layout, kind, halves);
+        sweep(row, &perm, fronts, backs, t, weight);
+    }
+}
+
+// The number of passes under a policy.
+fn passes_of(policy: usize) -> usize
+    ensures { λ r. ⌜ r ≡ passesOf policy ⌝ }
+{
+    if policy == 3 { 9 } else { 6 }
+}
+
+// The row of an aisle: for each demand and state the least over all actions.
+pub fn fill_row<'a>(row: &mut [u16], after: &[u16], fronts: &'a [u16], backs: &'a [u16], x: Aisle)
+    requires { ⌜ AisleReady x (now fronts) (now backs) × (2048 ≤ length (now row)) × (2048 ≤ length (now after)) ⌝ }
+    ensures { λ r. ⌜ RowFilled x (now (row .exit)) (now (after .entry)) (now (fronts .entry)) (now (backs .entry)) × (length (now (row .exit)) ≡ length (now (row .entry))) ⌝ }
+{
+    let passes = passes_of(x.policy);
+    let weight = x.weight;
+    fill_none(row, weight * 8);
+    let mut pass = 0;
+    while pass < passes {
+        relax_pass(row, after, fronts, backs, x, pass);
+        pass += 1;
+    }
+}
