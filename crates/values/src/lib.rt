@@ -18,6 +18,13 @@ pub struct JobValue {
     pub lines: [OrderLine; 8],
 }
 
+// What each cell of the store holds for the order lines, at (aisle - 1) * 24 + (cell - 1): the number + 1 of the line of its
+// article, 0 for none, and the quantity of its record.
+pub struct Shelf {
+    pub line: [usize; 384],
+    pub quantity: [usize; 384],
+}
+
 // One aisle of a plan: its action and the passage behind it.
 pub struct Stage {
     pub action: Action,
