@@ -3,20 +3,23 @@
 use Prim.Native.Nat.{ℕ}
 use mathlib.Core.Path.{_≡_, refl, _∙_, ap}
 use mathlib.Core.List.{List, [], _∷_}
-use mathlib.Core.Option.{none}
+use mathlib.Core.Option.{none, some}
+use mathlib.Core.Bool.{true}
 use lib.ListN.{replicate}
 use Rattle.rules.specs.declared.Action.{Action}
-use Rattle.rules.specs.declared.Policy.the-variants.{Exact}
+use Rattle.rules.specs.declared.Policy.{Policy}
 use Rattle.rules.specs.declared.Action.the-variants.{Bottom, Gap, Once}
 use Rattle.rules.specs.declared.Passage.{Passage}
 use Rattle.rules.specs.declared.Passage.the-variants.{P02, P11}
 use Rattle.rules.specs.declared.Refusal.the-variants.{NotAJobFile, LayoutBounds, StockBounds, CellTwice, ArticleTwice, ShortOfStock, ListBounds, TooHeavy}
 use Rattle.rules.specs.Jobs.{Job}
 use Rattle.rules.specs.Plans.{Plan}
-use Rattle.rules.specs.Examples.{tour, tied, walked, HasTour, IsTour, FileEnds, CallGives, Meets, AllHold, AllSame, Holds}
+use Rattle.rules.specs.Examples.{Expected, tour, tied, walked, long, refusal, weighing, allowing, HasTour, IsTour, FileEnds, CallGives, Meets, Case, under, underEvery, Holds, AllHold, AllSame}
 use Rattle.rules.specs.declared.Run.{Run}
 use Rattle.rules.specs.Sheet.{runsOf}
-use Rattle.rules.proofs.Pruning.{fastServing, fastBest, fast-best}
+use Rattle.rules.proofs.Pruning.{fits, boundedBest, found-best}
+use Rattle.rules.specs.Lists.{allOf}
+use Rattle.rules.specs.Lengths.{actionLength, passageLength}
 use Rattle.rules.specs.Answers.{refused, served, answer, hostAnswer, output}
 use Rattle.rules.specs.BestPlan.{actionsOf, passagesInOrder, single, prepend, shorterOf, emptyPlan, servingPlans, bestPlan}
 use Rattle.rules.specs.Examples.{stocked, _⨯_, alpha, beta, steps, roundTrip, cases, ownJob, oneEach, midwayFront, midwayBack, farBack, nearBack, bothEnds, bottomOrTop, topOrGap, gapOrOnce, frontOrBack, leftFirst, topTie, withOthers, gapByFront, gapByBack, wrongLayout, wrongStock, sharedCell, sharedArticle, bothBottom, bothOnce, ownCases, texts, overfull, RefusedWith, workedJob, workedSheet}
@@ -33,41 +36,127 @@ use Rattle.rules.specs.Sheet.{totalText, passageText, pickText, runText,
 use Rattle.rules.specs.Store.{aisleLength, position, backHeight, depotPoint, distance, edgesOf, within, layoutInBounds, sameEdge, samePoint}
 use Rattle.rules.specs.Walks.{isCrossing, canStep, stepTo, stepEdge, one}
 
-module _ (job : Job) (n : ℕ) (actions : List Action) (passages : List Passage) (admitted : jobRefusal job ≡ none) where
+-- what is computed of a tour: no refusal applies, the actions of an aisle fit it, the bounded search finds the plan, and its length
+abbrev Found : Job → ℕ → List Action → List Passage → Type 0
+Found job n actions passages =
+    (jobRefusal job ≡ none)
+    × (allOf (fits (job .layout .cells)) (actionsOf (job .layout .cells)) ≡ true)
+    × (boundedBest job n ≡ some (n, record { actions = actions; passages = passages }))
+    × (planLength (job .layout) (record { actions = actions; passages = passages }) ≡ n)
+
+module _ (job : Job) (n : ℕ) (actions : List Action) (passages : List Passage) (f : Found job n actions passages) where
   abbrev plan : Plan
   plan = record { actions = actions; passages = passages }
 
-  -- a plan that the faster way finds is the best plan, and its length is the tour's
-  tour-met : fastBest job ≡ plan → planLength (job .layout) plan ≡ n → Meets job (tour n actions passages)
-  tour-met found its-length =
-      let e : bestPlan job ≡ plan = fast-best job ∙ found in
-      (record { admitted = admitted; length = ap (planLength (job .layout)) e ∙ its-length }, e)
+  -- such a plan is the best plan, and its length is the tour's
+  found-plan : bestPlan job ≡ plan
+  found-plan = found-best job n plan (f .1) (f .2)
 
-  walk-met : fastBest job ≡ plan → planLength (job .layout) plan ≡ n → (runs : List Run) → runsOf (firstWalk (job .layout) plan) ≡ runs → Meets job (walked n actions passages runs)
-  walk-met found its-length runs its-walk =
-      let m = tour-met found its-length in
-      (m .0, m .1, ap (λ p. runsOf (firstWalk (job .layout) p)) (m .1) ∙ its-walk)
+  found-tour : HasTour job n
+  found-tour = record { admitted = f .0; length = ap (planLength (job .layout)) found-plan ∙ f .3 }
 
-  -- and the other plan of a tie is as long
-  tie-met : fastBest job ≡ plan → planLength (job .layout) plan ≡ n → (others : List Action) (gaps : List Passage) → IsTour job plan n → IsTour job (record { actions = others; passages = gaps }) n → Meets job (tied n actions passages others gaps)
-  tie-met found its-length others gaps its-own other = let m = tour-met found its-length in (m .0, m .1, its-own, other)
+-- what is computed of a row: what it expects, with the bounded search in the place of the best plan
+abbrev Computed : Job → Expected → Type 0
+Computed job (tour n actions passages) = Found job n actions passages
+Computed job (tied n actions passages others gaps) =
+    Found job n actions passages
+    × IsTour job (record { actions = actions; passages = passages }) n
+    × IsTour job (record { actions = others; passages = gaps }) n
+Computed job (walked n actions passages runs) =
+    Found job n actions passages × (runsOf (firstWalk (job .layout) (record { actions = actions; passages = passages })) ≡ runs)
+Computed job (long n) = (actions : List Action) × (passages : List Passage) × Found job n actions passages
+Computed job (refusal n) = RefusedWith job n
+Computed job (weighing w n) = (weight (job .lines) ≡ w) × RefusedWith job n
+Computed job (allowing b actions passages) = Meets job (allowing b actions passages)
 
--- the heaviest case stands apart: a declaration may take only so many steps
-case-7 : Meets (beta Exact) (tour 20 (Once ∷ Gap 1 5 ∷ Once ∷ []) (P11 ∷ P11 ∷ []))
-unfolding actionsOf passagesInOrder single prepend shorterOf emptyPlan bestPlan stocked _⨯_ alpha beta listed holdsListed actionPossible actionStep passageStep accepts actionAt passageAt multiplicity lengthOf planLength planPasses inFrontHalf inBackHalf supply serves aisleLength position backHeight depotPoint distance edgesOf fastBest fastServing recordInBounds stockInBounds sameCell lineInBounds listInBounds sameArticle weight allStock shortOfStock jobRows jobRefusal within layoutInBounds
-case-7 = tour-met _ _ _ _ refl refl refl
+computed-meets : (job : Job) (e : Expected) → Computed job e → Meets job e
+computed-meets job (tour n actions passages) f = (found-tour job n actions passages f, found-plan job n actions passages f)
+computed-meets job (tied n actions passages others gaps) (f, own, other) =
+    (found-tour job n actions passages f, found-plan job n actions passages f, own, other)
+computed-meets job (walked n actions passages runs) (f, walk) =
+    let e = found-plan job n actions passages f in
+    (found-tour job n actions passages f, e, ap (λ p. runsOf (firstWalk (job .layout) p)) e ∙ walk)
+computed-meets job (long n) (actions, passages, f) = found-tour job n actions passages f
+computed-meets job (refusal n) r = r
+computed-meets job (weighing w n) r = r
+computed-meets job (allowing b actions passages) r = r
+
+abbrev RowComputed : Case → Type 0
+RowComputed (under policy job e) = Computed (job policy) e
+RowComputed (underEvery job e) = (policy : Policy) → Computed (job policy) e
+
+abbrev AllComputed : List Case → Type 0
+AllComputed [] = Unit {0}
+AllComputed (c ∷ rest) = RowComputed c × AllComputed rest
+
+infixr 5 _▸_
+-- a row before others
+abbrev _▸_ : {A B : Type 0} → A → B → A × B
+a ▸ b = (a, b)
+
+row-holds : (c : Case) → RowComputed c → Holds c
+row-holds (under policy job e) r = computed-meets (job policy) e r
+row-holds (underEvery job e) r = λ policy. computed-meets (job policy) e (r policy)
+
+all-hold : (cs : List Case) → AllComputed cs → AllHold cs
+all-hold [] r = tt
+all-hold (c ∷ cs) (r, rs) = (row-holds c r, all-hold cs rs)
+
+-- the rows of the cases 1 to 14
+cases-computed : AllComputed cases
+unfolding actionsOf passagesInOrder single prepend shorterOf stocked _⨯_ alpha beta listed holdsListed actionPossible actionStep passageStep accepts actionAt passageAt multiplicity lengthOf planLength planPasses inFrontHalf inBackHalf supply serves aisleLength position backHeight depotPoint distance edgesOf boundedBest actionLength passageLength recordInBounds stockInBounds sameCell lineInBounds listInBounds sameArticle weight allStock shortOfStock jobRows jobRefusal within layoutInBounds without stepsOf firstWalk sameEdge samePoint isCrossing canStep stepTo stepEdge one steps roundTrip cases RefusedWith
+cases-computed =
+    (refl, refl, refl, refl)
+    ▸ ((refl, refl, refl, refl), record { allowed = refl; serving = refl; length = refl }, record { allowed = refl; serving = refl; length = refl })
+    ▸ (refl, refl, refl, refl)
+    ▸ ((refl, refl, refl, refl), refl)
+    ▸ (refl, refl, refl, refl)
+    ▸ (λ policy. (ShortOfStock, refl, refl))
+    ▸ (refl, refl, refl, refl)
+    ▸ (refl, refl, refl, refl)
+    ▸ (refl, refl, refl, refl)
+    ▸ (Bottom 3 ∷ Bottom 5 ∷ Bottom 3 ∷ [], P02 ∷ P02 ∷ [], (refl, refl, refl, refl))
+    ▸ (λ policy. (refl, (ShortOfStock, refl, refl)))
+    ▸ (λ policy. (ListBounds, refl, refl))
+    ▸ (λ policy. (refl, (TooHeavy, refl, refl)))
+    ▸ (λ policy. (ListBounds, refl, refl))
+    ▸ tt
 
 -- the table of the cases 1 to 14
 pub cases-hold : AllHold cases
-unfolding actionsOf passagesInOrder single prepend shorterOf emptyPlan bestPlan stocked _⨯_ alpha beta listed holdsListed actionPossible actionStep passageStep accepts actionAt passageAt multiplicity lengthOf planLength planPasses inFrontHalf inBackHalf supply serves aisleLength position backHeight depotPoint distance edgesOf fastBest fastServing recordInBounds stockInBounds sameCell lineInBounds listInBounds sameArticle weight allStock shortOfStock jobRows jobRefusal within layoutInBounds without stepsOf firstWalk sameEdge samePoint isCrossing canStep stepTo stepEdge one steps roundTrip cases RefusedWith
-cases-hold =
-    (tour-met _ _ _ _ refl refl refl, (tie-met _ _ _ _ refl refl refl (Bottom 1 ∷ Bottom 1 ∷ []) (P02 ∷ []) (record { allowed = refl; serving = refl; length = refl }) (record { allowed = refl; serving = refl; length = refl }), (tour-met _ _ _ _ refl refl refl, (walk-met _ _ _ _ refl refl refl _ refl, (tour-met _ _ _ _ refl refl refl, ((λ policy. (ShortOfStock, refl, refl)), (case-7, (tour-met _ _ _ _ refl refl refl, (tour-met _ _ _ _ refl refl refl, ((tour-met _ 26 (Bottom 3 ∷ Bottom 5 ∷ Bottom 3 ∷ []) (P02 ∷ P02 ∷ []) refl refl refl) .0, ((λ policy. (refl, (ShortOfStock, refl, refl))), ((λ policy. (ListBounds, refl, refl)), ((λ policy. (refl, (TooHeavy, refl, refl))), ((λ policy. (ListBounds, refl, refl)), tt))))))))))))))
+cases-hold = all-hold cases cases-computed
+
+-- the rows of our own cases
+own-cases-computed : AllComputed ownCases
+unfolding actionsOf passagesInOrder single prepend shorterOf stocked _⨯_ alpha beta listed holdsListed actionPossible actionStep passageStep accepts actionAt passageAt multiplicity lengthOf planLength planPasses inFrontHalf inBackHalf supply serves aisleLength position backHeight depotPoint distance edgesOf boundedBest actionLength passageLength recordInBounds stockInBounds sameCell lineInBounds listInBounds sameArticle weight allStock shortOfStock jobRows jobRefusal within layoutInBounds without stepsOf firstWalk sameEdge samePoint isCrossing canStep stepTo stepEdge one steps RefusedWith ownJob oneEach midwayFront midwayBack farBack nearBack bothEnds bottomOrTop topOrGap gapOrOnce frontOrBack leftFirst topTie withOthers gapByFront gapByBack wrongLayout wrongStock sharedCell sharedArticle bothBottom bothOnce ownCases
+own-cases-computed =
+    (refl, refl)
+    ▸ (refl, refl)
+    ▸ (refl, refl)
+    ▸ (refl, refl)
+    ▸ (refl, refl)
+    ▸ (refl, refl)
+    ▸ (λ policy. (LayoutBounds, refl, refl))
+    ▸ (λ policy. (StockBounds, refl, refl))
+    ▸ (λ policy. (CellTwice, refl, refl))
+    ▸ (λ policy. (ArticleTwice, refl, refl))
+    ▸ (refl, refl, refl, refl)
+    ▸ (refl, refl, refl, refl)
+    ▸ (refl, refl, refl, refl)
+    ▸ (refl, refl, refl, refl)
+    ▸ (refl, refl, refl, refl)
+    ▸ (refl, refl, refl, refl)
+    ▸ (refl, refl, refl, refl)
+    ▸ (refl, refl, refl, refl)
+    ▸ (refl, refl, refl, refl)
+    ▸ (refl, refl, refl, refl)
+    ▸ (refl, refl, refl, refl)
+    ▸ ((refl, refl, refl, refl), refl)
+    ▸ tt
 
 -- the table of our own cases
 pub own-cases-hold : AllHold ownCases
-unfolding actionsOf passagesInOrder single prepend shorterOf emptyPlan bestPlan stocked _⨯_ alpha beta listed holdsListed actionPossible actionStep passageStep accepts actionAt passageAt multiplicity lengthOf planLength planPasses inFrontHalf inBackHalf supply serves aisleLength position backHeight depotPoint distance edgesOf fastBest fastServing recordInBounds stockInBounds sameCell lineInBounds listInBounds sameArticle weight allStock shortOfStock jobRows jobRefusal within layoutInBounds without stepsOf firstWalk sameEdge samePoint isCrossing canStep stepTo stepEdge one steps RefusedWith ownJob oneEach midwayFront midwayBack farBack nearBack bothEnds bottomOrTop topOrGap gapOrOnce frontOrBack leftFirst topTie withOthers gapByFront gapByBack wrongLayout wrongStock sharedCell sharedArticle bothBottom bothOnce ownCases
-own-cases-hold =
-    ((refl, refl), ((refl, refl), ((refl, refl), ((refl, refl), ((refl, refl), ((refl, refl), (λ policy. (LayoutBounds, refl, refl), (λ policy. (StockBounds, refl, refl), (λ policy. (CellTwice, refl, refl), (λ policy. (ArticleTwice, refl, refl), (tour-met _ _ _ _ refl refl refl, (tour-met _ _ _ _ refl refl refl, (tour-met _ _ _ _ refl refl refl, (tour-met _ _ _ _ refl refl refl, (tour-met _ _ _ _ refl refl refl, (tour-met _ _ _ _ refl refl refl, (tour-met _ _ _ _ refl refl refl, (tour-met _ _ _ _ refl refl refl, (tour-met _ _ _ _ refl refl refl, (tour-met _ _ _ _ refl refl refl, (tour-met _ _ _ _ refl refl refl, (walk-met _ _ _ _ refl refl refl _ refl, tt))))))))))))))))))))))
+own-cases-hold = all-hold ownCases own-cases-computed
 
 -- the texts of words and lines, byte for byte
 pub texts-hold : AllSame texts

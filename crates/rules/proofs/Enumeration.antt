@@ -22,6 +22,7 @@ use Rattle.rules.specs.Jobs.{Job}
 use Rattle.rules.specs.Serving.{serves, PlanServes}
 use Rattle.rules.specs.Machine.{accepts}
 use Rattle.rules.proofs.Lists.{member-from, from-member, place-member, place-beyond, member-concat, concat-member, member-select, sorted-append, sorted-split, sorted-select, sorted-map, sorted-by, sorted-concat, sorted-from}
+use Rattle.rules.proofs.Listing.{listed-sound}
 use Rattle.rules.proofs.Lengths.{well-formed-fits}
 use Rattle.rules.proofs.Serving.{serves-test}
 
@@ -188,43 +189,9 @@ pub enumeration-complete : (z : Layout) (plan : Plan) → WellFormed z plan → 
 enumeration-complete z plan wf =
     rw (wf .aisles) at (complete-from (z .cells) (plan .actions) (plan .passages) (wf .passages ∙ sym (wf .aisles)) (well-formed-fits z plan wf))
 
--- so many actions that fit, and a passage less
-abbrev Sound : ℕ → ℕ → Plan → Type 0
-Sound cells m plan =
-    (length (plan .actions) ≡ m) × (suc (length (plan .passages)) ≡ m) × ((a : Action) → List·Memᴰ a (plan .actions) → Fits cells a)
-
-sound-from : (cells m : ℕ) (plan : Plan) → List·Memᴰ plan (plansOf cells m) → Sound cells m plan
-unfolding single prepend
-sound-from cells zero plan m = absurd (List·Memᴰ·not-nil m)
-sound-from cells (suc zero) plan m =
-    let p = Memᴰ·of-map single (actionsOf cells) m in
-    subst (Sound cells 1) p.2 (refl, refl, λ a l. subst (Fits cells) (sym (List·Memᴰ·eq-of-singleton l)) (actions-sound cells (p .0) p.1))
-sound-from cells (suc (suc n)) plan m =
-    let p = member-concat (plansWith cells (suc n)) (actionsOf cells) m in
-    let q = member-concat (plansFrom cells (suc n) (p .0)) passagesInOrder p.2 in
-    let r = Memᴰ·of-map (prepend (p .0) (q .0)) (plansOf cells (suc n)) q.2 in
-    let rest = sound-from cells (suc n) (r .0) r.1 in
-    subst (Sound cells (suc (suc n))) r.2 (ap suc rest.0, ap suc rest.1, λ a l. go a (p .0) (r .0) (actions-sound cells (p .0) p.1) rest.2 l)
-  where
-    go : (a b : Action) (other : Plan) → Fits cells b → ((c : Action) → List·Memᴰ c (other .actions) → Fits cells c) → List·Memᴰ a (b ∷ other .actions) → Fits cells a
-    go a b other f h (List·Memᴰ·head e) = subst (Fits cells) (sym e) f
-    go a b other f h (List·Memᴰ·tail l) = h a l
-
--- where every action of a list fits, the action of each aisle does
-pub nth-fits : (cells : ℕ) (xs : List Action) → ((a : Action) → List·Memᴰ a xs → Fits cells a) → (j : ℕ) → Fits cells (nth xs j Void)
-nth-fits cells xs h zero = tt
-nth-fits cells xs h (suc j) = go (ltb j (length xs)) refl
-  where
-    go : (t : Bool) → ltb j (length xs) ≡ t → Fits cells (nth xs (suc j) Void)
-    go true e = h (nth xs (suc j) Void) (place-member Void xs j (ltb-true j (length xs) e))
-    go false e = subst (Fits cells) (sym (place-beyond Void xs j (ltb-false j (length xs) e))) tt
-
 -- every listed plan is well-formed
 pub enumeration-sound : (z : Layout) (plan : Plan) → List·Memᴰ plan (plansOf (z .cells) (z .aisles)) → WellFormed z plan
-unfolding actionAt
-enumeration-sound z plan m =
-    let s = sound-from (z .cells) (z .aisles) plan m in
-    record { aisles = s .0; passages = s .1; fits = nth-fits (z .cells) (plan .actions) s.2 }
+enumeration-sound z = listed-sound z (actions-sound (z .cells))
 
 -- the plans are listed in order
 pub enumeration-ordered : (cells m : ℕ) → Sorted (PlanBefore cells) (plansOf cells m)

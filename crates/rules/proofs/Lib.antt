@@ -5,6 +5,7 @@ pub mod Admission
 pub mod Answering
 pub mod Lengths
 pub mod Serving
+pub mod Listing
 pub mod Enumeration
 pub mod Pruning
 pub mod Cases

@@ -293,6 +293,28 @@ module _ {A : Type 0} where
       go true e = ap (λ l. cond (t x) (x ∷ l) l) e
       go false e = e
 
+  pub select-swap : (s t : A → Bool) (xs : List A) → select t (select s xs) ≡ select s (select t xs)
+  select-swap s t [] = refl
+  select-swap s t (x ∷ xs) = go (select-swap s t xs) (s x) refl (t x) refl
+    where
+      go : select t (select s xs) ≡ select s (select t xs) → (b : Bool) → s x ≡ b → (c : Bool) → t x ≡ c
+          → select t (cond b (x ∷ select s xs) (select s xs)) ≡ select s (cond c (x ∷ select t xs) (select t xs))
+      go e true p true q = rw (p, q) (ap (λ l. x ∷ l) e)
+      go e true p false q = rw (q) e
+      go e false p true q = rw (p) e
+      go e false p false q = e
+
+  -- what passes one test passes another, so that the other makes no difference
+  pub select-implied : (t s : A → Bool) → ((x : A) → t x ≡ true → s x ≡ true) → (xs : List A) → select t (select s xs) ≡ select t xs
+  select-implied t s h [] = refl
+  select-implied t s h (x ∷ xs) = go (select-implied t s h xs) (s x) refl (t x) refl
+    where
+      go : select t (select s xs) ≡ select t xs → (b : Bool) → s x ≡ b → (c : Bool) → t x ≡ c
+          → select t (cond b (x ∷ select s xs) (select s xs)) ≡ cond c (x ∷ select t xs) (select t xs)
+      go e true p c q = rw (q) (ap (λ l. cond c (x ∷ l) l) e)
+      go e false p true q = absurd (true≢false (sym (h x q) ∙ p))
+      go e false p false q = e
+
 module _ {A B : Type 0} where
   pub map-append : (f : A → B) (xs ys : List A) → map f (xs ++ ys) ≡ map f xs ++ map f ys
   map-append f [] ys = refl

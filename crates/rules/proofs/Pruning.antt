@@ -1,10 +1,15 @@
--- A faster way to the best plan of a job: the accepted rests of an aisle are listed once for each state, a dead state has none,
--- and each length is computed once. It gives the same plan, so that the worked examples can be computed.
-use Prim.Native.Nat.{ℕ, zero, suc}
-use mathlib.Core.Path.{_≡_, refl, sym, _∙_, ap}
-use mathlib.Core.List.{List, [], _∷_, _++_, map, tail}
-use mathlib.Core.Bool.{Bool, true, false, cond, _&&_}
+-- A faster way to the best plan of a job, so that the worked examples can be computed: the accepted rests of a plan from an aisle on
+-- are listed once for each state, each beside its length; a dead state has none, and those longer than a bound are left out.
+-- A plan that is found so, no longer than the bound, is the best plan.
+use Prim.Native.Nat.{ℕ, zero, suc, _+_, _-_, _≤_, _<_, min}
+use mathlib.Core.Path.{_≡_, refl, sym, _∙_, ap, subst}
+use mathlib.Core.Logic.{_⊎_, inl, inr}
+use mathlib.Core.List.{List, [], _∷_, map, tail, List·Memᴰ, List·Memᴰ·head, List·Memᴰ·tail, List·Memᴰ·not-nil}
+use mathlib.Core.Bool.{Bool, true, false, cond, _&&_, and-eq-true-iff}
 use mathlib.Core.Option.{Option, none, some, Option·getD}
+use lib.Dec.{leb}
+use native.Mathlib.Omega.{arith}
+use borrow.Author.Tests.{leb-true, leb-false, le-leb, lt-leb}
 use Rattle.rules.specs.declared.Policy.{Policy}
 use Rattle.rules.specs.declared.Policy.the-variants.{Exact, Return, Traversal, Midpoint, Composite}
 use Rattle.rules.specs.declared.Layout.{Layout}
@@ -12,13 +17,16 @@ use Rattle.rules.specs.declared.Action.{Action}
 use Rattle.rules.specs.declared.Action.the-variants.{Void, Bottom, Top, Gap, Once, Twice}
 use Rattle.rules.specs.declared.Passage.{Passage}
 use Rattle.rules.specs.declared.Passage.the-variants.{P00, P02, P11, P20, P22}
-use Rattle.rules.specs.Lists.{headOr, select, concatOf}
+use Rattle.rules.specs.Lists.{headOr, select, concatOf, sumOf, allOf}
+use Rattle.rules.specs.Lengths.{actionLength, passageLength}
 use Rattle.rules.specs.Jobs.{Job}
-use Rattle.rules.specs.Plans.{Plan, planLength, planPasses}
+use Rattle.rules.specs.Plans.{Plan, Fits, WellFormed, planLength, planPasses}
 use Rattle.rules.specs.Policies.{passageNamed}
 use Rattle.rules.specs.Machine.{State, nothing, closed, atFront, atBack, odd, joined, split, ending, dead, lawfulStep, traversalStep, midpointStep, policyStep, actionPossible, actionStep, crossStep, passageStep, runFrom, isClosed, accepts}
 use Rattle.rules.specs.Serving.{serves}
-use Rattle.rules.proofs.Lists.{select-none, select-both, select-concat, select-map, concat-cong, concat-none}
+use Rattle.rules.proofs.Lengths.{plan-length}
+use Rattle.rules.proofs.Listing.{listed-sound}
+use Rattle.rules.proofs.Lists.{all-true, member-select, select-none, select-both, select-swap, select-implied, select-concat, select-map, concat-cong, concat-none, map-map, map-concat}
 use Rattle.rules.specs.BestPlan.{actionsOf, passagesInOrder, single, prepend, plansOf, shorterOf, firstShortest, servingPlans, emptyPlan, bestPlan}
 
 -- the machine stays dead
@@ -106,18 +114,39 @@ branches-all split rest e = refl
 branches-all ending rest e = refl
 branches-all dead rest e = e
 
--- the accepted rests from an aisle on, for each state in front of it: each is computed once
-record Layer : Type 0 where
-  if-nothing : List Plan
-  if-closed : List Plan
-  if-front : List Plan
-  if-back : List Plan
-  if-odd : List Plan
-  if-joined : List Plan
-  if-split : List Plan
-  if-ending : List Plan
+-- the length of a rest from its parts: an aisle and the passage behind it at a time
+abbrev costOf : Layout → List Action → List Passage → ℕ
+costOf z [] ps = sumOf (passageLength z) ps
+costOf z (a ∷ rest) [] = actionLength z a + sumOf (actionLength z) rest
+costOf z (a ∷ rest) (p ∷ ps) = actionLength z a + (passageLength z p + costOf z rest ps)
 
-abbrev tabulate : (State → List Plan) → Layer
+cost-sums : (z : Layout) (rest : List Action) (ps : List Passage) → sumOf (actionLength z) rest + sumOf (passageLength z) ps ≡ costOf z rest ps
+cost-sums z [] ps = omega arith
+cost-sums z (a ∷ rest) [] = omega arith
+cost-sums z (a ∷ rest) (p ∷ ps) = omega (arith, cost-sums z rest ps)
+
+abbrev cost : Layout → Plan → ℕ
+cost z plan = costOf z (plan .actions) (plan .passages)
+
+-- a rest beside its length
+abbrev Rest : Type 0
+Rest = ℕ × Plan
+
+abbrev weighed : Layout → Plan → Rest
+weighed z plan = (cost z plan, plan)
+
+-- the rests from an aisle on, for each state in front of it: each is computed once
+record Layer : Type 0 where
+  if-nothing : List Rest
+  if-closed : List Rest
+  if-front : List Rest
+  if-back : List Rest
+  if-odd : List Rest
+  if-joined : List Rest
+  if-split : List Rest
+  if-ending : List Rest
+
+abbrev tabulate : (State → List Rest) → Layer
 tabulate f =
     record {
       if-nothing = f nothing;
@@ -130,7 +159,7 @@ tabulate f =
       if-ending = f ending;
     }
 
-abbrev restsAt : Layer → State → List Plan
+abbrev restsAt : Layer → State → List Rest
 restsAt l nothing = l .if-nothing
 restsAt l closed = l .if-closed
 restsAt l atFront = l .if-front
@@ -141,7 +170,7 @@ restsAt l split = l .if-split
 restsAt l ending = l .if-ending
 restsAt l dead = []
 
-at-tabulate : (f : State → List Plan) → f dead ≡ [] → (s : State) → f s ≡ restsAt (tabulate f) s
+at-tabulate : (f : State → List Rest) → f dead ≡ [] → (s : State) → f s ≡ restsAt (tabulate f) s
 at-tabulate f e nothing = refl
 at-tabulate f e closed = refl
 at-tabulate f e atFront = refl
@@ -152,120 +181,327 @@ at-tabulate f e split = refl
 at-tabulate f e ending = refl
 at-tabulate f e dead = e
 
--- what follows an action, for each passage
-abbrev passed : Job → ℕ → Layer → Action → State → List Plan
-passed job j next a s = concatOf (λ p. map (prepend a p) (restsAt next (passageStep job j p s))) passagesInOrder
-
--- what follows a state, for each action
-abbrev entered : Job → ℕ → Layer → State → List Plan
-entered job j next s = concatOf (λ a. branches (actionStep job j a s) (passed job j next a)) (actionsOf (job .layout .cells))
-
--- the accepted rests of n aisles from aisle j on
-abbrev layerFrom : Job → ℕ → ℕ → Layer
-layerFrom job zero j = tabulate (λ s. [])
-layerFrom job (suc zero) j = tabulate (λ s. select (acceptsFrom job j s) (map single (actionsOf (job .layout .cells))))
-layerFrom job (suc (suc n)) j = let next = layerFrom job (suc n) (suc j) in tabulate (entered job j next)
-
-accepts-none : (job : Job) (j : ℕ) (plans : List Plan) → select (acceptsFrom job j dead) plans ≡ []
-unfolding acceptsFrom
-accepts-none job j plans = select-none _ (λ plan. ap isClosed (run-dead job (plan .actions) j (plan .passages))) plans
-
 -- with one more aisle and passage in front, the machine has made one more step
-accepts-prepend : (job : Job) (j : ℕ) (s : State) (a : Action) (p : Passage) (plans : List Plan) → select (acceptsFrom job j s) (map (prepend a p) plans) ≡ map (prepend a p) (select (acceptsFrom job (suc j) (passageStep job j p (actionStep job j a s))) plans)
+accepts-prepend : (job : Job) (j : ℕ) (s : State) (a : Action) (p : Passage) (plans : List Plan)
+    → select (acceptsFrom job j s) (map (prepend a p) plans)
+    ≡ map (prepend a p) (select (acceptsFrom job (suc j) (passageStep job j p (actionStep job j a s))) plans)
 unfolding acceptsFrom prepend
 accepts-prepend job j s a p plans = select-map (acceptsFrom job j s) (prepend a p) plans
 
-abbrev Same : Job → ℕ → ℕ → Type 0
-Same job n j = (s : State) → select (acceptsFrom job j s) (plansOf (job .layout .cells) n) ≡ restsAt (layerFrom job n j) s
+module _ (job : Job) (bound : ℕ) where
+  abbrev z : Layout
+  z = job .layout
 
-module _ (job : Job) (j n : ℕ) (rest : Same job (suc n) (suc j)) where
-  abbrev next : Layer
-  next = layerFrom job (suc n) (suc j)
+  abbrev actions : List Action
+  actions = actionsOf (z .cells)
 
-  abbrev plans : List Plan
-  plans = plansOf (job .layout .cells) (suc n)
+  -- no longer than the bound
+  abbrev short : Plan → Bool
+  short plan = leb (cost z plan) bound
 
-  passed-dead : (a : Action) → passed job j next a dead ≡ []
-  passed-dead a = concat-none _ (λ p. ap (λ s. map (prepend a p) (restsAt next s)) (passage-dead job j p)) passagesInOrder
+  abbrev within : Rest → Bool
+  within r = leb (r .0) bound
 
-  after-action : (s : State) (a : Action) → select (acceptsFrom job j s) (concatOf (λ p. map (prepend a p) plans) passagesInOrder) ≡ branches (actionStep job j a s) (passed job j next a)
-  after-action s a =
-      select-concat (acceptsFrom job j s) _ passagesInOrder
-      ∙ concat-cong _ _ (λ p. accepts-prepend job j s a p plans ∙ ap (map (prepend a p)) (rest (passageStep job j p (actionStep job j a s)))) passagesInOrder
-      ∙ branches-all (actionStep job j a s) (passed job j next a) (passed-dead a)
+  -- of some plans the accepted ones that are no longer than the bound
+  abbrev kept : ℕ → State → List Plan → List Rest
+  kept j s plans = map (weighed z) (select short (select (acceptsFrom job j s) plans))
 
-  one-more : (s : State) → select (acceptsFrom job j s) (plansOf (job .layout .cells) (suc (suc n))) ≡ entered job j next s
-  one-more s = select-concat (acceptsFrom job j s) _ (actionsOf (job .layout .cells)) ∙ concat-cong _ _ (after-action s) (actionsOf (job .layout .cells))
+  -- one more aisle and passage in front of a rest
+  abbrev grow : Action → Passage → Rest → Rest
+  grow a p r = (actionLength z a + (passageLength z p + r .0), prepend a p (r .1))
 
-  -- from a dead state no action leads on
-  entered-dead : entered job j next dead ≡ []
-  entered-dead = concat-none _ (λ a. ap (λ s. branches s (passed job j next a)) (action-dead job j a)) (actionsOf (job .layout .cells))
+  abbrev grown : Action → Passage → List Rest → List Rest
+  grown a p rests = select within (map (grow a p) rests)
 
-accepted-from : (job : Job) (n j : ℕ) → Same job n j
-accepted-from job zero j s = at-tabulate (λ s. []) refl s
-accepted-from job (suc zero) j s =
-    at-tabulate (λ s. select (acceptsFrom job j s) (map single (actionsOf (job .layout .cells)))) (accepts-none job j (map single (actionsOf (job .layout .cells)))) s
-accepted-from job (suc (suc n)) j s =
-    let rest = accepted-from job (suc n) (suc j) in
-    one-more job j n rest s ∙ at-tabulate (entered job j (layerFrom job (suc n) (suc j))) (entered-dead job j n rest) s
+  -- what follows an action, for each passage
+  abbrev passed : ℕ → Layer → Action → State → List Rest
+  passed j next a s = concatOf (λ p. grown a p (restsAt next (passageStep job j p s))) passagesInOrder
 
--- the serving plans of a job, found the faster way
-unfoldable pub fastServing : Job → List Plan
-unfolding acceptsFrom
-fastServing job = select (λ plan. serves job (planPasses plan)) (restsAt (layerFrom job (job .layout .aisles) 1) nothing)
+  -- what follows a state, for each action
+  abbrev entered : ℕ → Layer → State → List Rest
+  entered j next s = concatOf (λ a. branches (actionStep job j a s) (passed j next a)) actions
 
-pub fast-serving : (job : Job) → servingPlans job ≡ fastServing job
-unfolding servingPlans accepts acceptsFrom fastServing
-fast-serving job =
-    select-both (accepts job) (λ plan. serves job (planPasses plan)) (plansOf (job .layout .cells) (job .layout .aisles))
-    ∙ ap (select (λ plan. serves job (planPasses plan))) (accepted-from job (job .layout .aisles) 1 nothing)
+  -- the rests of n aisles from aisle j on
+  abbrev layerFrom : ℕ → ℕ → Layer
+  layerFrom zero j = tabulate (λ s. [])
+  layerFrom (suc zero) j = tabulate (λ s. kept j s (map single actions))
+  layerFrom (suc (suc n)) j = let next = layerFrom (suc n) (suc j) in tabulate (entered j next)
+
+  kept-dead : (j : ℕ) (plans : List Plan) → kept j dead plans ≡ []
+  unfolding acceptsFrom
+  kept-dead j plans =
+      ap (λ xs. map (weighed z) (select short xs))
+      (select-none _ (λ plan. ap isClosed (run-dead job (plan .actions) j (plan .passages))) plans)
+
+  kept-concat : {A : Type 0} (j : ℕ) (s : State) (f : A → List Plan) (xs : List A) → kept j s (concatOf f xs) ≡ concatOf (λ x. kept j s (f x)) xs
+  kept-concat j s f xs =
+      ap (λ ys. map (weighed z) (select short ys)) (select-concat (acceptsFrom job j s) f xs)
+      ∙ ap (map (weighed z)) (select-concat short (λ x. select (acceptsFrom job j s) (f x)) xs)
+      ∙ map-concat (weighed z) (λ x. select short (select (acceptsFrom job j s) (f x))) xs
+
+  -- a rest that is too long stays too long
+  grown-short : (a : Action) (p : Passage) (plan : Plan) → short (prepend a p plan) ≡ true → short plan ≡ true
+  unfolding prepend
+  grown-short a p plan h = le-leb (cost z plan) bound (omega (arith, leb-true (cost z (prepend a p plan)) bound h))
+
+  kept-prepend : (j : ℕ) (s : State) (a : Action) (p : Passage) (plans : List Plan)
+      → kept j s (map (prepend a p) plans) ≡ grown a p (kept (suc j) (passageStep job j p (actionStep job j a s)) plans)
+  unfolding prepend
+  kept-prepend j s a p plans =
+      let rests = select (acceptsFrom job (suc j) (passageStep job j p (actionStep job j a s))) plans in
+      let longer : Plan → Bool = λ plan. short (prepend a p plan) in
+      ap (λ xs. map (weighed z) (select short xs)) (accepts-prepend job j s a p plans)
+      ∙ ap (map (weighed z)) (select-map short (prepend a p) rests)
+      ∙ map-map (weighed z) (prepend a p) (select longer rests)
+      ∙ ap (map (λ plan. weighed z (prepend a p plan))) (sym (select-implied longer short (grown-short a p) rests))
+      ∙ sym (select-map within (λ plan. grow a p (weighed z plan)) (select short rests))
+      ∙ ap (select within) (sym (map-map (grow a p) (weighed z) (select short rests)))
+
+  abbrev Same : ℕ → ℕ → Type 0
+  Same n j = (s : State) → kept j s (plansOf (z .cells) n) ≡ restsAt (layerFrom n j) s
+
+  module _ (j n : ℕ) (rest : Same (suc n) (suc j)) where
+    abbrev next : Layer
+    next = layerFrom (suc n) (suc j)
+
+    abbrev plans : List Plan
+    plans = plansOf (z .cells) (suc n)
+
+    passed-dead : (a : Action) → passed j next a dead ≡ []
+    passed-dead a = concat-none _ (λ p. ap (λ s. grown a p (restsAt next s)) (passage-dead job j p)) passagesInOrder
+
+    after-action : (s : State) (a : Action)
+        → kept j s (concatOf (λ p. map (prepend a p) plans) passagesInOrder) ≡ branches (actionStep job j a s) (passed j next a)
+    after-action s a =
+        kept-concat j s (λ p. map (prepend a p) plans) passagesInOrder
+        ∙ concat-cong _ _ (λ p. kept-prepend j s a p plans ∙ ap (grown a p) (rest (passageStep job j p (actionStep job j a s)))) passagesInOrder
+        ∙ branches-all (actionStep job j a s) (passed j next a) (passed-dead a)
+
+    one-more : (s : State) → kept j s (plansOf (z .cells) (suc (suc n))) ≡ entered j next s
+    one-more s =
+        kept-concat j s (λ a. concatOf (λ p. map (prepend a p) plans) passagesInOrder) actions ∙ concat-cong _ _ (after-action s) actions
+
+    -- from a dead state no action leads on
+    entered-dead : entered j next dead ≡ []
+    entered-dead = concat-none _ (λ a. ap (λ s. branches s (passed j next a)) (action-dead job j a)) actions
+
+  kept-from : (n j : ℕ) → Same n j
+  kept-from zero j s = at-tabulate (λ s. []) refl s
+  kept-from (suc zero) j s = at-tabulate (λ s. kept j s (map single actions)) (kept-dead j (map single actions)) s
+  kept-from (suc (suc n)) j s =
+      let rest = kept-from (suc n) (suc j) in
+      one-more j n rest s ∙ at-tabulate (entered j (layerFrom (suc n) (suc j))) (entered-dead j n rest) s
+
+  abbrev servesList : Plan → Bool
+  servesList plan = serves job (planPasses plan)
+
+  -- the first of the shortest that serve the list, among the plans no longer than the bound, beside its length
+  unfoldable pub boundedBest : Option Rest
+  unfolding acceptsFrom
+  boundedBest =
+      firstShortest (λ (r : Rest). r .0) (select (λ (r : Rest). servesList (r .1)) (restsAt (layerFrom (z .aisles) 1) nothing))
+
+  -- it is the first of the shortest of all that serve the list, as far as these are no longer than the bound
+  bounded-serving : boundedBest ≡ firstShortest (λ (r : Rest). r .0) (map (weighed z) (select short (servingPlans job)))
+  unfolding boundedBest servingPlans accepts acceptsFrom
+  bounded-serving =
+      let accepted = select (accepts job) (plansOf (z .cells) (z .aisles)) in
+      ap (λ rests. firstShortest (λ (r : Rest). r .0) (select (λ (r : Rest). servesList (r .1)) rests)) (sym (kept-from (z .aisles) 1 nothing))
+      ∙ ap (firstShortest (λ (r : Rest). r .0))
+      (select-map (λ (r : Rest). servesList (r .1)) (weighed z) (select short accepted)
+      ∙ ap (map (weighed z)) (select-swap short servesList accepted ∙ ap (select short) (sym (select-both (accepts job) servesList (plansOf (z .cells) (z .aisles))))))
+
+-- Of the shorter of two these laws hold whichever way a tie goes.
+module _ {A : Type 0} (len : A → ℕ) (x y : A) where
+  shorter-second : len y < len x → shorterOf len x (some y) ≡ y
+  unfolding shorterOf
+  shorter-second h = simp (lt-leb (len x) (len y) h, le-leb (len y) (len x) (omega (arith, h))) refl
+
+  shorter-first : len x < len y → shorterOf len x (some y) ≡ x
+  unfolding shorterOf
+  shorter-first h = simp (le-leb (len x) (len y) (omega (arith, h)), lt-leb (len y) (len x) h) refl
+
+  shorter-length : len (shorterOf len x (some y)) ≡ min (len x) (len y)
+  unfolding shorterOf
+  shorter-length = go (leb (len x) (len y)) refl (leb (len y) (len x)) refl
+    where
+      go : (b : Bool) → leb (len x) (len y) ≡ b → (c : Bool) → leb (len y) (len x) ≡ c → len (shorterOf len x (some y)) ≡ min (len x) (len y)
+      go true p true q = simp (p, q) (omega (arith, leb-true (len x) (len y) p, leb-true (len y) (len x) q))
+      go true p false q = simp (p, q) (omega (arith, leb-true (len x) (len y) p))
+      go false p true q = simp (p, q) (omega (arith, leb-true (len y) (len x) q))
+      go false p false q = absurd (omega (arith, leb-false (len x) (len y) p, leb-false (len y) (len x) q))
+
+  -- what is zero at both is zero at the shorter
+  shorter-zero : (g : A → ℕ) → g x ≡ 0 → g y ≡ 0 → g (shorterOf len x (some y)) ≡ 0
+  unfolding shorterOf
+  shorter-zero g at-x at-y = go (leb (len x) (len y)) refl (leb (len y) (len x)) refl
+    where
+      go : (b : Bool) → leb (len x) (len y) ≡ b → (c : Bool) → leb (len y) (len x) ≡ c → g (shorterOf len x (some y)) ≡ 0
+      go true p true q = simp (p, q, at-x, at-y) refl
+      go true p false q = simp (p, q, at-x, at-y) refl
+      go false p true q = simp (p, q, at-x, at-y) refl
+      go false p false q = absurd (omega (arith, leb-false (len x) (len y) p, leb-false (len y) (len x) q))
+
+module _ {A : Type 0} (len : A → ℕ) (bound : ℕ) where
+  abbrev Below : Option A → Type 0
+  Below none = Unit {0}
+  Below (some x) = len x ≤ bound
+
+  abbrev Beyond : Option A → Type 0
+  Beyond none = Unit {0}
+  Beyond (some x) = bound < len x
+
+  abbrev kept-only : List A → List A
+  kept-only xs = select (λ x. leb (len x) bound) xs
+
+  -- without what is longer than the bound the same is first, or nothing is left and all is longer
+  abbrev Bounded : Option A → Option A → Type 0
+  Bounded all kept = ((all ≡ kept) × Below kept) ⊎ ((kept ≡ none) × Beyond all)
+
+  below-one : (x : A) → len x ≤ bound → (o : Option A) → Below o → Below (some (shorterOf len x o))
+  unfolding shorterOf
+  below-one x h none b = h
+  below-one x h (some y) b = omega (arith, shorter-length len x y, h, b)
+
+  beyond-one : (x : A) → bound < len x → (o : Option A) → Beyond o → Beyond (some (shorterOf len x o))
+  unfolding shorterOf
+  beyond-one x h none b = h
+  beyond-one x h (some y) b = omega (arith, shorter-length len x y, h, b)
+
+  -- a short one before what is longer stays
+  first-stays : (x : A) → len x ≤ bound → (o : Option A) → Beyond o → shorterOf len x o ≡ x
+  unfolding shorterOf
+  first-stays x h none b = refl
+  first-stays x h (some y) b = shorter-first len x y (omega (arith, h, b))
+
+  one-short : (x : A) → len x ≤ bound → (all kept : Option A) → Bounded all kept → Bounded (some (shorterOf len x all)) (some (shorterOf len x kept))
+  one-short x h all kept (inl (same, b)) = inl (ap (λ o. some (shorterOf len x o)) same, below-one x h kept b)
+  one-short x h all kept (inr (empty, b)) =
+      let nothing-kept = subst Below (sym empty) tt in
+      let beyond-kept = subst Beyond (sym empty) tt in
+      inl (ap some (first-stays x h all b ∙ sym (first-stays x h kept beyond-kept)), below-one x h kept nothing-kept)
+
+  one-long : (x : A) → bound < len x → (all kept : Option A) → Bounded all kept → Bounded (some (shorterOf len x all)) kept
+  one-long x h all none (inl (same, b)) = inr (refl, beyond-one x h all (subst Beyond (sym same) tt))
+  one-long x h all (some y) (inl (same, b)) =
+      inl (ap some (ap (shorterOf len x) same ∙ shorter-second len x y (omega (arith, h, b))), b)
+  one-long x h all kept (inr (empty, b)) = inr (empty, beyond-one x h all b)
+
+  bounded-first : (xs : List A) → Bounded (firstShortest len xs) (firstShortest len (kept-only xs))
+  bounded-first [] = inl (refl, tt)
+  bounded-first (x ∷ xs) = go (leb (len x) bound) refl (bounded-first xs)
+    where
+      go : (b : Bool) → leb (len x) bound ≡ b → Bounded (firstShortest len xs) (firstShortest len (kept-only xs))
+          → Bounded (firstShortest len (x ∷ xs)) (firstShortest len (cond b (x ∷ kept-only xs) (kept-only xs)))
+      go true p rest = one-short x (leb-true (len x) bound p) _ _ rest
+      go false p rest = one-long x (leb-false (len x) bound p) _ _ rest
+
+  -- so what is found among those within the bound is first among all
+  found-first : (xs : List A) (x : A) → firstShortest len (kept-only xs) ≡ some x → firstShortest len xs ≡ some x
+  found-first xs x e = go (bounded-first xs)
+    where
+      go : Bounded (firstShortest len xs) (firstShortest len (kept-only xs)) → firstShortest len xs ≡ some x
+      go (inl (same, b)) = same ∙ e
+      go (inr (empty, b)) = let none-some : _≡_ {A = ℕ} 0 1 = cc in absurd (omega arith)
+
+module _ {A : Type 0} (len len′ : A → ℕ) where
+  -- lengths that agree on a list choose the same from it
+  abbrev apart : A → ℕ
+  apart x = (len x - len′ x) + (len′ x - len x)
+
+  abbrev Agreed : Option A → Type 0
+  Agreed none = Unit {0}
+  Agreed (some x) = apart x ≡ 0
+
+  agreed-one : (x : A) → apart x ≡ 0 → (o : Option A) → Agreed o → (shorterOf len x o ≡ shorterOf len′ x o) × Agreed (some (shorterOf len x o))
+  unfolding shorterOf
+  agreed-one x h none b = (refl, h)
+  agreed-one x h (some y) b =
+      let at-x : len x ≡ len′ x = omega (arith, h) in
+      let at-y : len y ≡ len′ y = omega (arith, b) in
+      (rw (at-x, at-y) refl, shorter-zero len x y apart h b)
+
+  first-agrees : (xs : List A) → ((x : A) → List·Memᴰ x xs → len x ≡ len′ x)
+      → (firstShortest len xs ≡ firstShortest len′ xs) × Agreed (firstShortest len xs)
+  first-agrees [] h = (refl, tt)
+  first-agrees (x ∷ xs) h =
+      let rest = first-agrees xs (λ y m. h y (List·Memᴰ·tail m)) in
+      let here = agreed-one x (omega (arith, h x (List·Memᴰ·head refl))) (firstShortest len xs) rest.1 in
+      (ap some (here .0 ∙ ap (shorterOf len′ x) rest.0), here .1)
 
 module _ {A : Type 0} (len : A → ℕ) where
-  -- an element beside its length
-  abbrev pair : A → ℕ × A
-  pair x = (len x, x)
+  -- elements beside their lengths
+  abbrev beside : A → ℕ × A
+  beside x = (len x, x)
 
-  abbrev paired : Option A → Option (ℕ × A)
-  paired none = none
-  paired (some x) = some (pair x)
+  abbrev besides : Option A → Option (ℕ × A)
+  besides none = none
+  besides (some x) = some (beside x)
 
-  -- the first of the shortest, each length computed once
-  abbrev quickest : List A → Option (ℕ × A)
-  quickest [] = none
-  quickest (x ∷ xs) = let n = len x in some (shorterOf (λ (p : ℕ × A). p .0) (n, x) (quickest xs))
+  either-beside : (b : Bool) (x y : A) → cond b (beside x) (beside y) ≡ beside (cond b x y)
+  either-beside true x y = refl
+  either-beside false x y = refl
 
-  pair-either : (b : Bool) (x y : A) → cond b (pair x) (pair y) ≡ pair (cond b x y)
-  pair-either true x y = refl
-  pair-either false x y = refl
-
-  shorter-pair : (x : A) (o : Option A) → shorterOf (λ (p : ℕ × A). p .0) (pair x) (paired o) ≡ pair (shorterOf len x o)
+  shorter-beside : (x : A) (o : Option A) → shorterOf (λ (p : ℕ × A). p .0) (beside x) (besides o) ≡ beside (shorterOf len x o)
   unfolding shorterOf
-  shorter-pair x none = refl
-  shorter-pair x (some y) = simp (pair-either) refl
+  shorter-beside x none = refl
+  shorter-beside x (some y) = simp (either-beside) refl
 
-  quickest-first : (xs : List A) → quickest xs ≡ paired (firstShortest len xs)
-  quickest-first [] = refl
-  quickest-first (x ∷ xs) =
-      ap (λ o. some (shorterOf (λ (p : ℕ × A). p .0) (pair x) o)) (quickest-first xs)
-      ∙ ap some (shorter-pair x (firstShortest len xs))
+  first-beside : (xs : List A) → firstShortest (λ (p : ℕ × A). p .0) (map beside xs) ≡ besides (firstShortest len xs)
+  first-beside [] = refl
+  first-beside (x ∷ xs) =
+      ap (λ o. some (shorterOf (λ (p : ℕ × A). p .0) (beside x) o)) (first-beside xs) ∙ ap some (shorter-beside x (firstShortest len xs))
 
-  abbrev second : Option (ℕ × A) → Option A
-  second none = none
-  second (some x) = some (x .1)
+  abbrev seconds : Option (ℕ × A) → Option A
+  seconds none = none
+  seconds (some p) = some (p .1)
 
-  second-paired : (o : Option A) → o ≡ second (paired o)
-  second-paired none = refl
-  second-paired (some x) = refl
+  from-beside : (o : Option A) → o ≡ seconds (besides o)
+  from-beside none = refl
+  from-beside (some y) = refl
 
--- the best plan of a job, found the faster way
-unfoldable pub fastBest : Job → Plan
-fastBest job = Option·getD (second (planLength (job .layout)) (quickest (planLength (job .layout)) (fastServing job))) (emptyPlan (job .layout))
+-- whether an action fits an aisle with so many cells
+abbrev pub fits : ℕ → Action → Bool
+fits cells Void = true
+fits cells (Bottom i) = leb 1 i && leb i cells
+fits cells (Top i) = leb 1 i && leb i cells
+fits cells (Gap h i) = leb 1 h && (leb (suc h) i && leb i cells)
+fits cells Once = true
+fits cells Twice = true
 
-pub fast-best : (job : Job) → bestPlan job ≡ fastBest job
-unfolding bestPlan fastBest
-fast-best job =
-    let len = planLength (job .layout) in
-    let chosen : Option Plan → Plan = λ o. Option·getD o (emptyPlan (job .layout)) in
-    ap (λ plans. chosen (firstShortest len plans)) (fast-serving job)
-    ∙ ap chosen (second-paired len (firstShortest len (fastServing job)))
-    ∙ ap (λ o. chosen (second len o)) (sym (quickest-first len (fastServing job)))
+two-tests : (a b c d : ℕ) → (leb a b && leb c d) ≡ true → (a ≤ b) × (c ≤ d)
+two-tests a b c d h = let both = and-eq-true-iff (leb a b) (leb c d) .0 h in (leb-true a b both.0, leb-true c d both.1)
+
+fits-test : (cells : ℕ) (a : Action) → fits cells a ≡ true → Fits cells a
+fits-test cells Void h = tt
+fits-test cells (Bottom i) h = two-tests 1 i i cells h
+fits-test cells (Top i) h = two-tests 1 i i cells h
+fits-test cells (Gap k i) h =
+    let both = and-eq-true-iff (leb 1 k) (leb (suc k) i && leb i cells) .0 h in
+    let rest = two-tests (suc k) i i cells both.1 in
+    (leb-true 1 k both.0, omega (arith, rest.0), rest.1)
+fits-test cells Once h = tt
+fits-test cells Twice h = tt
+
+-- a plan that is found within the bound of its own length is the best plan of the job; that the listed actions fit is computed
+module _ (job : Job) (n : ℕ) (plan : Plan) (fit : allOf (fits (job .layout .cells)) (actionsOf (job .layout .cells)) ≡ true) where
+  well-formed : (other : Plan) → List·Memᴰ other (servingPlans job) → WellFormed (job .layout) other
+  unfolding servingPlans
+  well-formed other m =
+      listed-sound (job .layout) (λ a l. fits-test (job .layout .cells) a (all-true (fits (job .layout .cells)) _ .0 fit a l)) other
+      (member-select _ _ .0 m .0)
+
+  same-length : (other : Plan) → List·Memᴰ other (servingPlans job) → planLength (job .layout) other ≡ cost (job .layout) other
+  same-length other m =
+      plan-length (job .layout) other (well-formed other m) ∙ cost-sums (job .layout) (other .actions) (other .passages)
+
+  pub found-best : boundedBest job n ≡ some (n, plan) → bestPlan job ≡ plan
+  unfolding bestPlan
+  found-best found =
+      let len = cost (job .layout) in
+      let serving = servingPlans job in
+      let kept = select (λ p. leb (len p) n) serving in
+      let beside-it = sym (first-beside len kept) ∙ sym (bounded-serving job n) ∙ found in
+      let among = from-beside len (firstShortest len kept) ∙ ap (seconds len) beside-it in
+      let agree = first-agrees (planLength (job .layout)) len serving same-length in
+      ap (λ o. Option·getD o (emptyPlan (job .layout))) (agree .0 ∙ found-first len n serving plan among)
