@@ -1,10 +1,4 @@
-pub mod Bytes
-pub mod Told
-pub mod Behind
-pub mod Storing
-pub mod Whole
 pub mod Left
 pub mod Ranges
-pub mod Cells
 pub mod Sums
 pub mod Verdicts

@@ -17,7 +17,7 @@ use Rattle.values.specs.declared.JobValue.{JobValue}
 use Rattle.values.specs.Values.{jobOf}
 use Rattle.jobfile.specs.Ready.{storeOnly}
 use Rattle.jobfile.proofs.Left.{left, left-all, left-more, left-none, all-apart}
-use Rattle.jobfile.specs.Kept.{noRecord, noLine}
+use Rattle.reading.specs.Kept.{noRecord, noLine}
 
 -- a list weighs at least 1
 weight-positive : (lines : List OrderLine) → 0 < weight lines

@@ -21,14 +21,14 @@ use Rattle.rules.proofs.Admission.{stock-within, list-within, admitted}
 use Rattle.rules.proofs.Numbers.{both-true}
 use Rattle.values.specs.declared.JobValue.{JobValue}
 use Rattle.values.specs.Values.{jobOf, Sound}
-use Rattle.jobfile.specs.declared.raw.RawJob.{RawJob}
+use Rattle.reading.specs.declared.raw.RawJob.{RawJob}
 use Rattle.jobfile.specs.declared.Verdict.{Verdict}
 use Rattle.jobfile.specs.declared.ReadJob.{ReadJob}
 use Rattle.jobfile.specs.Ready.{StockReady, ListReady}
-use Rattle.jobfile.specs.Kept.{noRecord, noLine, jobValue, rawOf}
+use Rattle.reading.specs.Kept.{noRecord, noLine, jobValue, rawOf}
 use Rattle.jobfile.specs.Answer.{verdictOf, Decides, checkedAs, checkedOf, answerTo}
-use Rattle.jobfile.proofs.Cells.{cells-bounded}
-use Rattle.jobfile.proofs.Storing.{padded-all}
+use Rattle.reading.proofs.Cells.{cells-bounded}
+use Rattle.reading.proofs.Storing.{padded-all}
 
 -- the tests of the bounds, as they are made on a value
 abbrev pub stockTest : JobValue → Bool

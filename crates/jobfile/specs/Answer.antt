@@ -7,10 +7,10 @@ use Rattle.rules.specs.Jobs.{Job}
 use Rattle.rules.specs.Refusals.{jobRefusal, Checked, good, bad}
 use Rattle.values.specs.declared.JobValue.{JobValue}
 use Rattle.values.specs.Values.{jobOf}
-use Rattle.jobfile.specs.declared.raw.RawJob.{RawJob}
+use Rattle.reading.specs.declared.raw.RawJob.{RawJob}
 use Rattle.jobfile.specs.declared.Verdict.{Verdict}
 use Rattle.jobfile.specs.declared.ReadJob.{ReadJob}
-use Rattle.jobfile.specs.Kept.{jobValue, noJob, rawOf}
+use Rattle.reading.specs.Kept.{jobValue, noJob, rawOf}
 
 -- the verdict that names a refusal, or none
 abbrev pub verdictOf : Option Refusal → Verdict

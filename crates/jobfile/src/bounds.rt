@@ -1,4 +1,5 @@
 // The bounds of the store: the refusals 2, 3 and 5.
+use reading::marks::is_within;
 use rules::Layout;
 use rules::OrderLine;
 use rules::StockRecord;
@@ -10,13 +11,6 @@ ghost use Rattle.rules.specs.Store.{within, layoutInBounds};
 ghost use Rattle.rules.specs.Refusals.{recordInBounds, stockInBounds, lineInBounds, listInBounds};
 ghost use Rattle.values.specs.Values.{jobOf};
 ghost use Rattle.jobfile.specs.Ready.{storeOnly};
-
-// A number from a to b.
-pub fn is_within(a: usize, b: usize, n: usize) -> bool
-    ensures { λ r. ⌜ r ≡ within a b n ⌝ }
-{
-    (a <= n) & (n <= b)
-}
 
 // The numbers of the layout.
 pub fn layout_in_bounds(z: Layout) -> bool

@@ -1,13 +1,9 @@
 // Reading a job: job bytes to the job by value, or to the first refusal that applies.
 mod amounts;
 mod bounds;
-mod cursor;
-mod lines;
-mod raw;
-mod sections;
 mod twice;
 
-use crate::raw::RawJob;
+use reading::raw::RawJob;
 use rules::Refusal;
 use values::JobValue;
 ghost use mathlib.Core.Path.{_≡_};
@@ -66,7 +62,7 @@ pub fn read_job(bytes: &[u8]) -> ReadJob
     ensures { λ r. ⌜ (r .verdict ≡ Verdict.Admitted → Sound (r .job)) ⌝ }
     ensures { λ r. ⌜ r ≡ answerTo (readJob (now (bytes .entry))) ⌝ }
 {
-    let raw = raw::read_raw(bytes);
+    let raw = reading::raw::read_raw(bytes);
     let job = raw.job;
     if !raw.ok {
         let verdict = Verdict::Refused(Refusal::NotAJobFile);

@@ -8,7 +8,7 @@ use borrow.Author.Tests.{not-true, not-false}
 use denote.Ref.{now}
 use Rattle.rules.specs.Jobs.{Job}
 use Rattle.rules.specs.JobFile.{readJob}
-use Rattle.jobfile.specs.Kept.{rawOf}
+use Rattle.reading.specs.Kept.{rawOf}
 use Rattle.jobfile.specs.Answer.{Holds, answerTo}
 use Rattle.jobfile.proofs.Verdicts.{answered, no-job-read, job-there, job-decided}
 use Rattle.jobfile.proofs.read_job.Statement.{statement}

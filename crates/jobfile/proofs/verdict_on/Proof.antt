@@ -5,7 +5,7 @@ use borrow.Author.Needs.{needs}
 use borrow.Author.Tests.{not-true, not-false}
 use Rattle.rules.specs.declared.Refusal.the-variants.{LayoutBounds, StockBounds, CellTwice, ListBounds, ArticleTwice, TooHeavy, ShortOfStock}
 use Rattle.rules.specs.Store.{layoutInBounds}
-use Rattle.jobfile.specs.declared.raw.RawJob.{RawJob}
+use Rattle.reading.specs.declared.raw.RawJob.{RawJob}
 use Rattle.jobfile.proofs.Verdicts.{stockTest, listTest, stock-ready, list-ready, Past, row-layout, row-stock, row-cells, row-list, row-articles, row-weight, row-short, refused, passed}
 use Rattle.jobfile.proofs.verdict_on.Statement.{statement}
 use Rattle.jobfile.proofs.verdict_on.Tie as tie

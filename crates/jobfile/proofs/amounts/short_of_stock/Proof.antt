@@ -12,7 +12,7 @@ use Rattle.rules.specs.declared.OrderLine.{OrderLine}
 use Rattle.values.specs.declared.JobValue.{JobValue}
 use Rattle.values.specs.Values.{jobOf}
 use Rattle.jobfile.proofs.Left.{left-all, AnyFrom, any-fails, any-holds, any-more}
-use Rattle.jobfile.specs.Kept.{noLine}
+use Rattle.reading.specs.Kept.{noLine}
 use Rattle.jobfile.proofs.amounts.short_of_stock.Statement.{statement}
 use Rattle.jobfile.proofs.amounts.short_of_stock.Tie as tie
 

@@ -7,7 +7,7 @@ use Rattle.rules.specs.Lists.{anyTwo}
 use Rattle.rules.specs.Refusals.{sameArticle}
 use Rattle.values.specs.Values.{jobOf}
 use Rattle.jobfile.proofs.Left.{left-all, TwoFrom, two-none, two-found, two-more}
-use Rattle.jobfile.specs.Kept.{noLine}
+use Rattle.reading.specs.Kept.{noLine}
 use Rattle.jobfile.proofs.twice.article_twice.Statement.{statement}
 use Rattle.jobfile.proofs.twice.article_twice.Tie as tie
 

@@ -1,0 +1,6 @@
+pub mod Bytes
+pub mod Told
+pub mod Behind
+pub mod Storing
+pub mod Whole
+pub mod Cells

@@ -1,0 +1,12 @@
+-- `reading::marks::is_within` meets its contract: by computation.
+use mathlib.Core.Path.{refl}
+use Rattle.rules.specs.Store.{within}
+use Rattle.reading.proofs.marks.is_within.Statement.{statement}
+use Rattle.reading.proofs.marks.is_within.Tie as tie
+
+returns : tie.Need-returns
+unfolding within
+returns c = refl
+
+pub is-within-spec : {M : Type 1} → statement M
+is-within-spec = tie.close (tie.spec returns)

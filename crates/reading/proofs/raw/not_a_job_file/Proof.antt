@@ -1,0 +1,19 @@
+-- `reading::raw::not_a_job_file` meets its contract: the value of a job that says nothing.
+use borrow.Author.Needs.{needs}
+use Rattle.reading.specs.Kept.{noRecord, noLine, jobValue, noJob, rawOf}
+use Rattle.reading.proofs.Storing.{padded-none}
+use Rattle.reading.proofs.raw.not_a_job_file.Statement.{statement}
+use Rattle.reading.proofs.raw.not_a_job_file.Tie as tie
+
+no-record-requires : tie.Need-no-record-requires
+no-record-requires c κs = search needs
+
+no-line-requires : tie.Need-no-line-requires
+no-line-requires c κs = search needs
+
+returns : tie.Need-returns
+unfolding rawOf jobValue noJob
+returns c = rw (c .before .no-record .ensures, c .no-line .ensures, padded-none 384 noRecord, padded-none 8 noLine)
+
+pub not-a-job-file-spec : {M : Type 1} → statement M
+not-a-job-file-spec = tie.close (tie.spec no-record-requires no-line-requires returns)

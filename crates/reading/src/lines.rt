@@ -1,0 +1,139 @@
+// The lines of a job file: a cursor reads each and hands back its values and the next cursor.
+use crate::cursor::Cursor;
+use crate::cursor::Field;
+use crate::cursor::Step;
+use rules::Layout;
+use rules::OrderLine;
+use rules::Policy;
+use rules::StockRecord;
+ghost use mathlib.Core.Path.{_≡_};
+ghost use lib.ListN.{drop};
+ghost use Rattle.rules.specs.JobFile.{readPolicy, readLayout, readRecord, readLine};
+ghost use Rattle.reading.specs.Places.{policyOf, layoutOf, recordOf, lineOf};
+
+// What reading a policy word finds.
+pub enum PolicyWord {
+    Named(Policy, Cursor),
+    Bad,
+}
+
+// What reading the line of the L section finds.
+pub enum LayoutLine {
+    Read(Layout, Policy, Cursor),
+    Bad,
+}
+
+// What reading a line of the S section finds.
+pub enum RecordLine {
+    Read(StockRecord, Cursor),
+    Bad,
+}
+
+// What reading a line of the D section finds.
+pub enum ListLine {
+    Read(OrderLine, Cursor),
+    Bad,
+}
+
+impl Cursor {
+    // One of the five policy words and a line feed.
+    pub fn policy(self, s: &[u8]) -> PolicyWord
+        ensures { λ r. ⌜ policyOf (now (s .entry)) r ≡ readPolicy (drop (self .at) (now (s .entry))) ⌝ }
+    {
+        if let Step::Next(next) = self.word(s, b"EXACT\n") {
+            return PolicyWord::Named(Policy::Exact, next);
+        }
+        if let Step::Next(next) = self.word(s, b"RETURN\n") {
+            return PolicyWord::Named(Policy::Return, next);
+        }
+        if let Step::Next(next) = self.word(s, b"TRAVERSAL\n") {
+            return PolicyWord::Named(Policy::Traversal, next);
+        }
+        if let Step::Next(next) = self.word(s, b"MIDPOINT\n") {
+            return PolicyWord::Named(Policy::Midpoint, next);
+        }
+        if let Step::Next(next) = self.word(s, b"COMPOSITE\n") {
+            return PolicyWord::Named(Policy::Composite, next);
+        }
+        PolicyWord::Bad
+    }
+
+    // The line of the L section: seven numbers and the policy word.
+    pub fn layout(self, s: &[u8]) -> LayoutLine
+        ensures { λ r. ⌜ layoutOf (now (s .entry)) r ≡ readLayout (drop (self .at) (now (s .entry))) ⌝ }
+    {
+        let Field::Number(aisles, c1) = self.field(s, 32) else {
+            return LayoutLine::Bad;
+        };
+        let Field::Number(cells, c2) = c1.field(s, 32) else {
+            return LayoutLine::Bad;
+        };
+        let Field::Number(front, c3) = c2.field(s, 32) else {
+            return LayoutLine::Bad;
+        };
+        let Field::Number(pitch, c4) = c3.field(s, 32) else {
+            return LayoutLine::Bad;
+        };
+        let Field::Number(back, c5) = c4.field(s, 32) else {
+            return LayoutLine::Bad;
+        };
+        let Field::Number(width, c6) = c5.field(s, 32) else {
+            return LayoutLine::Bad;
+        };
+        let Field::Number(depot, c7) = c6.field(s, 32) else {
+            return LayoutLine::Bad;
+        };
+        let PolicyWord::Named(word, next) = c7.policy(s) else {
+            return LayoutLine::Bad;
+        };
+        let z = Layout {
+            aisles,
+            cells,
+            front,
+            pitch,
+            back,
+            width,
+            depot,
+        };
+        LayoutLine::Read(z, word, next)
+    }
+
+    // A line of the S section: aisle, cell, article, quantity.
+    pub fn stock_record(self, s: &[u8]) -> RecordLine
+        ensures { λ r. ⌜ recordOf (now (s .entry)) r ≡ readRecord (drop (self .at) (now (s .entry))) ⌝ }
+    {
+        let Field::Number(aisle, c1) = self.field(s, 32) else {
+            return RecordLine::Bad;
+        };
+        let Field::Number(cell, c2) = c1.field(s, 32) else {
+            return RecordLine::Bad;
+        };
+        let Field::Number(article, c3) = c2.field(s, 32) else {
+            return RecordLine::Bad;
+        };
+        let Field::Number(quantity, next) = c3.field(s, 10) else {
+            return RecordLine::Bad;
+        };
+        let record = StockRecord {
+            aisle,
+            cell,
+            article,
+            quantity,
+        };
+        RecordLine::Read(record, next)
+    }
+
+    // A line of the D section: article, quantity.
+    pub fn order_line(self, s: &[u8]) -> ListLine
+        ensures { λ r. ⌜ lineOf (now (s .entry)) r ≡ readLine (drop (self .at) (now (s .entry))) ⌝ }
+    {
+        let Field::Number(article, c1) = self.field(s, 32) else {
+            return ListLine::Bad;
+        };
+        let Field::Number(quantity, next) = c1.field(s, 10) else {
+            return ListLine::Bad;
+        };
+        let line = OrderLine { article, quantity };
+        ListLine::Read(line, next)
+    }
+}
