@@ -24,7 +24,7 @@ use Rattle.values.specs.Values.{planOf}
 use Rattle.closedwalks.proofs.Splits.{equal-or-below}
 use Rattle.walks.specs.Treads.{slotOf, leftOf, Charted}
 use Rattle.walks.specs.Filling.{withAisle, withPassage, withBehind, stageAt, withAisles}
-use Rattle.walks.proofs.Flooding.{same-or-not, none-at}
+use Rattle.flood.proofs.Flooding.{same-or-not, none-at}
 use Rattle.walks.proofs.Places.{slot-same, slot-range, left-in}
 
 -- the list keeps its length

@@ -1,4 +1,3 @@
-pub mod Flooding
 pub mod Places
 pub mod Reaching
 pub mod Choice

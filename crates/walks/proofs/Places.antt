@@ -20,7 +20,7 @@ use Rattle.closedwalks.specs.Ways.{PointOf}
 use Rattle.closedwalks.proofs.Splits.{none-or-some}
 use Rattle.closedwalks.proofs.Steps.{both-true, true-both, edge-split, level-crossing, stepped}
 use Rattle.walks.specs.Treads.{spot, pointAt, slotOf, inStore, leftOf, Charted}
-use Rattle.walks.specs.Flood.{Ranged}
+use Rattle.flood.specs.Flooded.{Ranged}
 use Rattle.walks.specs.Letters.{slotBy, nextBy}
 
 -- the point with a number has that number

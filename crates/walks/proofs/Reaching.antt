@@ -12,7 +12,7 @@ use Rattle.rules.specs.Lawful as Lawful
 use Rattle.closedwalks.specs.Ways.{PointOf, Joined}
 use Rattle.closedwalks.proofs.Links.{link-turn}
 use Rattle.walks.specs.Treads.{spot, slotOf, leftOf, Charted}
-use Rattle.walks.specs.Flood.{Reach, here, backward, forward, rightward, leftward, Starts, AllReached}
+use Rattle.flood.specs.Flooded.{Reach, here, backward, forward, rightward, leftward, Starts, AllReached}
 use Rattle.walks.proofs.Places.{edge-kind, trodden-in, trodden-out, spot-same, spot-range, start-point, end-point}
 
 module _ (z : Layout) (wide : z .aisles ≤ 16) (deep : z .cells ≤ 24) (left : List ℕ) (c : Charted z left) where

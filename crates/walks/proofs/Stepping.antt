@@ -25,9 +25,9 @@ use Rattle.closedwalks.proofs.Counts.{layout-bounds}
 use Rattle.closedwalks.proofs.Greedily.{spare-joined}
 use Rattle.closedwalks.proofs.Statements.{completed}
 use Rattle.walks.specs.Treads.{spot, pointAt, slotOf, leftOf, Charted}
-use Rattle.walks.specs.Flood.{AllReached, Ranged}
+use Rattle.flood.specs.Flooded.{AllReached, Ranged}
 use Rattle.walks.specs.Letters.{slotBy, nextBy, treadsAt, finds, Walkable, canBe, nextLetter, lettersLeft}
-use Rattle.walks.proofs.Flooding.{same-or-not, seen-below, none-at}
+use Rattle.flood.proofs.Flooding.{same-or-not, seen-below, none-at}
 use Rattle.walks.proofs.Places.{spot-at, spot-point, spot-range, left-in, left-without, charted-fewer, charted-range, letter-slot, letter-next, free-slot, slot-free, free-test}
 use Rattle.walks.proofs.Reaching.{reached-joined}
 use Rattle.walks.proofs.Choice.{finds-tells, only-joined, chosen-ready, some-chosen, greedy-chosen}

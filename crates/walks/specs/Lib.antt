@@ -1,5 +1,4 @@
 pub mod Treads
-pub mod Flood
 pub mod Letters
 pub mod Filling
 pub mod Lawfully

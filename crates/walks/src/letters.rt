@@ -1,8 +1,7 @@
 // The letters of the walk: at each point the first behind which all that is left can still be reached.
-use crate::flood;
-use crate::numbers::HEIGHTS;
 use crate::numbers::LEFTWARDS;
-use crate::numbers::POINTS;
+use flood::HEIGHTS;
+use flood::POINTS;
 use rules::Direction;
 use rules::Layout;
 ghost use mathlib.Core.Path.{_≡_};
@@ -14,7 +13,7 @@ ghost use lib.ListN.{length, getD, set, replicate};
 ghost use Rattle.rules.specs.Sheet.{letterOf};
 ghost use Rattle.rules.specs.FirstWalk.{stepsOf};
 ghost use Rattle.walks.specs.Treads.{leftOf};
-ghost use Rattle.walks.specs.Flood.{AllReached, Ranged};
+ghost use Rattle.flood.specs.Flooded.{AllReached, Ranged};
 ghost use Rattle.walks.specs.Letters.{slotBy, nextBy, treadsAt, Walkable, canBe, nextLetter, lettersLeft, Spelt};
 
 // The letter of a step.

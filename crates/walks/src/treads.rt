@@ -1,6 +1,6 @@
 // The treads of a plan, one number for each edge.
-use crate::numbers::HEIGHTS;
-use crate::numbers::POINTS;
+use flood::HEIGHTS;
+use flood::POINTS;
 use rules::Action;
 use rules::Layout;
 use rules::Passage;

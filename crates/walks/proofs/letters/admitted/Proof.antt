@@ -8,7 +8,7 @@ use lib.ListN.{getD, set}
 use denote.Ref.{now}
 use borrow.Author.Needs.{needs}
 use Rattle.closedwalks.proofs.Counts.{layout-bounds}
-use Rattle.walks.specs.Flood.{AllReached, Ranged}
+use Rattle.flood.specs.Flooded.{AllReached, Ranged}
 use Rattle.walks.specs.Letters.{slotBy, nextBy}
 use Rattle.walks.proofs.Stepping.{at-range, next-range, rest-range, letter-none, letter-spare, letter-alone, letter-last, slot-below}
 use Rattle.walks.proofs.letters.admitted.Statement.{statement}

@@ -5,7 +5,7 @@ use lib.ListN.{set, length-set}
 use lib.Seq.{set-set, set-getD}
 use denote.Ref.{now}
 use borrow.Author.Needs.{needs}
-use Rattle.walks.proofs.Flooding.{seen-below}
+use Rattle.flood.proofs.Flooding.{seen-below}
 use Rattle.walks.proofs.letters.reaches_without.Statement.{statement}
 use Rattle.walks.proofs.letters.reaches_without.Tie as tie
 

@@ -1,14 +1,14 @@
--- `walks::flood::spread_edge` meets its contract: by which of the two points is seen.
+-- `flood::spread_edge` meets its contract: by which of the two points is seen.
 use Prim.Native.Nat.{_<_}
 use native.Mathlib.Omega.{arith}
 use lib.ListN.{length, getD}
 use denote.Ref.{now}
 use borrow.Author.Needs.{needs}
 use borrow.Author.Tests.{eq-eqb, ne-eqb}
-use Rattle.walks.specs.Flood.{spreadEdge}
-use Rattle.walks.proofs.Flooding.{unseen-set}
-use Rattle.walks.proofs.flood.spread_edge.Statement.{statement}
-use Rattle.walks.proofs.flood.spread_edge.Tie as tie
+use Rattle.flood.specs.Flooded.{spreadEdge}
+use Rattle.flood.proofs.Flooding.{unseen-set}
+use Rattle.flood.proofs.spread_edge.Statement.{statement}
+use Rattle.flood.proofs.spread_edge.Tie as tie
 
 -- the edge is left, so both points are in the list
 treads-left : (c : tie.Else1) → 0 < c .before .args .n

@@ -1,14 +1,14 @@
--- `walks::flood::spread` meets its contract: the two edges of the point, one after the other.
+-- `flood::spread` meets its contract: the two edges of the point, one after the other.
 use Prim.Native.Nat.{_+_}
 use native.Mathlib.Omega.{arith}
 use mathlib.Core.Path.{ap, _∙_}
 use lib.ListN.{getD}
 use denote.Ref.{now}
 use borrow.Author.Needs.{needs}
-use Rattle.walks.specs.Flood.{spreadEdge, spreadAt}
-use Rattle.walks.proofs.Flooding.{unseen-length}
-use Rattle.walks.proofs.flood.spread.Statement.{statement}
-use Rattle.walks.proofs.flood.spread.Tie as tie
+use Rattle.flood.specs.Flooded.{spreadEdge, spreadAt}
+use Rattle.flood.proofs.Flooding.{unseen-length}
+use Rattle.flood.proofs.spread.Statement.{statement}
+use Rattle.flood.proofs.spread.Tie as tie
 
 shared-slice-read-spread-edge : tie.Need-shared-slice-read-spread-edge
 shared-slice-read-spread-edge c = omega (arith, c .before .before .before .pre .1 .size)

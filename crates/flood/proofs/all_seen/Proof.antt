@@ -1,13 +1,13 @@
--- `walks::flood::all_seen` meets its contract. The loop's invariant: below `at` all that is left starts at seen points.
+-- `flood::all_seen` meets its contract. The loop's invariant: below `at` all that is left starts at seen points.
 use Prim.Native.Nat.{_-_, _≤_, _<_}
 use native.Mathlib.Omega.{arith}
 use mathlib.Core.Logic.{inl, inr, ⊎-elim}
 use lib.ListN.{getD}
 use denote.Ref.{now}
-use Rattle.walks.specs.Flood.{Starts, AllSeen}
-use Rattle.walks.proofs.Flooding.{all-seen-none, all-seen-more, all-seen-true, all-seen-false}
-use Rattle.walks.proofs.flood.all_seen.Statement.{statement}
-use Rattle.walks.proofs.flood.all_seen.Tie as tie
+use Rattle.flood.specs.Flooded.{Starts, AllSeen}
+use Rattle.flood.proofs.Flooding.{all-seen-none, all-seen-more, all-seen-true, all-seen-false}
+use Rattle.flood.proofs.all_seen.Statement.{statement}
+use Rattle.flood.proofs.all_seen.Tie as tie
 
 abbrev Inv-loop : tie.InvT-loop
 Inv-loop left end seen at₀ at = (26 ≤ at) × AllSeen left seen at

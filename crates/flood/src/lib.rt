@@ -1,16 +1,22 @@
 // What can be reached along edges that are left: a flood fill over the points. `left` has the treads left of each edge, `seen` a number
 // for each point, 0 where it is not seen. The points lie below `end`, where the last aisle's numbers end.
-use crate::numbers::HEIGHTS;
-use crate::numbers::POINTS;
 ghost use mathlib.Core.Path.{_≡_};
 ghost use mathlib.Core.Bool.{true};
 ghost use mathlib.Core.Logic.{_↔_};
 ghost use Prim.Native.Nat.{_+_, _-_, _≤_, _<_};
 ghost use lib.ListN.{length};
-ghost use Rattle.walks.specs.Flood.{unseen, AllReached, Ranged, spreadEdge, spreadAt, sweptUp, sweptDown, Flooded, AllSeen};
+ghost use Rattle.flood.specs.Flooded.{unseen, AllReached, Ranged, spreadEdge, spreadAt, sweptUp, sweptDown, Flooded, AllSeen};
+
+// The numbers of an aisle: a point has the number 26 * aisle + height, where height 0 is the front crossing, then come the cells,
+// at most 24, and the back crossing.
+pub const HEIGHTS: usize = 26;
+
+// The numbers of points. Aisles count from 1 to 16: a point's number is at least 26 and below 442. An edge towards the back has the
+// number of the point where it starts; an edge to the right has that number and 442 more.
+pub const POINTS: usize = 17 * HEIGHTS;
 
 // Two points that an edge joins, of which n treads are left: where one is seen, the other is too. The number of points seen newly.
-pub fn spread_edge(n: u8, a: usize, b: usize, seen: &mut [u8]) -> usize
+fn spread_edge(n: u8, a: usize, b: usize, seen: &mut [u8]) -> usize
     requires { ⌜ (0 < n → (a < length (now seen)) × (b < length (now seen))) ⌝ }
     ensures { λ _. ⌜ now (seen .exit) ≡ spreadEdge n a b (now (seen .entry)) ⌝ }
     ensures { λ r. ⌜ unseen (now (seen .exit)) + r ≡ unseen (now (seen .entry)) ⌝ }
@@ -33,7 +39,7 @@ pub fn spread_edge(n: u8, a: usize, b: usize, seen: &mut [u8]) -> usize
 }
 
 // The edges towards the back and to the right of one point. The number of points seen newly, as for a sweep.
-pub fn spread(left: &[u8], at: usize, seen: &mut [u8]) -> usize
+fn spread(left: &[u8], at: usize, seen: &mut [u8]) -> usize
     requires { ⌜ (at < 442) × Ranged (now left) 442 × (length (now seen) ≡ 442) ⌝ }
     ensures { λ _. ⌜ now (seen .exit) ≡ spreadAt (now (left .entry)) at (now (seen .entry)) ⌝ }
     ensures { λ r. ⌜ unseen (now (seen .exit)) + r ≡ unseen (now (seen .entry)) ⌝ }
@@ -44,7 +50,7 @@ pub fn spread(left: &[u8], at: usize, seen: &mut [u8]) -> usize
 }
 
 // Sweeps the points upwards.
-pub fn sweep_up(left: &[u8], end: usize, seen: &mut [u8]) -> usize
+fn sweep_up(left: &[u8], end: usize, seen: &mut [u8]) -> usize
     requires { ⌜ Ranged (now left) end × (length (now seen) ≡ 442) ⌝ }
     ensures { λ _. ⌜ now (seen .exit) ≡ sweptUp (now (left .entry)) (end - 26) (now (seen .entry)) ⌝ }
     ensures { λ r. ⌜ unseen (now (seen .exit)) + r ≡ unseen (now (seen .entry)) ⌝ }
@@ -59,7 +65,7 @@ pub fn sweep_up(left: &[u8], end: usize, seen: &mut [u8]) -> usize
 }
 
 // Sweeps the points downwards.
-pub fn sweep_down(left: &[u8], end: usize, seen: &mut [u8]) -> usize
+fn sweep_down(left: &[u8], end: usize, seen: &mut [u8]) -> usize
     requires { ⌜ Ranged (now left) end × (length (now seen) ≡ 442) ⌝ }
     ensures { λ _. ⌜ now (seen .exit) ≡ sweptDown (now (left .entry)) (end - 26) (now (seen .entry)) ⌝ }
     ensures { λ r. ⌜ unseen (now (seen .exit)) + r ≡ unseen (now (seen .entry)) ⌝ }
@@ -74,7 +80,7 @@ pub fn sweep_down(left: &[u8], end: usize, seen: &mut [u8]) -> usize
 }
 
 // Sweeps up and down until nothing is new.
-pub fn flood(left: &[u8], end: usize, seen: &mut [u8])
+fn flood(left: &[u8], end: usize, seen: &mut [u8])
     requires { ⌜ Ranged (now left) end × (length (now seen) ≡ 442) ⌝ }
     ensures { λ _. ⌜ Flooded (now (left .entry)) (now (seen .entry)) (now (seen .exit)) ⌝ }
 {
@@ -88,7 +94,7 @@ pub fn flood(left: &[u8], end: usize, seen: &mut [u8])
 }
 
 // Whether all that is left starts at a point that is seen.
-pub fn all_seen(left: &[u8], end: usize, seen: &[u8]) -> bool
+fn all_seen(left: &[u8], end: usize, seen: &[u8]) -> bool
     requires { ⌜ (length (now left) ≡ 884) × (length (now seen) ≡ 442) × (end ≤ 442) ⌝ }
     ensures { λ r. ⌜ (r ≡ true) ↔ AllSeen (now (left .entry)) (now (seen .entry)) end ⌝ }
 {

@@ -1,12 +1,12 @@
--- `walks::flood::flood` meets its contract. The loop's invariant: what `news` was counted for is calm where it is 0.
+-- `flood::flood` meets its contract. The loop's invariant: what `news` was counted for is calm where it is 0.
 use Prim.Native.Nat.{_+_, min}
 use native.Mathlib.Omega.{arith}
 use mathlib.Core.Path.{_≡_, _∙_, subst}
 use denote.Ref.{now}
-use Rattle.walks.specs.Flood.{unseen}
-use Rattle.walks.proofs.Flooding.{unseen-length, CalmTo, Grown, grown-none, sweeps-grown, Turned, turn, flooded}
-use Rattle.walks.proofs.flood.flood.Statement.{statement}
-use Rattle.walks.proofs.flood.flood.Tie as tie
+use Rattle.flood.specs.Flooded.{unseen}
+use Rattle.flood.proofs.Flooding.{unseen-length, CalmTo, Grown, grown-none, sweeps-grown, Turned, turn, flooded}
+use Rattle.flood.proofs.flood.Statement.{statement}
+use Rattle.flood.proofs.flood.Tie as tie
 
 abbrev Inv-loop : tie.InvT-loop
 Inv-loop left end seen₀ news₀ seen news = Turned left end seen₀ seen news

@@ -1,13 +1,13 @@
--- `walks::flood::sweep_down` meets its contract. The loop's invariant: with the points below `at` swept too, all are.
+-- `flood::sweep_down` meets its contract. The loop's invariant: with the points below `at` swept too, all are.
 use Prim.Native.Nat.{ℕ, _+_, _-_, _≤_}
 use native.Mathlib.Omega.{arith}
 use mathlib.Core.Path.{_≡_, refl, ap, _∙_}
 use lib.ListN.{length}
 use denote.Ref.{now}
-use Rattle.walks.specs.Flood.{unseen, sweptDown}
-use Rattle.walks.proofs.Flooding.{unseen-length, down-more, ranged-all}
-use Rattle.walks.proofs.flood.sweep_down.Statement.{statement}
-use Rattle.walks.proofs.flood.sweep_down.Tie as tie
+use Rattle.flood.specs.Flooded.{unseen, sweptDown}
+use Rattle.flood.proofs.Flooding.{unseen-length, down-more, ranged-all}
+use Rattle.flood.proofs.sweep_down.Statement.{statement}
+use Rattle.flood.proofs.sweep_down.Tie as tie
 
 abbrev Inv-loop : tie.InvT-loop
 Inv-loop left end seen₀ news₀ at₀ seen news at =

@@ -10,7 +10,7 @@ use lib.ListN.{length, getD, set, replicate, length-set, length-replicate, List�
 use lib.Seq.{getD-set-same, getD-set-other}
 use borrow.Author.Tests.{eqb-true, eqb-false}
 use Rattle.closedwalks.proofs.Splits.{equal-or-below, below-or-from}
-use Rattle.walks.specs.Flood.{unseen, Reach, here, backward, forward, rightward, leftward, Starts, AllReached, Ranged, spreadEdge, spreadAt, sweptUp, sweptDown, FromSeen, Flooded, AllSeen}
+use Rattle.flood.specs.Flooded.{unseen, Reach, here, backward, forward, rightward, leftward, Starts, AllReached, Ranged, spreadEdge, spreadAt, sweptUp, sweptDown, FromSeen, Flooded, AllSeen}
 
 -- a point that is seen newly is one unseen less
 pub unseen-set : (seen : List ℕ) (i : ℕ) → i < length seen → getD seen i 0 ≡ 0 → unseen (set seen i 1) + 1 ≡ unseen seen

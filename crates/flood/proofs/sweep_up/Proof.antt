@@ -1,13 +1,13 @@
--- `walks::flood::sweep_up` meets its contract. The loop's invariant: the points below `at` are swept.
+-- `flood::sweep_up` meets its contract. The loop's invariant: the points below `at` are swept.
 use Prim.Native.Nat.{ℕ, _+_, _-_, _≤_}
 use native.Mathlib.Omega.{arith}
 use mathlib.Core.Path.{_≡_, refl, ap, _∙_}
 use lib.ListN.{length}
 use denote.Ref.{now}
-use Rattle.walks.specs.Flood.{unseen, sweptUp}
-use Rattle.walks.proofs.Flooding.{unseen-length, up-more, ranged-all}
-use Rattle.walks.proofs.flood.sweep_up.Statement.{statement}
-use Rattle.walks.proofs.flood.sweep_up.Tie as tie
+use Rattle.flood.specs.Flooded.{unseen, sweptUp}
+use Rattle.flood.proofs.Flooding.{unseen-length, up-more, ranged-all}
+use Rattle.flood.proofs.sweep_up.Statement.{statement}
+use Rattle.flood.proofs.sweep_up.Tie as tie
 
 abbrev Inv-loop : tie.InvT-loop
 Inv-loop left end seen₀ news₀ at₀ seen news at =

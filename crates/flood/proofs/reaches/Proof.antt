@@ -1,9 +1,9 @@
--- `walks::flood::reaches` meets its contract: the flood starts from the one point, and all that is left starts where it came.
+-- `flood::reaches` meets its contract: the flood starts from the one point, and all that is left starts where it came.
 use denote.Ref.{now}
 use borrow.Author.Needs.{needs}
-use Rattle.walks.proofs.Flooding.{seen-reached}
-use Rattle.walks.proofs.flood.reaches.Statement.{statement}
-use Rattle.walks.proofs.flood.reaches.Tie as tie
+use Rattle.flood.proofs.Flooding.{seen-reached}
+use Rattle.flood.proofs.reaches.Statement.{statement}
+use Rattle.flood.proofs.reaches.Tie as tie
 
 array-write-seen : tie.Need-array-write-seen
 array-write-seen c = search needs
