@@ -17,13 +17,16 @@ use Rattle.values.specs.declared.PickList.{PickList}
 use Rattle.values.specs.declared.RunList.{RunList}
 use Rattle.values.specs.Values.{planOf, picksOfValue, runsOfValue}
 use Rattle.sheets.specs.Written.{Sized}
-use Rattle.sheets.proofs.Concats.{concat-map}
 use Rattle.sheets.proofs.Writing.{texts-more}
 
 -- the first n elements of an array as a section
 section-take : {A : Type 0} (letter : ℕ) (f : A → List ℕ) (xs : List A) (n : ℕ) → n ≤ length xs → sectionText letter f (take n xs) ≡ header letter n ++ concatOf f (take n xs)
 unfolding sectionText
 section-take letter f xs n l = rw (length-take-le n xs l)
+
+concat-map : {A B C : Type 0} (f : B → List C) (g : A → B) (xs : List A) → concatOf f (map g xs) ≡ concatOf (λ x. f (g x)) xs
+concat-map f g [] = refl
+concat-map f g (x ∷ xs) = ap (λ l. f (g x) ++ l) (concat-map f g xs)
 
 -- a part of each of the first n elements
 section-map : {A B : Type 0} (letter : ℕ) (f : B → List ℕ) (g : A → B) (xs : List A) (n : ℕ) → n ≤ length xs → sectionText letter f (map g (take n xs)) ≡ header letter n ++ concatOf (λ x. f (g x)) (take n xs)

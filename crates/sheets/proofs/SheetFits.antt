@@ -2,13 +2,14 @@
 use Prim.Native.Nat.{ℕ, zero, suc, _+_, _*_, _≤_, _<_}
 use native.Mathlib.Omega.{arith}
 use mathlib.Core.Path.{_≡_, refl, sym, ap, _∙_}
-use mathlib.Core.List.{List, [], _∷_, List·Memᴰ, List·Memᴰ·head, List·Memᴰ·tail, List·Memᴰ·cases-cons, List·Memᴰ·not-nil, List·Memᴰ·eq-of-singleton}
+use mathlib.Core.List.{List, [], _∷_, map, List·Memᴰ, List·Memᴰ·head, List·Memᴰ·tail, List·Memᴰ·cases-cons, List·Memᴰ·not-nil, List·Memᴰ·eq-of-singleton}
 use mathlib.Core.Logic.{_⊎_, inl, inr}
 use mathlib.Core.Bool.{Bool, true, false, cond, _&&_}
 use mathlib.Core.Option.{Option, none, some}
 use lib.Dec.{eqb}
-use lib.ListN.{length, length-append}
+use lib.ListN.{length, length-append, length-map}
 use borrow.Author.Tests.{lt-ltb}
+use Rattle.rules.specs.declared.Layout.{Layout}
 use Rattle.rules.specs.declared.Policy.{Policy}
 use Rattle.rules.specs.declared.Policy.the-variants.{Exact, Return, Traversal, Midpoint, Composite}
 use Rattle.rules.specs.declared.Action.{Action}
@@ -18,8 +19,8 @@ use Rattle.rules.specs.declared.StockRecord.{StockRecord}
 use Rattle.rules.specs.declared.OrderLine.{OrderLine}
 use Rattle.rules.specs.declared.Pick.{Pick}
 use Rattle.rules.specs.declared.Run.{Run}
-use Rattle.rules.specs.Lists.{concatOf, sumOf, firstOf}
-use Rattle.rules.specs.Store.{Point}
+use Rattle.rules.specs.Lists.{from, concatOf, sumOf, firstOf}
+use Rattle.rules.specs.Store.{Point, LayoutWithin}
 use Rattle.rules.specs.Jobs.{Job}
 use Rattle.rules.specs.Plans.{Plan, planPasses, planLength, Fits, WellFormed}
 use Rattle.rules.specs.Walks.{Walk, letterRank}
@@ -33,20 +34,21 @@ use Rattle.rules.proofs.Numbers.{numeral-induction}
 use Rattle.rules.proofs.Lengths.{well-formed-fits, plan-length-49920}
 use Rattle.rules.proofs.Admission.{layout-within, stock-within}
 use Rattle.sheets.specs.Written.{policyText}
-use Rattle.sheets.specs.Picking.{passedBy}
 use Rattle.sheets.proofs.Sizes.{digits-most, field-size, header-size, run-size, total-size, pick-size}
-use Rattle.sheets.proofs.PickLaws.{sum-passed}
-use Rattle.sheets.proofs.PickTurns.{pickOf}
 
--- the byte count of texts, one behind the other
-texts-length : {A : Type 0} (f : A → List ℕ) (xs : List A) → length (concatOf f xs) ≡ sumOf (λ x. length (f x)) xs
-texts-length f [] = refl
-texts-length f (x ∷ xs) = rw (length-append, texts-length f xs)
+-- the length of lists, one behind the other
+concat-length : {A B : Type 0} (f : A → List B) (xs : List A) → length (concatOf f xs) ≡ sumOf (λ x. length (f x)) xs
+concat-length f [] = refl
+concat-length f (x ∷ xs) = rw (length-append, concat-length f xs)
+
+-- if each of them is bounded
+concat-most : {A B : Type 0} (f : A → List B) (b : ℕ) (xs : List A) → ((x : A) → length (f x) ≤ b) → length (concatOf f xs) ≤ length xs * b
+concat-most f b xs h = rw (concat-length f xs) (sum-below (λ x. length (f x)) b xs (λ x _. h x))
 
 -- a section: its first line and its lines
 section-length : {A : Type 0} (letter : ℕ) (f : A → List ℕ) (xs : List A) → length (sectionText letter f xs) ≡ 3 + length (numeral (length xs)) + sumOf (λ x. length (f x)) xs
 unfolding sectionText
-section-length letter f xs = rw (length-append, header-size letter (length xs), texts-length f xs)
+section-length letter f xs = rw (length-append, header-size letter (length xs), concat-length f xs)
 
 -- a section whose lines are bounded
 section-most : {A : Type 0} (letter : ℕ) (f : A → List ℕ) (xs : List A) (b : ℕ) → ((x : A) → List·Memᴰ x xs → length (f x) ≤ b) → length xs < 1000 → length (sectionText letter f xs) ≤ 6 + length xs * b
@@ -73,6 +75,10 @@ action-most n l Twice f = omega arith
 passage-three : (p : Passage) → length (passageText p) ≤ 3
 unfolding passageText
 passage-three p = omega arith
+
+-- a pick of so many from a record
+abbrev pickOf : StockRecord → ℕ → Pick
+pickOf r n = record { aisle = r .aisle; cell = r .cell; article = r .article; quantity = n }
 
 -- a pick from one of the records, of which no more is taken than there is
 record Drawn (p : Pick) (rs : List StockRecord) : Type 0 where
@@ -131,25 +137,45 @@ passed-member job plan r m =
     first-member (λ (s : StockRecord). eqb (s .aisle) (x .aisle) && eqb (s .cell) (x .height)) (job .stock) r (found-some (planPasses plan (x .aisle) (x .height)) (recordAt (job .stock) x) r (q .2))
 
 -- at most one pick for each passed record
-picks-count : (lacking : List OrderLine) (rs : List StockRecord) → length (picksFrom lacking rs) ≤ sumOf (λ (r : StockRecord). 1) rs
+picks-count : (lacking : List OrderLine) (rs : List StockRecord) → length (picksFrom lacking rs) ≤ length rs
 picks-count lacking [] = omega arith
 picks-count lacking (r ∷ rs) = go (taken lacking r) (picksFrom (lessOf (r .article) (taken lacking r) lacking) rs) (picks-count (lessOf (r .article) (taken lacking r) lacking) rs)
   where
-    go : (n : ℕ) (picks : List Pick) → length picks ≤ sumOf (λ (s : StockRecord). 1) rs → length (addPick r n picks) ≤ 1 + sumOf (λ (s : StockRecord). 1) rs
+    go : (n : ℕ) (picks : List Pick) → length picks ≤ length rs → length (addPick r n picks) ≤ suc (length rs)
     go zero picks h = omega arith
     go (suc n) picks h = rw (lt-ltb 0 (suc n) (omega arith)) (omega arith)
 
--- an admitted job has at most 384 picks
-pub picks-most : (job : Job) (plan : Plan) → Admitted job → length (picksOf job plan) ≤ 384
-unfolding picksOf
-picks-most job plan ok =
-    let s = stock-within job .0 (ok .stock) in
-    let one : StockRecord → ℕ = λ r. cond (passedBy plan r) 1 0 in
-    omega (arith, picks-count (job .lines) (passedRecords job plan), sum-passed job plan ok (λ (r : StockRecord). 1), sum-below one 1 (job .stock) (λ r m. cond-one (passedBy plan r)), s .count)
+-- at most one passed record for each cell
+found-most : (b : Bool) (o : Option StockRecord) → length (found b o) ≤ 1
+found-most b none = omega arith
+found-most true (some r) = omega arith
+found-most false (some r) = omega arith
+
+from-length : (a n : ℕ) → length (from a n) ≡ n
+from-length a zero = refl
+from-length a (suc n) = ap suc (from-length (suc a) n)
+
+-- at most 384 cells
+cells-most : (z : Layout) → LayoutWithin z → length (cellsOf z) ≤ 384
+unfolding cellsOf
+cells-most z w = omega (arith, concat-most row 24 (from 1 (z .aisles)) row-most, from-length 1 (z .aisles), w .aisles)
   where
-    cond-one : (b : Bool) → cond b 1 0 ≤ 1
-    cond-one true = omega arith
-    cond-one false = omega arith
+    cell : ℕ → ℕ → Point
+    cell j c = record { aisle = j; height = c }
+
+    row : ℕ → List Point
+    row j = map (cell j) (from 1 (z .cells))
+
+    row-most : (j : ℕ) → length (row j) ≤ 24
+    row-most j = omega (arith, length-map (from 1 (z .cells)) (cell j), from-length 1 (z .cells), w .cells)
+
+-- so a job has at most 384 picks
+picks-most : (job : Job) (plan : Plan) → LayoutWithin (job .layout) → length (picksOf job plan) ≤ 384
+unfolding picksOf passedRecords
+picks-most job plan w =
+    let given : Point → List StockRecord = λ x. found (planPasses plan (x .aisle) (x .height)) (recordAt (job .stock) x) in
+    let records = concat-most given 1 (cellsOf (job .layout)) (λ x. found-most (planPasses plan (x .aisle) (x .height)) (recordAt (job .stock) x)) in
+    omega (arith, picks-count (job .lines) (passedRecords job plan), records, cells-most (job .layout) w)
 
 -- a pick's line
 pick-most : (job : Job) (plan : Plan) → Admitted job → (p : Pick) → List·Memᴰ p (picksOf job plan) → length (pickText p) ≤ 16
@@ -208,5 +234,5 @@ sheet-fits job plan ok w l =
     let total = digits-most 4 n (omega (arith, plan-length-49920 (job .layout) plan (ok .layout) w)) in
     let actions = section-most letterA actionText (plan .actions) 10 (λ a m. action-most (job .layout .cells) (z .cells .1) a (well-formed-fits (job .layout) plan w a m)) (omega (arith, w .aisles, z .aisles)) in
     let passages = section-most letterC passageText (plan .passages) 3 (λ p m. passage-three p) (omega (arith, w .passages, z .aisles)) in
-    let picks = section-most letterP pickText (picksOf job plan) 16 (pick-most job plan ok) (omega (arith, picks-most job plan ok)) in
-    simp length-append (omega (arith, header-size letterT 1, digits-most 0 1 (omega arith), t, total, policy-most (job .policy), actions, passages, picks, picks-most job plan ok, walk-fits (firstWalk (job .layout) plan) l, w .aisles, w .passages, z .aisles))
+    let picks = section-most letterP pickText (picksOf job plan) 16 (pick-most job plan ok) (omega (arith, picks-most job plan z)) in
+    simp length-append (omega (arith, header-size letterT 1, digits-most 0 1 (omega arith), t, total, policy-most (job .policy), actions, passages, picks, picks-most job plan z, walk-fits (firstWalk (job .layout) plan) l, w .aisles, w .passages, z .aisles))

@@ -10,7 +10,6 @@ use lib.Seq.{take-all, take-take, take-suc, drop-cons, drop-drop, take-append-se
 use borrow.Rule.Slice.PartMut.{putMid, midOf}
 use Rattle.rules.specs.Lists.{concatOf}
 use Rattle.sheets.specs.Written.{Written}
-use Rattle.sheets.proofs.Concats.{concat-append}
 
 -- what is lent on behind a text
 mid-append : (t d : List ℕ) → midOf (length t) (length (t ++ d) - length t) (t ++ d) ≡ d
@@ -89,6 +88,11 @@ module _ {t b m : List ℕ} {r : ℕ} (w : Written t b m r) where
         count = rw (length-append, w .count);
         bytes = rw (w .count, w .bytes, drop-cons b (length t) 0 h, set-append-seam, length-append, add-one, append-assoc);
       }
+
+-- lists of two parts, one behind the other
+concat-append : {A B : Type 0} (f : A → List B) (xs ys : List A) → concatOf f (xs ++ ys) ≡ concatOf f xs ++ concatOf f ys
+concat-append f [] ys = refl
+concat-append f (x ∷ xs) ys = rw (concat-append f xs ys, append-assoc)
 
 -- texts of a list's elements, one behind the other: what a loop over the list has written
 module _ {A : Type 0} (f : A → List ℕ) (xs : List A) where

@@ -1,4 +1,3 @@
 -- What the contracts of the sheet's writers are stated with.
 pub mod Parts
-pub mod Picking
 pub mod Written

@@ -12,7 +12,6 @@ use rules::Policy;
 use rules::Run;
 ghost use mathlib.Core.Path.{_≡_};
 ghost use Prim.Native.Nat.{_≤_};
-ghost use mathlib.Core.List.{_++_};
 ghost use lib.ListN.{length};
 ghost use Rattle.rules.specs.JobFile.{header};
 ghost use Rattle.rules.specs.Sheet.{totalText, actionText, passageText, pickText, letterOf, runText};

@@ -1,7 +1,5 @@
 // Numbers, words and lines: what every section of the sheet is written with.
-ghost use mathlib.Core.Path.{_≡_};
 ghost use Prim.Native.Nat.{_≤_};
-ghost use mathlib.Core.List.{_++_};
 ghost use lib.ListN.{length};
 ghost use Rattle.rules.specs.JobFile.{numeral};
 ghost use Rattle.sheets.specs.Written.{Written, Sized, numbersText, lineText};

@@ -1,4 +1,4 @@
-// Prints the sheets of two small jobs: their picks are found, their plans and walks are given.
+// Prints the sheets of two small jobs: their picks are found, their shelves, plans and walks are given.
 mod top_job;
 mod worked_job;
 
@@ -23,20 +23,16 @@ fn show(policy: Policy, total: usize, plan: PlanValue, picks: PickList, runs: Ru
 
 // Prints the sheet of the worked example.
 fn print_worked() {
-    let job = worked_job::job();
     let plan = worked_job::plan();
-    let picks = sheets::picks::picks(job, plan);
-    let policy = job.policy;
-    show(policy, 14, plan, picks, worked_job::runs());
+    let picks = picks::picks(worked_job::lines(), 3, worked_job::shelf(), plan);
+    show(Policy::Exact, 14, plan, picks, worked_job::runs());
 }
 
 // Prints the sheet of the job whose plan enters from the back.
 fn print_top() {
-    let job = top_job::job();
     let plan = top_job::plan();
-    let picks = sheets::picks::picks(job, plan);
-    let policy = job.policy;
-    show(policy, 20, plan, picks, top_job::runs());
+    let picks = picks::picks(top_job::lines(), 2, top_job::shelf(), plan);
+    show(Policy::Midpoint, 20, plan, picks, top_job::runs());
 }
 
 fn main() {

@@ -1,54 +1,23 @@
-// A job whose plan enters from the back, with its plan and its walk.
+// A job whose plan enters from the back: its lines, its shelf, its plan and its walk.
 use rules::Action;
 use rules::Direction;
-use rules::Layout;
 use rules::OrderLine;
 use rules::Passage;
-use rules::Policy;
 use rules::Run;
-use rules::StockRecord;
-use values::JobValue;
 use values::PlanValue;
 use values::RunList;
+use values::Shelf;
 use values::Stage;
 ghost use mathlib.Core.Path.{_≡_};
 ghost use Prim.Native.Nat.{_≤_};
-ghost use Rattle.values.specs.Values.{Sound};
+ghost use lib.ListN.{take};
+ghost use Rattle.values.specs.Shelves.{ShelfOf};
+ghost use Rattle.sheets_test.specs.Jobs.{topJob};
 
-// The job: five records and three lines, in a store of three aisles with two cells.
-pub fn job() -> JobValue
-    ensures { λ r. ⌜ Sound r × (r .layout .aisles ≡ 3) ⌝ }
+// Its order lines.
+pub fn lines() -> [OrderLine; 8]
+    ensures { λ r. ⌜ topJob .lines ≡ take 3 r ⌝ }
 {
-    let mut stock = [StockRecord {
-        aisle: 1,
-        cell: 2,
-        article: 5,
-        quantity: 1,
-    }; 384];
-    stock[1] = StockRecord {
-        aisle: 3,
-        cell: 2,
-        article: 4,
-        quantity: 2,
-    };
-    stock[2] = StockRecord {
-        aisle: 2,
-        cell: 2,
-        article: 3,
-        quantity: 1,
-    };
-    stock[3] = StockRecord {
-        aisle: 1,
-        cell: 1,
-        article: 5,
-        quantity: 2,
-    };
-    stock[4] = StockRecord {
-        aisle: 3,
-        cell: 1,
-        article: 3,
-        quantity: 2,
-    };
     let mut lines = [OrderLine {
         article: 3,
         quantity: 3,
@@ -61,21 +30,28 @@ pub fn job() -> JobValue
         article: 4,
         quantity: 1,
     };
-    JobValue {
-        layout: Layout {
-            aisles: 3,
-            cells: 2,
-            front: 1,
-            pitch: 3,
-            back: 2,
-            width: 1,
-            depot: 1,
-        },
-        policy: Policy::Midpoint,
-        records: 5,
-        stock: stock,
-        orders: 3,
-        lines: lines,
+    lines
+}
+
+// What its cells hold.
+pub fn shelf() -> Shelf
+    ensures { λ r. ⌜ ShelfOf topJob r ⌝ }
+{
+    let mut line = [0; 384];
+    line[0] = 2;
+    line[1] = 2;
+    line[25] = 1;
+    line[48] = 1;
+    line[49] = 3;
+    let mut quantity = [0; 384];
+    quantity[0] = 2;
+    quantity[1] = 1;
+    quantity[25] = 1;
+    quantity[48] = 2;
+    quantity[49] = 2;
+    Shelf {
+        line: line,
+        quantity: quantity,
     }
 }
 

@@ -1,61 +1,42 @@
-// The job that document 01 walks through, with its plan and its walk.
+// The job that document 01 walks through: its line, its shelf, its plan and its walk.
 use rules::Action;
 use rules::Direction;
-use rules::Layout;
 use rules::OrderLine;
 use rules::Passage;
-use rules::Policy;
 use rules::Run;
-use rules::StockRecord;
-use values::JobValue;
 use values::PlanValue;
 use values::RunList;
+use values::Shelf;
 use values::Stage;
 ghost use mathlib.Core.Path.{_≡_};
 ghost use Prim.Native.Nat.{_≤_};
-ghost use Rattle.values.specs.Values.{Sound};
+ghost use lib.ListN.{take};
+ghost use Rattle.values.specs.Shelves.{ShelfOf};
+ghost use Rattle.sheets_test.specs.Jobs.{workedJob};
 
-// The job: one of article 9 from a store of two aisles with three cells.
-pub fn job() -> JobValue
-    ensures { λ r. ⌜ Sound r × (r .layout .aisles ≡ 2) ⌝ }
+// Its order line.
+pub fn lines() -> [OrderLine; 8]
+    ensures { λ r. ⌜ workedJob .lines ≡ take 1 r ⌝ }
 {
-    let mut stock = [StockRecord {
-        aisle: 1,
-        cell: 1,
-        article: 7,
-        quantity: 1,
-    }; 384];
-    stock[1] = StockRecord {
-        aisle: 2,
-        cell: 1,
-        article: 9,
-        quantity: 5,
-    };
-    stock[2] = StockRecord {
-        aisle: 2,
-        cell: 3,
-        article: 7,
-        quantity: 1,
-    };
-    let lines = [OrderLine {
+    [OrderLine {
         article: 9,
         quantity: 1,
-    }; 8];
-    JobValue {
-        layout: Layout {
-            aisles: 2,
-            cells: 3,
-            front: 2,
-            pitch: 1,
-            back: 2,
-            width: 5,
-            depot: 1,
-        },
-        policy: Policy::Exact,
-        records: 3,
-        stock: stock,
-        orders: 1,
-        lines: lines,
+    }; 8]
+}
+
+// What its cells hold.
+pub fn shelf() -> Shelf
+    ensures { λ r. ⌜ ShelfOf workedJob r ⌝ }
+{
+    let mut line = [0; 384];
+    line[24] = 1;
+    let mut quantity = [0; 384];
+    quantity[0] = 1;
+    quantity[24] = 5;
+    quantity[26] = 1;
+    Shelf {
+        line: line,
+        quantity: quantity,
     }
 }
 

@@ -1,18 +1,33 @@
--- `sheets_test::print_worked` meets its contract: the plan has the aisles of the job.
-use Rattle.sheets.specs.Picking.{SameAisles}
+-- `sheets_test::print_worked` meets its contract: the lines, the shelf and the plan are those of the job.
+use mathlib.Core.Path.{refl}
+use Rattle.rules.specs.Examples.{alpha}
+use Rattle.sheets_test.specs.Jobs.{workedJob}
+use Rattle.sheets_test.proofs.Trials.{worked-admitted}
 use borrow.Author.Needs.{needs}
 use Rattle.sheets_test.proofs.print_worked.Statement.{statement}
 use Rattle.sheets_test.proofs.print_worked.Tie as tie
 
-job-requires : tie.Need-job-requires
-job-requires c κs = search needs
-
 plan-requires : tie.Need-plan-requires
 plan-requires c κs = search needs
 
+lines-requires : tie.Need-lines-requires
+lines-requires c κs = search needs
+
+shelf-requires : tie.Need-shelf-requires
+shelf-requires c κs = search needs
+
 picks-requires : tie.Need-picks-requires
-unfolding SameAisles
-picks-requires c κs = (c .before .job .ensures .0, cc)
+unfolding workedJob alpha
+picks-requires c κs = (
+  workedJob,
+  record {
+    admitted = worked-admitted;
+    its-lines = (1, c .before .lines .ensures);
+    its-cells = refl;
+    its-shelf = c .shelf .ensures;
+    its-aisles = cc;
+  },
+)
 
 runs-requires : tie.Need-runs-requires
 runs-requires c κs = search needs
@@ -26,4 +41,11 @@ returns c = search needs
 pub print-worked-spec : {M : Type 1} → statement M
 print-worked-spec =
     tie.close
-    (tie.spec job-requires plan-requires picks-requires runs-requires show-requires returns)
+    (tie.spec
+    plan-requires
+    lines-requires
+    shelf-requires
+    picks-requires
+    runs-requires
+    show-requires
+    returns)

@@ -1,8 +1,8 @@
--- `sheets::picks::passes` meets its contract: each action passes its cells.
+-- `picks::passes` meets its contract: each action passes its cells.
 use borrow.Author.Tests.{le-leb, lt-leb}
 use borrow.Author.Needs.{needs}
-use Rattle.sheets.proofs.picks.passes.Statement.{statement}
-use Rattle.sheets.proofs.picks.passes.Tie as tie
+use Rattle.picks.proofs.passes.Statement.{statement}
+use Rattle.picks.proofs.passes.Tie as tie
 
 enum-told : tie.Need-enum-told
 enum-told c = search needs

@@ -1,0 +1,5 @@
+-- Laws of the picks.
+pub mod Cells
+pub mod Lines
+pub mod Turns
+pub mod Visits

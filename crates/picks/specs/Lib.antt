@@ -1,0 +1,2 @@
+-- What the contracts of the picks are stated with.
+pub mod Picking

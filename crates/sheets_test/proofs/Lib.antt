@@ -1,0 +1,2 @@
+-- The two jobs tried.
+pub mod Trials

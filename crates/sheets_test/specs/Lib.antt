@@ -1,0 +1,2 @@
+-- The jobs whose sheets are printed.
+pub mod Jobs
