@@ -27,47 +27,13 @@ use Rattle.optimum.proofs.Radix.{less-code-below, radices-positive, gains-lengt
 use Rattle.values.specs.declared.Shelf.{Shelf}
 use Rattle.values.specs.Shelves.{lineOf, quantityOf, cellNumber}
 use Rattle.demand.specs.declared.digits.Digits.{Digits}
-use Rattle.demand.specs.Digits.{lessLine}
+use Rattle.demand.specs.Digits.{noDigit, Within, lessLine}
 use Rattle.demand.specs.Maps.{entry, RowSet, MapsAsked, RowOf, reach, heightAt, RowsTo, MapsReady}
 use Rattle.demand.proofs.Filling.{below}
+use Rattle.demand.proofs.Rows.{less-or-more, other-row}
 use Rattle.demand.proofs.Composition.{plus, Parted, gainsWhere, gains-parted, less-code-plus}
-use Rattle.demand.proofs.DigitLaws.{radices-length, less-code-none, lessAt, none-gained, less-article, less-line-code}
+use Rattle.demand.proofs.DigitLaws.{radices-length, less-code-none, lessAt, none-gained, less-article, less-line, digit-within}
 use Rattle.demand.proofs.Shelving.{lines-below, supplied, cell-gains}
-
-less-or-more : (i k : ℕ) → (i ≡ k → ⊥) → (i < k) ⊎ (k < i)
-less-or-more i k ne = go (decLt i k)
-  where
-    go : Dec (i < k) → (i < k) ⊎ (k < i)
-    go (yes l) = inl l
-    go (no n) = inr (omega arith)
-
--- at first a row is as it was
-pub set-none : (map : List ℕ) (to : ℕ) (f : ℕ → ℕ) → RowSet map map to 0 f
-set-none map to f = record { kept = refl; done = λ q h. absurd (omega arith); rest = λ k h. refl }
-
--- one more number
-pub set-one : (map map′ : List ℕ) (to q v : ℕ) (f : ℕ → ℕ) → to * 256 + q < length map → RowSet map map′ to q f → v ≡ f q → RowSet map (set map′ (to * 256 + q) v) to (q + 1) f
-set-one map map′ to q v f room r e =
-    record {
-      kept = length-set map′ (to * 256 + q) v ∙ r .kept;
-      done = λ k h. ⊎-elim (λ l. getD-set-other map′ (to * 256 + q) (to * 256 + k) v 0 (λ p. omega arith) ∙ r .done k l) (λ p. here k p) (below k q h);
-      rest = λ k h. getD-set-other map′ (to * 256 + q) k v 0 (λ p. ⊎-elim (λ l. omega arith) (λ l. omega arith) h) ∙ r .rest k (⊎-elim (λ l. inl l) (λ l. inr (omega arith)) h);
-    }
-  where
-    here : (k : ℕ) → k ≡ q → getD (set map′ (to * 256 + q) v) (to * 256 + k) 0 ≡ f k
-    here k p = rw p (getD-set-same map′ (to * 256 + q) v 0 (omega (arith, r .kept)) ∙ e)
-
--- the same numbers by another function
-pub row-of : (map map′ : List ℕ) (to n : ℕ) (f g : ℕ → ℕ) → ((q : ℕ) → q < n → f q ≡ g q) → RowSet map map′ to n f → RowSet map map′ to n g
-row-of map map′ to n f g same r = record { kept = r .kept; done = λ q h. r .done q h ∙ same q h; rest = r .rest }
-
--- another row is not touched
-pub other-row : (map map′ : List ℕ) (to n from q : ℕ) (f : ℕ → ℕ) → n ≤ 256 → q < 256 → (from ≡ to → ⊥) → RowSet map map′ to n f → getD map′ (from * 256 + q) 0 ≡ getD map (from * 256 + q) 0
-other-row map map′ to n from q f small low ne r = r .rest (from * 256 + q) (go (less-or-more from to ne))
-  where
-    go : (from < to) ⊎ (to < from) → (from * 256 + q < to * 256) ⊎ (to * 256 + n ≤ from * 256 + q)
-    go (inl l) = inl (omega arith)
-    go (inr l) = inr (omega arith)
 
 -- one more cell in front, one more cell behind
 front-parted : (h c : ℕ) → Parted (leb c (suc h)) (leb c h) (eqb c (suc h))
@@ -159,10 +125,13 @@ module _ (job : Job) (shelf : Shelf) (d : Digits) (cells j : ℕ) (asked : MapsA
       let z = layout-within (job .layout) .0 (asked .admitted .layout) in
       (omega (arith, asked .cells-are), omega (arith, asked .cells-are), asked .aisle .0, omega (arith, asked .aisle .1))
 
-  pub line-small : (c : ℕ) → 1 ≤ c → c ≤ cells → getD (shelf .line) (cellNumber j c) 0 ≤ 8
-  line-small c low high =
-      let z = aisle-small in
-      omega (arith, lines-below job shelf (asked .shelf-of) j c (z .2) (z .3) low (omega arith), list-within job .0 (asked .admitted .list) .count .1)
+  line-small : (c : ℕ) → 1 ≤ c → c ≤ cells → getD (shelf .line) (cellNumber j c) 0 ≤ length (job .lines)
+  line-small c low high = let z = aisle-small in lines-below job shelf (asked .shelf-of) j c (z .2) (z .3) low (omega arith)
+
+  pub line-digit : (c : ℕ) → 1 ≤ c → c ≤ cells → let line = getD (shelf .line) (cellNumber j c) 0 in (line ≤ 8) × (1 ≤ line → Within (getD (d .digit) (line - 1) noDigit) (d .weight))
+  line-digit c low high =
+      let few = line-small c low high in
+      (omega (arith, list-within job .0 (asked .admitted .list) .count .1), λ has. digit-within job d (asked .digits-of) (getD (shelf .line) (cellNumber j c) 0 - 1) (omega arith))
 
   -- the demands of a row are below the weight
   pub row-below : (x : Action) (map : List ℕ) (row : ℕ) → RowOf job j x map row → (q : ℕ) → q < d .weight → entry map row q < d .weight
@@ -178,7 +147,7 @@ module _ (job : Job) (shelf : Shelf) (d : Digits) (cells j : ℕ) (asked : MapsA
       let rs = radices job in
       let o = recordAt (job .stock) (record { aisle = j; height = c }) in
       let small : v < weight (job .lines) = rw e (omega (arith, count-weight job, less-code-below (gains job j x) (radices-positive job) (gains-length job j x) q)) in
-      less-line-code job d (asked .digits-of) (getD (shelf .line) (cellNumber j c) 0) (getD (shelf .quantity) (cellNumber j c) 0) v (lines-below job shelf (asked .shelf-of) j c (z .2) (z .3) low (omega arith))
+      less-line job d (asked .digits-of) (getD (shelf .line) (cellNumber j c) 0) (getD (shelf .quantity) (cellNumber j c) 0) v (line-small c low high) (omega (arith, counted, asked .digits-of .small .1))
       ∙ rw (asked .shelf-of .line-at j c (z .2) (z .3) low (omega arith), asked .shelf-of .quantity-at j c (z .2) (z .3) low (omega arith)) (sym (less-cell job (asked .admitted) o v small))
       ∙ ap (λ hs. lessCode rs hs v) (sym (cell-gains job (asked .admitted) j c))
       ∙ ap (lessCode rs (gainsWhere job j (λ k. eqb k c))) e

@@ -26,6 +26,7 @@ use Rattle.values.specs.declared.Shelf.{Shelf}
 use Rattle.values.specs.Values.{jobOf, Sound}
 use Rattle.values.specs.Shelves.{lineFrom, lineOf, quantityOf, cellNumber, ShelfOf}
 use Rattle.demand.specs.Digits.{noLine}
+use Rattle.demand.proofs.Filling.{zero-at}
 use Rattle.demand.proofs.Composition.{stockWhere, gainsWhere}
 
 pub or-false : (b d : Bool) → (b || d) ≡ false → (b ≡ false) × (d ≡ false)
@@ -128,11 +129,6 @@ pub record RecordSmall (r : StockRecord) : Type 0 where
 pub shelved-none : (f : Option StockRecord → ℕ) → f none ≡ 0 → Shelved f [] (replicate 384 0)
 unfolding recordAt
 shelved-none f e j c j1 j16 c1 c24 = zero-at 384 (cellNumber j c) ∙ sym e
-  where
-    zero-at : (n k : ℕ) → getD {A = ℕ} (replicate n 0) k 0 ≡ 0
-    zero-at zero k = refl
-    zero-at (suc n) zero = refl
-    zero-at (suc n) (suc k) = zero-at n k
 
 -- different cells stand at different places
 apart : (j c i d : ℕ) → 1 ≤ j → 1 ≤ c → c ≤ 24 → 1 ≤ i → 1 ≤ d → d ≤ 24 → cellNumber j c ≡ cellNumber i d → (j ≡ i) × (c ≡ d)

@@ -29,6 +29,18 @@ pub record RowSet (map map′ : List ℕ) (to n : ℕ) (f : ℕ → ℕ) : Type 
   pub done : (q : ℕ) → q < n → entry map′ to q ≡ f q
   pub rest : (k : ℕ) → (k < to * 256) ⊎ (to * 256 + n ≤ k) → getD map′ k 0 ≡ getD map k 0
 
+-- a row to be filled out of another one
+pub record RowAsked (map : List ℕ) (to from n : ℕ) : Type 0 where
+  pub long : mapSize ≤ length map
+  pub to-in : to ≤ 25
+  pub from-in : from ≤ 25
+  pub apart : from ≡ to → ⊥
+  pub light : n ≤ 256
+
+-- the demands of a row are below n
+abbrev pub RowBelow : List ℕ → ℕ → ℕ → Type 0
+RowBelow map row n = (q : ℕ) → q < n → entry map row q < n
+
 -- what the maps of aisle j are made from: the shelf and the digits of a job, and the number of its cells
 pub record MapsAsked (job : Job) (shelf : Shelf) (d : Digits) (cells j : ℕ) : Type 0 where
   pub admitted : Admitted job

@@ -8,7 +8,7 @@ use denote.Ref.{now}
 use Rattle.rules.specs.Jobs.{Job}
 use Rattle.values.specs.Shelves.{cellNumber}
 use Rattle.demand.specs.Maps.{MapsAsked, RowSet, RowOf, RowsTo, heightAt, reach}
-use Rattle.demand.proofs.DemandMaps.{height-below, height-in, heights-differ, aisle-small, line-small, row-below, first-row, next-row}
+use Rattle.demand.proofs.DemandMaps.{height-below, height-in, heights-differ, aisle-small, line-digit, row-below, first-row, next-row}
 use Rattle.demand.proofs.maps.fill_map.Statement.{statement}
 use Rattle.demand.proofs.maps.fill_map.Tie as tie
 
@@ -88,16 +88,20 @@ map-row-requires c κs =
     let (job, asked) = start .pre .1 in
     let from = placed .before .height-at2 .ensures in
     let to = placed .height-at3 .ensures in
-    let in-aisle = to-cell placed in (
-      omega (arith, start .pre .0, placed .before .before .before .before .before .before .plain-row .ensures .kept, o .inv .1),
-      omega (arith, small start, in-aisle .1),
-      omega (arith, small start, from, height-below (x .back) (x .cells) (o .n) (omega arith)),
-      (λ e. heights-differ (x .back) (x .cells) (o .n) (o .n + 1) (omega arith) (omega arith) (sym from ∙ e ∙ to)),
-      asked .digits-of .usable,
-      asked .digits-of .small .1,
-      line-small job (x .t2) (x .d) (x .cells) (x .j) asked (placed .height-at3 .result) (in-aisle .0) (in-aisle .1),
-      row-below job (x .t2) (x .d) (x .cells) (x .j) asked (reach (x .back) (heightAt (x .back) (x .cells) (o .n))) (o .map) (placed .before .height-at2 .result)
-          (subst (RowOf job (x .j) (reach (x .back) (heightAt (x .back) (x .cells) (o .n))) (o .map)) (sym from) (o .inv .2 job asked (o .n) (omega arith))),
+    let in-aisle = to-cell placed in
+    let line = line-digit job (x .t2) (x .d) (x .cells) (x .j) asked (placed .height-at3 .result) (in-aisle .0) (in-aisle .1) in
+    let action = reach (x .back) (heightAt (x .back) (x .cells) (o .n)) in (
+      record {
+        long = omega (arith, start .pre .0, placed .before .before .before .before .before .before .plain-row .ensures .kept, o .inv .1);
+        to-in = omega (arith, small start, in-aisle .1);
+        from-in = omega (arith, small start, from, height-below (x .back) (x .cells) (o .n) (omega arith));
+        apart = λ e. heights-differ (x .back) (x .cells) (o .n) (o .n + 1) (omega arith) (omega arith) (sym from ∙ e ∙ to);
+        light = asked .digits-of .small .1;
+      },
+      row-below job (x .t2) (x .d) (x .cells) (x .j) asked action (o .map) (placed .before .height-at2 .result)
+          (subst (RowOf job (x .j) action (o .map)) (sym from) (o .inv .2 job asked (o .n) (omega arith))),
+      line .0,
+      line .1,
     )
 
 add-n : tie.Need-add-n Inv-loop μ-loop
