@@ -1,20 +1,20 @@
 // The maps of an aisle: for each demand what is left of it behind a part of an aisle.
 use crate::digits::DEMANDS;
+use crate::digits::Digit;
 use crate::digits::Digits;
-use crate::digits::less_table;
 use crate::digits::wide;
-use crate::shelf::Shelf;
-use values::JobValue;
-ghost use Prim.Native.Nat.{_*_, _+_, _<_, _≤_, ℕ};
-ghost use Rattle.demand.specs.Maps.{MapsReady};
-ghost use Rattle.demand.specs.Shelves.{BacksFrom, FrontsTo, MapsAsked, RowSet, Usable, lessLine};
-ghost use Rattle.values.specs.Values.{jobOf};
+use crate::digits::wide_digit;
+use values::Shelf;
+ghost use Prim.Native.Nat.{_-_, _≤_, min, suc, ℕ};
+ghost use Rattle.demand.specs.Digits.{Within, lessDigit, lessLine, noDigit};
+ghost use Rattle.demand.specs.Maps.{MapsAsked, MapsReady, RowAsked, RowBelow, RowSet, RowsTo, entry, heightAt, mapSize};
+ghost use Rattle.rules.specs.Jobs.{Job};
 ghost use lib.ListN.{getD, length};
 ghost use mathlib.Core.Path.{_≡_};
 
 // A row of a map in which every demand stays as it is.
 fn plain_row(map: &mut [u16], to: usize, weight: usize)
-    requires { ⌜ (6656 ≤ length (now map)) × (to ≤ 25) × (weight ≤ 256) ⌝ }
+    requires { ⌜ (mapSize ≤ length (now map)) × (to ≤ 25) × (weight ≤ 256) ⌝ }
     ensures { λ r. ⌜ RowSet (now (map .entry)) (now (map .exit)) to weight (λ q. q) ⌝ }
 {
     let mut q = 0;
@@ -26,8 +26,8 @@ fn plain_row(map: &mut [u16], to: usize, weight: usize)
 
 // A row of a map like another one.
 fn copy_row(map: &mut [u16], to: usize, from: usize, weight: usize)
-    requires { ⌜ (6656 ≤ length (now map)) × (to ≤ 25) × (from ≤ 25) × (from ≡ to → ⊥) × (weight ≤ 256) ⌝ }
-    ensures { λ r. ⌜ RowSet (now (map .entry)) (now (map .exit)) to weight (λ q. getD (now (map .entry)) (from * 256 + q) 0) ⌝ }
+    requires { ⌜ RowAsked (now map) to from weight ⌝ }
+    ensures { λ r. ⌜ RowSet (now (map .entry)) (now (map .exit)) to weight (λ q. entry (now (map .entry)) from q) ⌝ }
 {
     let mut q = 0;
     while q < weight {
@@ -36,58 +36,63 @@ fn copy_row(map: &mut [u16], to: usize, from: usize, weight: usize)
     }
 }
 
-// A row of a map behind another one: its demands looked up in a table.
-fn look_up(map: &mut [u16], to: usize, from: usize, table: &[u16; DEMANDS], weight: usize)
-    requires { ⌜ (6656 ≤ length (now map)) × (to ≤ 25) × (from ≤ 25) × (from ≡ to → ⊥) × (weight ≤ 256) × ((q : ℕ) → q < weight → getD (now map) (from * 256 + q) 0 < 256) ⌝ }
-    ensures { λ r. ⌜ RowSet (now (map .entry)) (now (map .exit)) to weight (λ q. getD (now (table .entry)) (getD (now (map .entry)) (from * 256 + q) 0) 0) ⌝ }
+// What a cell that holds n takes from a digit.
+fn taken(digit: usize, n: usize) -> usize
+    ensures { λ r. ⌜ r ≡ min digit n ⌝ }
+{
+    if digit < n { digit } else { n }
+}
+
+// A row of a map behind another one: its demands after one more cell, which holds n for the line of a digit.
+fn less_row(map: &mut [u16], to: usize, from: usize, x: Digit, n: usize, weight: usize)
+    requires { ⌜ RowAsked (now map) to from weight × Within x weight × RowBelow (now map) from weight ⌝ }
+    ensures { λ r. ⌜ RowSet (now (map .entry)) (now (map .exit)) to weight (λ q. lessDigit x n (entry (now (map .entry)) from q)) ⌝ }
 {
     let mut q = 0;
     while q < weight {
         let old = wide(map[from * DEMANDS + q]);
-        map[to * DEMANDS + q] = table[old];
+        let lacks = wide_digit(x.lacks[old]);
+        map[to * DEMANDS + q] = (old - taken(lacks, n) * x.stride) as u16;
         q += 1;
     }
 }
 
 // A row of a map behind another one: its demands after one more cell.
 fn map_row(map: &mut [u16], to: usize, from: usize, d: Digits, line: usize, n: usize)
-    requires { ⌜ (6656 ≤ length (now map)) × (to ≤ 25) × (from ≤ 25) × (from ≡ to → ⊥) × Usable d × (d .weight ≤ 256) × (line ≤ 8) × ((q : ℕ) → q < d .weight → getD (now map) (from * 256 + q) 0 < d .weight) ⌝ }
-    ensures { λ r. ⌜ RowSet (now (map .entry)) (now (map .exit)) to (d .weight) (λ q. lessLine d line n (getD (now (map .entry)) (from * 256 + q) 0)) ⌝ }
+    requires { ⌜ RowAsked (now map) to from (d .weight) × RowBelow (now map) from (d .weight) × (line ≤ 8) × (1 ≤ line → Within (getD (d .digit) (line - 1) noDigit) (d .weight)) ⌝ }
+    ensures { λ r. ⌜ RowSet (now (map .entry)) (now (map .exit)) to (d .weight) (λ q. lessLine d line n (entry (now (map .entry)) from q)) ⌝ }
 {
     let weight = d.weight;
     if line == 0 {
         copy_row(map, to, from, weight);
     } else {
-        let table = less_table(d.radix[line - 1], d.stride[line - 1], n, weight);
-        look_up(map, to, from, &table, weight);
+        let x = d.digit[line - 1];
+        less_row(map, to, from, x, n, weight);
     }
 }
 
-// The rows of a map by the cell that the front part of an action reaches.
-fn fill_fronts(map: &mut [u16], job: JobValue, shelf: Shelf, d: Digits, j: usize)
-    requires { ⌜ (6656 ≤ length (now map)) × MapsAsked job shelf d j ⌝ }
-    ensures { λ r. ⌜ FrontsTo (jobOf job) j (job .layout .cells + 1) (now (map .exit)) × (length (now (map .exit)) ≡ length (now (map .entry))) ⌝ }
+// The height at which n cells are reached from the front, or from the back.
+fn height_at(back: bool, cells: usize, n: usize) -> usize
+    requires { ⌜ (cells ≤ 24) × (n ≤ suc cells) ⌝ }
+    ensures { λ r. ⌜ r ≡ heightAt back cells n ⌝ }
 {
-    plain_row(map, 0, d.weight);
-    let mut h = 0;
-    while h < job.layout.cells {
-        let at = (j - 1) * 24 + h;
-        map_row(map, h + 1, h, d, shelf.line[at], shelf.quantity[at]);
-        h += 1;
-    }
+    if back { cells + 1 - n } else { n }
 }
 
-// The rows of a map by the cell that the back part of an action reaches.
-fn fill_backs(map: &mut [u16], job: JobValue, shelf: Shelf, d: Digits, j: usize)
-    requires { ⌜ (6656 ≤ length (now map)) × MapsAsked job shelf d j ⌝ }
-    ensures { λ r. ⌜ BacksFrom (jobOf job) j 0 (now (map .exit)) × (length (now (map .exit)) ≡ length (now (map .entry))) ⌝ }
+// The map by the front part of an action, or by its back part: the rows of the cells that it reaches, one after the other.
+fn fill_map(map: &mut [u16], shelf: Shelf, d: Digits, cells: usize, j: usize, back: bool)
+    requires { ⌜ (mapSize ≤ length (now map)) × ((job : Job) × MapsAsked job shelf d cells j) ⌝ }
+    ensures { λ r. ⌜ ((job : Job) → MapsAsked job shelf d cells j → RowsTo job cells j back (suc cells) (now (map .exit))) × (length (now (map .exit)) ≡ length (now (map .entry))) ⌝ }
 {
-    plain_row(map, job.layout.cells + 1, d.weight);
+    let weight = d.weight;
+    let first = height_at(back, cells, 0);
+    plain_row(map, first, weight);
     let mut n = 0;
-    while n < job.layout.cells {
-        let i = job.layout.cells - n;
-        let at = (j - 1) * 24 + (i - 1);
-        map_row(map, i, i + 1, d, shelf.line[at], shelf.quantity[at]);
+    while n < cells {
+        let from = height_at(back, cells, n);
+        let to = height_at(back, cells, n + 1);
+        let at = (j - 1) * 24 + (to - 1);
+        map_row(map, to, from, d, shelf.line[at], shelf.quantity[at]);
         n += 1;
     }
 }
@@ -96,14 +101,14 @@ fn fill_backs(map: &mut [u16], job: JobValue, shelf: Shelf, d: Digits, j: usize)
 pub fn fill_maps(
     fronts: &mut [u16],
     backs: &mut [u16],
-    job: JobValue,
     shelf: Shelf,
     d: Digits,
+    cells: usize,
     j: usize,
 )
-    requires { ⌜ (6656 ≤ length (now fronts)) × (6656 ≤ length (now backs)) × MapsAsked job shelf d j ⌝ }
-    ensures { λ r. ⌜ MapsReady (jobOf job) j (now (fronts .exit)) (now (backs .exit)) × (length (now (fronts .exit)) ≡ length (now (fronts .entry))) × (length (now (backs .exit)) ≡ length (now (backs .entry))) ⌝ }
+    requires { ⌜ (mapSize ≤ length (now fronts)) × (mapSize ≤ length (now backs)) × ((job : Job) × MapsAsked job shelf d cells j) ⌝ }
+    ensures { λ r. ⌜ ((job : Job) → MapsAsked job shelf d cells j → MapsReady job j (now (fronts .exit)) (now (backs .exit))) × (length (now (fronts .exit)) ≡ length (now (fronts .entry))) × (length (now (backs .exit)) ≡ length (now (backs .entry))) ⌝ }
 {
-    fill_fronts(fronts, job, shelf, d, j);
-    fill_backs(backs, job, shelf, d, j);
+    fill_map(fronts, shelf, d, cells, j, false);
+    fill_map(backs, shelf, d, cells, j, true);
 }
