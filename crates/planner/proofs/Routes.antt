@@ -1,6 +1,6 @@
 -- A routed job: its plan is lawful, and the sheet of the values is the job's sheet.
 use Prim.Native.Nat.{_≤_}
-use mathlib.Core.Path.{_≡_, sym, subst, _∙_, ap}
+use mathlib.Core.Path.{_≡_, refl, sym, subst, _∙_, ap}
 use Rattle.rules.specs.Plans.{planLength}
 use Rattle.rules.specs.Lawful.{Lawful}
 use Rattle.rules.specs.Picks.{picksOf}
@@ -11,8 +11,11 @@ use Rattle.values.specs.declared.JobValue.{JobValue}
 use Rattle.values.specs.declared.PickList.{PickList}
 use Rattle.values.specs.declared.RunList.{RunList}
 use Rattle.values.specs.declared.Routed.{Routed}
+use Rattle.values.specs.declared.Shelf.{Shelf}
+use Rattle.values.specs.Shelves.{ShelfOf}
 use Rattle.values.specs.Values.{jobOf, planOf, picksOfValue, runsOfValue, Sound, RoutedOf}
 use Rattle.optimum.proofs.Best.{best-plan}
+use Rattle.picks.specs.Picking.{Asked}
 use Rattle.sheets.specs.Parts.{sheetOfValues, CountsWithin}
 use Rattle.sheets.proofs.SheetLaws.{sheet-of-values}
 use Rattle.walks.specs.Lawfully.{LawfulPlan}
@@ -22,6 +25,18 @@ module _ (job : JobValue) (routed : Routed) (s : Sound job) (r : RoutedOf (jobOf
   pub same-aisles : routed .plan .aisles ≡ job .layout .aisles
   unfolding jobOf
   same-aisles = r .aisles
+
+  -- the picks can be asked of the job's lines, cells and shelf
+  pub picks-asked : (shelf : Shelf) → ShelfOf (jobOf job) shelf → Asked (jobOf job) (job .lines) (job .layout .cells) shelf (routed .plan)
+  unfolding jobOf
+  picks-asked shelf h =
+      record {
+        admitted = s .admitted;
+        its-lines = (job .orders, refl);
+        its-cells = refl;
+        its-shelf = h;
+        its-aisles = sym same-aisles;
+      }
 
   -- it is lawful
   pub routed-lawful : LawfulPlan (job .layout) (routed .plan)

@@ -6,10 +6,9 @@ use denote.Ref.{now}
 use Rattle.rules.specs.Sheet.{sheetText}
 use Rattle.values.specs.Values.{jobOf}
 use Rattle.sheets.specs.Parts.{sheetOfValues}
-use Rattle.sheets.specs.Picking.{SameAisles}
 use Rattle.sheets.specs.Written.{Written}
 use Rattle.planner.proofs.Replies.{replied-short, replied-written}
-use Rattle.planner.proofs.Routes.{same-aisles, routed-lawful, routed-counts, routed-sheet}
+use Rattle.planner.proofs.Routes.{picks-asked, routed-lawful, routed-counts, routed-sheet}
 use borrow.Author.Needs.{needs}
 use Rattle.planner.proofs.finish.Statement.{statement}
 use Rattle.planner.proofs.finish.Tie as tie
@@ -24,18 +23,21 @@ sheet-known c =
     let start = c .before .before .before .before .before .before in
     let picks = c .before .before .picks in
     let runs = c .before .walk-runs in
-    routed-sheet (start .args .job) (start .args .routed) (start .pre .0) (start .pre .1) (picks .result) (runs .result) (picks .ensures .0) (runs .ensures .0)
+    let job = start .args .job in
+    let routed = start .args .routed in
+    let asked = picks-asked job routed (start .pre .0) (start .pre .2) (start .args .shelf) (start .pre .1) in
+    routed-sheet job routed (start .pre .0) (start .pre .2) (picks .result) (runs .result) (picks .ensures .0 (jobOf job) asked) (runs .ensures .0)
 
 picks-requires : tie.Need-picks-requires
-unfolding SameAisles
 picks-requires c κs =
     let start = c .before .before .before in
-    (start .pre .0, same-aisles (start .args .job) (start .args .routed) (start .pre .0) (start .pre .1))
+    let job = start .args .job in
+    (jobOf job, picks-asked job (start .args .routed) (start .pre .0) (start .pre .2) (start .args .shelf) (start .pre .1))
 
 walk-runs-requires : tie.Need-walk-runs-requires
 walk-runs-requires c κs =
     let start = c .before .before .before .before in
-    routed-lawful (start .args .job) (start .args .routed) (start .pre .0) (start .pre .1)
+    routed-lawful (start .args .job) (start .args .routed) (start .pre .0) (start .pre .2)
 
 -- the counts are all that the writers ask of the values
 sheet-size-requires : tie.Need-sheet-size-requires
@@ -43,7 +45,7 @@ sheet-size-requires c κs =
     let start = c .before .before .before .before .before in
     let picks = c .before .picks in
     let runs = c .walk-runs in
-    let counts = routed-counts (start .args .job) (start .args .routed) (start .pre .0) (start .pre .1) (picks .result) (runs .result) (picks .ensures .1) (runs .ensures .1) in
+    let counts = routed-counts (start .args .job) (start .args .routed) (start .pre .0) (start .pre .2) (picks .result) (runs .result) (picks .ensures .1) (runs .ensures .1) in
     record {
       some-aisle = omega (arith, counts .some-aisle);
       aisle-count = omega (arith, counts .aisle-count);
