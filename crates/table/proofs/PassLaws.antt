@@ -1,7 +1,7 @@
 -- The passes over an aisle, and that they look at every action.
-use Prim.Native.Nat.{ℕ, zero, suc, _+_, _*_, _-_, _/_, _≤_, _<_, min}
+use Prim.Native.Nat.{ℕ, _+_, _*_, _≤_, _<_}
 use native.Mathlib.Omega.{arith}
-use native.Mathlib.Nat.{le-refl, eq-or-lt-of-le}
+use native.Mathlib.Nat.{le-refl}
 use mathlib.Core.Path.{_≡_, refl, sym, _∙_, ap, ap₂, subst}
 use mathlib.Core.Logic.{_⊎_, inl, inr, ⊎-elim}
 use mathlib.Core.List.{List, List·Memᴰ}
@@ -9,15 +9,13 @@ use mathlib.Core.Bool.{Bool, true, false, cond, not, _&&_, _||_, and-eq-true-iff
 use lib.Dec.{ltb, eqb}
 use lib.ListN.{length, getD}
 use borrow.Author.Tests.{ltb-true, ltb-false, eqb-true, eqb-false}
-use Rattle.rules.specs.declared.Layout.{Layout}
 use Rattle.rules.specs.declared.Action.{Action}
-use Rattle.rules.specs.Store.{layoutInBounds}
 use Rattle.rules.specs.Plans.{Fits}
 use Rattle.rules.specs.Policies.{inFrontHalf, inBackHalf}
 use Rattle.rules.specs.BestPlan.{actionsOf}
 use Rattle.rules.proofs.Enumeration.{actions-sound, actions-complete}
 use Rattle.optimum.specs.Least.{sumUpTo}
-use Rattle.optimum.specs.Routing.{noTour, sat, leastOf}
+use Rattle.optimum.specs.Routing.{sat, leastOf}
 use Rattle.table.specs.declared.layers.Aisle.{Aisle}
 use Rattle.table.specs.declared.layers.Turns.{Turns}
 use Rattle.machine.specs.Steps.{bit}

@@ -1,14 +1,13 @@
 -- One more number of eight, one more demand of a row, one more state.
-use Prim.Native.Nat.{ℕ, zero, suc, _+_, _*_, _≤_, _<_, min}
+use Prim.Native.Nat.{ℕ, _+_, _*_, _≤_, _<_, min}
 use native.Mathlib.Omega.{arith}
-use native.Mathlib.Nat.{eq-or-lt-of-le}
 use mathlib.Core.Path.{_≡_, refl, sym, _∙_, ap, ap₂, subst}
-use mathlib.Core.Logic.{_⊎_, inl, inr, ⊎-elim}
+use mathlib.Core.Logic.{inl, inr, ⊎-elim}
 use mathlib.Core.List.{List}
 use lib.ListN.{length, getD, set, length-set}
 use lib.Seq.{getD-set-same, getD-set-other}
 use Rattle.optimum.specs.Least.{sumUpTo}
-use Rattle.optimum.specs.Routing.{noTour, sat}
+use Rattle.optimum.specs.Routing.{sat}
 use Rattle.demand.proofs.Filling.{below}
 use Rattle.table.specs.Rows.{tab, Shorter, StoredTo, RelaxedRow, nextAt, StateSet, Permuted}
 

@@ -1,5 +1,5 @@
 -- The rows that the code fills hold the table's values.
-use Prim.Native.Nat.{ℕ, zero, suc, _+_, _*_, _-_, _≤_, _<_}
+use Prim.Native.Nat.{ℕ, zero, suc, _+_, _*_, _-_, _<_}
 use native.Mathlib.Omega.{arith}
 use mathlib.Core.Path.{_≡_, refl, sym, _∙_, ap, ap₂}
 use mathlib.Core.List.{List, [], _∷_}
@@ -26,7 +26,7 @@ use Rattle.machine.specs.States.{stateCode, stateOf}
 use Rattle.table.specs.Candidates.{candidateOf}
 use Rattle.table.specs.Rows.{nextAt}
 use Rattle.table.specs.Crossings.{throughPassage, leastAfter, AfterFilled}
-use Rattle.table.specs.Layers.{stepCode, leftCode, throughCandidate, throughAction, RowFilled}
+use Rattle.table.specs.Layers.{leftCode, throughCandidate, throughAction, RowFilled}
 use Rattle.demand.specs.Maps.{MapsReady}
 use Rattle.table.specs.TableHolds.{aisleOf, triedAt, values, behind, RowHolds, AfterHolds}
 use Rattle.machine.proofs.StepLaws.{state-of-code}

@@ -10,7 +10,7 @@ use demand::shelf::holds_listed;
 use rules::Layout;
 use rules::Policy;
 use values::Shelf;
-ghost use Prim.Native.Nat.{_+_, _-_, _<_, _≤_, suc, ℕ};
+ghost use Prim.Native.Nat.{_+_, _-_, _<_, _≤_};
 ghost use Rattle.machine.specs.Steps.{policyCode};
 ghost use Rattle.rules.specs.Jobs.{Job};
 ghost use Rattle.table.specs.Rows.{workArea};

@@ -1,7 +1,7 @@
 -- `table::filling::fill_table` meets its contract: the rows behind aisle j are filled.
 use native.Mathlib.Omega.{arith}
 use Prim.Native.Nat.{suc, _-_, _≤_}
-use mathlib.Core.Path.{_≡_, refl, sym, _∙_, subst}
+use mathlib.Core.Path.{_≡_, refl, _∙_, subst}
 use lib.ListN.{length}
 use Rattle.rules.specs.Jobs.{Job}
 use Rattle.table.specs.TableHolds.{OrderOf, TableFrom}

@@ -1,6 +1,6 @@
 -- `table::layers::fill_row` meets its contract: what the passes so far leave of the row.
 use native.Mathlib.Omega.{arith}
-use Prim.Native.Nat.{ℕ, _+_, _*_, _-_, _≤_, _<_}
+use Prim.Native.Nat.{_-_, _≤_}
 use mathlib.Core.Path.{_≡_, refl, _∙_, subst}
 use lib.ListN.{length}
 use borrow.Author.Needs.{needs}

@@ -1,6 +1,6 @@
 -- `table::rows::fill_none` meets its contract.
 use native.Mathlib.Omega.{arith}
-use Prim.Native.Nat.{ℕ, _+_, _*_, _-_, _≤_, _<_}
+use Prim.Native.Nat.{ℕ, _-_, _≤_, _<_}
 use mathlib.Core.Path.{_≡_, refl, _∙_}
 use Rattle.demand.proofs.Filling.{filled-one}
 use lib.ListN.{length, getD}

@@ -1,10 +1,9 @@
 -- `table::rows::lives` meets its contract: no state before s leads on.
 use native.Mathlib.Omega.{arith}
-use Prim.Native.Nat.{ℕ, _+_, _-_, _≤_, _<_}
-use mathlib.Core.Path.{_≡_, subst, sym}
+use Prim.Native.Nat.{ℕ, _-_, _≤_, _<_}
+use mathlib.Core.Path.{subst, sym}
 use mathlib.Core.Logic.{⊎-elim}
 use lib.ListN.{getD}
-use Rattle.table.specs.Rows.{LivesAs}
 use Rattle.demand.proofs.Filling.{below}
 use Rattle.table.proofs.rows.lives.Statement.{statement}
 use Rattle.table.proofs.rows.lives.Tie as tie

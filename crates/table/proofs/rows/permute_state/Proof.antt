@@ -1,6 +1,6 @@
 -- `table::rows::permute_state` meets its contract.
 use native.Mathlib.Omega.{arith}
-use Prim.Native.Nat.{ℕ, _+_, _*_, _-_, _≤_, _<_}
+use Prim.Native.Nat.{_-_, _≤_}
 use mathlib.Core.Path.{_≡_, subst}
 use Rattle.table.specs.Rows.{StateSet}
 use Rattle.table.proofs.Relaxing.{state-none, state-one}

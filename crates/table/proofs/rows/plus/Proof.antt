@@ -2,7 +2,6 @@
 use native.Mathlib.Omega.{arith}
 use borrow.Author.Needs.{needs}
 use Rattle.optimum.specs.Least.{sumUpTo}
-use Rattle.optimum.specs.Routing.{sat}
 use Rattle.table.proofs.rows.plus.Statement.{statement}
 use Rattle.table.proofs.rows.plus.Tie as tie
 

@@ -1,6 +1,6 @@
 -- `table::rows::put` meets its contract.
 use native.Mathlib.Omega.{arith}
-use Prim.Native.Nat.{_+_, _*_, _-_, _≤_, _<_}
+use Prim.Native.Nat.{_-_, _≤_}
 use mathlib.Core.Path.{_≡_, subst}
 use Rattle.table.specs.Rows.{StoredTo}
 use Rattle.table.proofs.Relaxing.{stored-none, stored-one}

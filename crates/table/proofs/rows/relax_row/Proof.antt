@@ -1,9 +1,8 @@
 -- `table::rows::relax_row` meets its contract.
 use native.Mathlib.Omega.{arith}
-use Prim.Native.Nat.{ℕ, _+_, _*_, _-_, _≤_, _<_, min}
-use mathlib.Core.Path.{_≡_, refl, _∙_, ap, subst}
+use Prim.Native.Nat.{_*_, _-_, _≤_}
+use mathlib.Core.Path.{_≡_, ap, subst}
 use borrow.Author.Needs.{needs}
-use lib.ListN.{length, getD}
 use Rattle.table.specs.Rows.{RelaxedRow}
 use Rattle.table.proofs.Relaxing.{row-none, row-one}
 use Rattle.table.proofs.rows.relax_row.Statement.{statement}
@@ -32,7 +31,9 @@ wide-requires c κs = search needs
 
 mul-from : tie.Need-mul-from Inv-loop μ-loop
 mul-from c =
-    omega (arith, c .before .before .before .before .before .before .before .pre .small, c .before .before .before .before .before .before .before .pre .below (c .before .before .before .loop .q) (omega arith), c .wide .ensures .0)
+    let at-loop = c .before .before .before in
+    let r = at-loop .before .before .before .before .pre in
+    omega (arith, r .small, r .below (at-loop .loop .q) (omega arith), c .wide .ensures .0)
 
 mul-shorter : tie.Need-mul-shorter Inv-loop μ-loop
 mul-shorter c = omega (arith, c .before .before .before .before .before .before .before .before .pre .small)
