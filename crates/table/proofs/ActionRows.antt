@@ -20,7 +20,7 @@ use Rattle.table.specs.declared.layers.Aisle.{Aisle}
 use Rattle.table.specs.Candidates.{candidateOf, candidateLength, candidateHalves}
 use Rattle.machine.specs.States.{stateCode, stateOf}
 use Rattle.machine.specs.Steps.{policyOf, sampleAction, bit, stepOf}
-use Rattle.table.specs.Rows.{nextAt}
+use Rattle.rows.specs.Rows.{nextAt}
 use Rattle.table.specs.Layers.{stepWith, stepCode, leftCode, throughCandidate, throughAction, wayWith}
 use Rattle.table.proofs.PassageLaws.{state-small}
 use Rattle.table.proofs.HalfSteps.{step-no, step-same}

@@ -1,5 +1,4 @@
 pub mod Geometry
-pub mod Relaxing
 pub mod Bridge
 pub mod Sweeping
 pub mod PassageLaws

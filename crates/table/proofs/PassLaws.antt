@@ -20,7 +20,7 @@ use Rattle.table.specs.declared.layers.Aisle.{Aisle}
 use Rattle.table.specs.declared.layers.Turns.{Turns}
 use Rattle.machine.specs.Steps.{bit}
 use Rattle.table.specs.Candidates.{candidateOf, actionOfParts, candidateLength, candidateHalves}
-use Rattle.table.specs.Rows.{tab, nextAt}
+use Rattle.rows.specs.Rows.{tab, nextAt}
 use Rattle.table.specs.Turns.{frontAt, backAt, frontCost, backCost, frontTurn, backTurn, TurnsOf, turnWay, SweepReady, SweptTo}
 use Rattle.table.specs.Layers.{stepWith, leftCode, throughCandidate, throughAction, wayWith, AisleReady, passHalves, passKind, passesOf, OfPass, PassDone, RowFilled}
 use Rattle.table.proofs.Geometry.{within}

@@ -20,7 +20,7 @@ use Rattle.optimum.proofs.Choice.{least-take}
 use Rattle.machine.specs.States.{stateCode, stateOf}
 use Rattle.machine.specs.Steps.{policyOf, passageOf, crossOf}
 use Rattle.table.specs.declared.layers.Aisle.{Aisle}
-use Rattle.table.specs.Rows.{tab, nextAt, Permuted, RelaxedRow}
+use Rattle.rows.specs.Rows.{tab, nextAt, Permuted, RelaxedRow}
 use Rattle.table.specs.Crossings.{crossCode, throughPassage, leastOver, leastAfter, PassageTried, AfterFilled}
 use Rattle.demand.proofs.Filling.{below}
 

@@ -8,7 +8,7 @@ use mathlib.Core.List.{List}
 use lib.ListN.{getD}
 use Rattle.optimum.specs.Least.{sumUpTo}
 use Rattle.optimum.specs.Routing.{sat}
-use Rattle.table.specs.Rows.{tab, RelaxedRow}
+use Rattle.rows.specs.Rows.{tab, RelaxedRow}
 use Rattle.table.specs.Turns.{turnWay, backWay, BacksDone, SweptTo}
 
 -- a least of two is one of them

@@ -21,7 +21,7 @@ use Rattle.demand.specs.Maps.{mapSize, MapsAsked, MapsReady}
 use Rattle.demand.proofs.Composition.{met-zero}
 use Rattle.table.specs.declared.filling.Order.{Order}
 use Rattle.table.specs.declared.layers.Aisle.{Aisle}
-use Rattle.table.specs.Rows.{numbers}
+use Rattle.rows.specs.Rows.{numbers}
 use Rattle.table.specs.Crossings.{InRange, AfterFilled}
 use Rattle.table.specs.Layers.{AisleReady, RowFilled}
 use Rattle.table.specs.TableHolds.{sideOf, flagOf, triedAt, OrderOf, aisleOf, RowHolds, AfterHolds, endRow}

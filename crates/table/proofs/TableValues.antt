@@ -24,7 +24,7 @@ use Rattle.optimum.proofs.Choice.{least-cong, least-agree}
 use Rattle.optimum.proofs.Radix.{radices-positive, gains-length, count-weight, less-code, less-code-below}
 use Rattle.machine.specs.States.{stateCode, stateOf}
 use Rattle.table.specs.Candidates.{candidateOf}
-use Rattle.table.specs.Rows.{nextAt}
+use Rattle.rows.specs.Rows.{nextAt}
 use Rattle.table.specs.Crossings.{throughPassage, leastAfter, AfterFilled}
 use Rattle.table.specs.Layers.{leftCode, throughCandidate, throughAction, RowFilled}
 use Rattle.demand.specs.Maps.{MapsReady}

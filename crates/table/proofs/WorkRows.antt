@@ -12,7 +12,7 @@ use Rattle.rules.specs.Jobs.{Job}
 use Rattle.rules.specs.Refusals.{weight}
 use Rattle.optimum.specs.Demand.{radices, demandOf}
 use Rattle.machine.specs.States.{stateOf}
-use Rattle.table.specs.Rows.{numbers}
+use Rattle.rows.specs.Rows.{numbers}
 use Rattle.table.specs.TableHolds.{values, RowHolds, TableFrom}
 
 -- a part of a list, read

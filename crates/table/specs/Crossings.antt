@@ -12,7 +12,7 @@ use Rattle.optimum.specs.Routing.{sat, leastOf}
 use Rattle.machine.specs.States.{stateCode, stateOf}
 use Rattle.machine.specs.Steps.{policyOf, passageOf, crossOf}
 use Rattle.table.specs.declared.layers.Aisle.{Aisle}
-use Rattle.table.specs.Rows.{tab, nextAt}
+use Rattle.rows.specs.Rows.{tab, nextAt}
 
 -- an aisle's numbers are in range
 pub record InRange (x : Aisle) : Type 0 where

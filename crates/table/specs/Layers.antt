@@ -15,7 +15,7 @@ use Rattle.table.specs.declared.layers.Aisle.{Aisle}
 use Rattle.machine.specs.States.{stateCode, stateOf}
 use Rattle.machine.specs.Steps.{policyOf, sampleAction, bit, stepOf}
 use Rattle.table.specs.Candidates.{candidateOf, candidateLength, candidateHalves}
-use Rattle.table.specs.Rows.{tab, nextAt}
+use Rattle.rows.specs.Rows.{tab, nextAt}
 use Rattle.table.specs.Crossings.{InRange}
 
 -- the number of the state after a kind of action, with the answer of the half rule given

@@ -1,5 +1,4 @@
 pub mod Candidates
-pub mod Rows
 pub mod Crossings
 pub mod Turns
 pub mod Layers

@@ -17,7 +17,7 @@ use Rattle.values.specs.Shelves.{ShelfOf}
 use Rattle.demand.specs.Digits.{DigitsOf}
 use Rattle.table.specs.declared.filling.Order.{Order}
 use Rattle.table.specs.declared.layers.Aisle.{Aisle}
-use Rattle.table.specs.Rows.{numbers, workArea, tab, nextAt}
+use Rattle.rows.specs.Rows.{numbers, workArea, tab, nextAt}
 use Rattle.table.specs.Crossings.{InRange}
 
 -- where aisle j lies: left of the depot (0), at it (1) or right of it (2)

@@ -1,13 +1,13 @@
 // The row behind the actions of an aisle: the ways on over each passage.
 use crate::layers::Aisle;
-use crate::rows::NUMBERS;
-use crate::rows::STATES;
-use crate::rows::fill_none;
-use crate::rows::lives;
-use crate::rows::permute;
-use crate::rows::relax_row;
 use demand::digits::DEMANDS;
 use machine::passage_step;
+use rows::NUMBERS;
+use rows::STATES;
+use rows::fill_none;
+use rows::lives;
+use rows::permute;
+use rows::relax_row;
 ghost use Prim.Native.Nat.{_*_, _+_, _<_, _≤_, ℕ};
 ghost use Rattle.machine.specs.Steps.{passageOf};
 ghost use Rattle.table.specs.Crossings.{AfterFilled, CrossingReady, InRange, PassageTried, crossCode};

@@ -2,7 +2,7 @@
 use native.Mathlib.Omega.{arith}
 use mathlib.Core.Path.{subst}
 use borrow.Author.Needs.{needs}
-use Rattle.table.specs.Rows.{LivesAs}
+use Rattle.rows.specs.Rows.{LivesAs}
 use Rattle.table.specs.Layers.{passKind, passHalves}
 use Rattle.table.proofs.PassLaws.{sweep-ready, pass-kind, pass-mode, pass-skipped, pass-swept}
 use Rattle.table.proofs.layers.relax_pass.Statement.{statement}

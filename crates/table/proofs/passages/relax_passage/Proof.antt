@@ -4,7 +4,7 @@ use Prim.Native.Nat.{_<_}
 use mathlib.Core.Path.{sym, subst}
 use lib.ListN.{replicate}
 use borrow.Author.Needs.{needs}
-use Rattle.table.specs.Rows.{LivesAs}
+use Rattle.rows.specs.Rows.{LivesAs}
 use Rattle.table.proofs.Geometry.{within}
 use Rattle.table.proofs.PassageLaws.{plain-at, passage-relaxed, passage-skipped}
 use Rattle.table.proofs.passages.relax_passage.Statement.{statement}

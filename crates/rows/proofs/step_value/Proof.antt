@@ -1,9 +1,9 @@
--- `table::rows::step_value` meets its contract.
+-- `rows::step_value` meets its contract.
 use borrow.Author.Tests.{le-ltb, lt-ltb}
 use borrow.Author.Needs.{needs}
-use Rattle.table.specs.Rows.{nextAt}
-use Rattle.table.proofs.rows.step_value.Statement.{statement}
-use Rattle.table.proofs.rows.step_value.Tie as tie
+use Rattle.rows.specs.Rows.{nextAt}
+use Rattle.rows.proofs.step_value.Statement.{statement}
+use Rattle.rows.proofs.step_value.Tie as tie
 
 mul-result : tie.Need-mul-result
 mul-result c = search needs

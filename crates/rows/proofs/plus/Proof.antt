@@ -1,9 +1,9 @@
--- `table::rows::plus` meets its contract by the meaning of `sat`.
+-- `rows::plus` meets its contract by the meaning of `sat`.
 use native.Mathlib.Omega.{arith}
 use borrow.Author.Needs.{needs}
 use Rattle.optimum.specs.Least.{sumUpTo}
-use Rattle.table.proofs.rows.plus.Statement.{statement}
-use Rattle.table.proofs.rows.plus.Tie as tie
+use Rattle.rows.proofs.plus.Statement.{statement}
+use Rattle.rows.proofs.plus.Tie as tie
 
 sub-if1 : tie.Need-sub-if1
 sub-if1 c = search needs

@@ -4,7 +4,7 @@
 use demand::digits::wide;
 ghost use Prim.Native.Nat.{_*_, _+_, _<_, _≤_, min, ℕ};
 ghost use Rattle.optimum.specs.Routing.{sat};
-ghost use Rattle.table.specs.Rows.{LivesAs, Permuted, RelaxReady, RelaxedRow, Shorter, StateSet, StoredTo, nextAt};
+ghost use Rattle.rows.specs.Rows.{LivesAs, Permuted, RelaxReady, RelaxedRow, Shorter, StateSet, StoredTo, nextAt};
 ghost use lib.ListN.{getD, length};
 ghost use mathlib.Core.Path.{_≡_};
 

@@ -1,11 +1,11 @@
--- `table::rows::put` meets its contract.
+-- `rows::put` meets its contract.
 use native.Mathlib.Omega.{arith}
 use Prim.Native.Nat.{_-_, _≤_}
 use mathlib.Core.Path.{_≡_, subst}
-use Rattle.table.specs.Rows.{StoredTo}
-use Rattle.table.proofs.Relaxing.{stored-none, stored-one}
-use Rattle.table.proofs.rows.put.Statement.{statement}
-use Rattle.table.proofs.rows.put.Tie as tie
+use Rattle.rows.specs.Rows.{StoredTo}
+use Rattle.rows.proofs.Relaxing.{stored-none, stored-one}
+use Rattle.rows.proofs.put.Statement.{statement}
+use Rattle.rows.proofs.put.Tie as tie
 
 abbrev Inv-loop : tie.InvT-loop
 Inv-loop row₀ at v s₀ row s = (s ≤ 8) × StoredTo row₀ row v at s

@@ -1,12 +1,12 @@
--- `table::rows::fill_none` meets its contract.
+-- `rows::fill_none` meets its contract.
 use native.Mathlib.Omega.{arith}
 use Prim.Native.Nat.{ℕ, _-_, _≤_, _<_}
 use mathlib.Core.Path.{_≡_, refl, _∙_}
 use Rattle.demand.proofs.Filling.{filled-one}
 use lib.ListN.{length, getD}
 use lib.ListN.{length-set}
-use Rattle.table.proofs.rows.fill_none.Statement.{statement}
-use Rattle.table.proofs.rows.fill_none.Tie as tie
+use Rattle.rows.proofs.fill_none.Statement.{statement}
+use Rattle.rows.proofs.fill_none.Tie as tie
 
 abbrev Inv-loop : tie.InvT-loop
 Inv-loop row₀ n i₀ row i = (i ≤ n) × ((length row ≡ length row₀) × ((k : ℕ) → k < i → getD row k 0 ≡ 65535))

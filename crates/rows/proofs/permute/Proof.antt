@@ -1,11 +1,11 @@
--- `table::rows::permute` meets its contract.
+-- `rows::permute` meets its contract.
 use native.Mathlib.Omega.{arith}
 use Prim.Native.Nat.{_-_, _≤_}
 use mathlib.Core.Path.{_≡_, subst}
-use Rattle.table.specs.Rows.{Permuted}
-use Rattle.table.proofs.Relaxing.{permuted-none, permuted-one}
-use Rattle.table.proofs.rows.permute.Statement.{statement}
-use Rattle.table.proofs.rows.permute.Tie as tie
+use Rattle.rows.specs.Rows.{Permuted}
+use Rattle.rows.proofs.Relaxing.{permuted-none, permuted-one}
+use Rattle.rows.proofs.permute.Statement.{statement}
+use Rattle.rows.proofs.permute.Tie as tie
 
 abbrev Inv-loop : tie.InvT-loop
 Inv-loop perm₀ after weight steps s₀ perm s = (s ≤ 8) × Permuted perm₀ perm after steps weight s

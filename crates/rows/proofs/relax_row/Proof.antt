@@ -1,12 +1,12 @@
--- `table::rows::relax_row` meets its contract.
+-- `rows::relax_row` meets its contract.
 use native.Mathlib.Omega.{arith}
 use Prim.Native.Nat.{_*_, _-_, _≤_}
 use mathlib.Core.Path.{_≡_, ap, subst}
 use borrow.Author.Needs.{needs}
-use Rattle.table.specs.Rows.{RelaxedRow}
-use Rattle.table.proofs.Relaxing.{row-none, row-one}
-use Rattle.table.proofs.rows.relax_row.Statement.{statement}
-use Rattle.table.proofs.rows.relax_row.Tie as tie
+use Rattle.rows.specs.Rows.{RelaxedRow}
+use Rattle.rows.proofs.Relaxing.{row-none, row-one}
+use Rattle.rows.proofs.relax_row.Statement.{statement}
+use Rattle.rows.proofs.relax_row.Tie as tie
 
 abbrev Inv-loop : tie.InvT-loop
 Inv-loop row₀ perm map base cost weight q₀ row q = (q ≤ weight) × RelaxedRow row₀ row perm map base cost q

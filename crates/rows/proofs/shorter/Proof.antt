@@ -1,14 +1,14 @@
--- `table::rows::shorter` meets its contract.
+-- `rows::shorter` meets its contract.
 use native.Mathlib.Omega.{arith}
 use Prim.Native.Nat.{_+_, _-_, _≤_, min}
 use mathlib.Core.Path.{_≡_, refl, _∙_, ap}
 use borrow.Author.Needs.{needs}
 use lib.ListN.{length, getD, length-set}
 use Rattle.optimum.specs.Routing.{sat}
-use Rattle.table.specs.Rows.{Shorter}
+use Rattle.rows.specs.Rows.{Shorter}
 use Rattle.demand.proofs.Filling.{filled-one}
-use Rattle.table.proofs.rows.shorter.Statement.{statement}
-use Rattle.table.proofs.rows.shorter.Tie as tie
+use Rattle.rows.proofs.shorter.Statement.{statement}
+use Rattle.rows.proofs.shorter.Tie as tie
 
 abbrev Inv-loop : tie.InvT-loop
 Inv-loop row at perm from cost out₀ s₀ out s = (s ≤ 8) × (length out ≡ 8) × Shorter row at perm from cost out s

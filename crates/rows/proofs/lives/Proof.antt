@@ -1,12 +1,12 @@
--- `table::rows::lives` meets its contract: no state before s leads on.
+-- `rows::lives` meets its contract: no state before s leads on.
 use native.Mathlib.Omega.{arith}
 use Prim.Native.Nat.{ℕ, _-_, _≤_, _<_}
 use mathlib.Core.Path.{subst, sym}
 use mathlib.Core.Logic.{⊎-elim}
 use lib.ListN.{getD}
 use Rattle.demand.proofs.Filling.{below}
-use Rattle.table.proofs.rows.lives.Statement.{statement}
-use Rattle.table.proofs.rows.lives.Tie as tie
+use Rattle.rows.proofs.lives.Statement.{statement}
+use Rattle.rows.proofs.lives.Tie as tie
 
 abbrev Inv-loop : tie.InvT-loop
 Inv-loop steps s₀ s = (s ≤ 8) × ((k : ℕ) → k < s → 8 ≤ getD steps k 0)

@@ -1,11 +1,11 @@
--- `table::rows::permute_state` meets its contract.
+-- `rows::permute_state` meets its contract.
 use native.Mathlib.Omega.{arith}
 use Prim.Native.Nat.{_-_, _≤_}
 use mathlib.Core.Path.{_≡_, subst}
-use Rattle.table.specs.Rows.{StateSet}
-use Rattle.table.proofs.Relaxing.{state-none, state-one}
-use Rattle.table.proofs.rows.permute_state.Statement.{statement}
-use Rattle.table.proofs.rows.permute_state.Tie as tie
+use Rattle.rows.specs.Rows.{StateSet}
+use Rattle.rows.proofs.Relaxing.{state-none, state-one}
+use Rattle.rows.proofs.permute_state.Statement.{statement}
+use Rattle.rows.proofs.permute_state.Tie as tie
 
 abbrev Inv-loop : tie.InvT-loop
 Inv-loop perm₀ after s to weight q₀ perm q = (q ≤ weight) × StateSet perm₀ perm after s to q
