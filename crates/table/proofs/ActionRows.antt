@@ -1,11 +1,10 @@
 -- The ways over the actions of an aisle.
-use Prim.Native.Nat.{ℕ, zero, suc, _+_, _*_, _≤_, _<_, min}
+use Prim.Native.Nat.{ℕ, zero, suc, _≤_, _<_}
 use native.Mathlib.Omega.{arith}
 use mathlib.Core.Path.{_≡_, refl, sym, _∙_, ap}
 use mathlib.Core.Logic.{_⊎_, inl, inr}
 use mathlib.Core.List.{List, [], _∷_, List·Memᴰ, List·Memᴰ·head, List·Memᴰ·tail}
-use mathlib.Core.Bool.{Bool, true, false, cond}
-use lib.Dec.{ltb}
+use mathlib.Core.Bool.{Bool, true, false}
 use lib.ListN.{length, getD}
 use borrow.Author.Tests.{le-ltb}
 use Rattle.rules.specs.declared.Action.{Action}
@@ -15,13 +14,13 @@ use Rattle.rules.specs.BestPlan.{actionsOf}
 use Rattle.rules.specs.Machine.{State, dead}
 use Rattle.rules.proofs.Enumeration.{actions-sound}
 use Rattle.optimum.specs.Least.{sumUpTo}
-use Rattle.optimum.specs.Routing.{noTour, sat}
+use Rattle.optimum.specs.Routing.{sat}
 use Rattle.table.specs.declared.candidates.Candidate.{Candidate}
 use Rattle.table.specs.declared.layers.Aisle.{Aisle}
 use Rattle.table.specs.Candidates.{candidateOf, candidateLength, candidateHalves}
 use Rattle.machine.specs.States.{stateCode, stateOf}
 use Rattle.machine.specs.Steps.{policyOf, sampleAction, bit, stepOf}
-use Rattle.table.specs.Rows.{tab, nextAt}
+use Rattle.rows.specs.Rows.{nextAt}
 use Rattle.table.specs.Layers.{stepWith, stepCode, leftCode, throughCandidate, throughAction, wayWith}
 use Rattle.table.proofs.PassageLaws.{state-small}
 use Rattle.table.proofs.HalfSteps.{step-no, step-same}

@@ -2,17 +2,16 @@
 use Prim.Native.Nat.{ℕ, zero, suc, _+_, _*_, _-_, _≤_, _<_}
 use native.Mathlib.Omega.{arith}
 use native.Mathlib.Nat.{mul-le-mul-left}
-use mathlib.Core.Path.{_≡_, refl, sym, _∙_, ap}
-use mathlib.Core.Bool.{Bool, true, false}
+use mathlib.Core.Path.{_≡_, refl}
+use mathlib.Core.Bool.{true, false}
 use Rattle.rules.specs.declared.Layout.{Layout}
 use Rattle.rules.specs.declared.Action.{Action}
 use Rattle.rules.specs.declared.Action.the-variants.{Void, Bottom, Top, Gap, Once, Twice}
 use Rattle.rules.specs.Store.{position, aisleLength, layoutInBounds, LayoutWithin}
-use Rattle.rules.specs.Plans.{Fits}
 use Rattle.rules.specs.Lengths.{actionLength}
 use Rattle.rules.specs.Policies.{halved}
 use Rattle.rules.proofs.Admission.{layout-within}
-use Rattle.rules.proofs.Lengths.{position-front, position-back, position-within}
+use Rattle.rules.proofs.Lengths.{position-front, position-back}
 use Rattle.table.specs.Candidates.{candidateOf, actionOf, lengthOfParts, candidateLength, halvesOfParts, candidateHalves}
 
 module _ (z : Layout) (bounds : layoutInBounds z ≡ true) where
@@ -20,6 +19,7 @@ module _ (z : Layout) (bounds : layoutInBounds z ≡ true) where
   pub within : LayoutWithin z
   within = layout-within z .0 bounds
 
+  -- so many pitches are at most 690 dm, the cells of an aisle among them
   pub pitch-bound : (k : ℕ) → k ≤ 23 → k * z .pitch ≤ 690
   pitch-bound k h = let w = within in let m : k * z .pitch ≤ k * 30 = mul-le-mul-left k (w .pitch .1) in omega arith
 

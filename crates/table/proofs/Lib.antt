@@ -1,5 +1,4 @@
 pub mod Geometry
-pub mod Relaxing
 pub mod Bridge
 pub mod Sweeping
 pub mod PassageLaws
@@ -11,3 +10,4 @@ pub mod Parting
 pub mod StepLaws
 pub mod TableValues
 pub mod TableFills
+pub mod WorkRows

@@ -1,7 +1,7 @@
 -- The passes over an aisle, and that they look at every action.
-use Prim.Native.Nat.{ℕ, zero, suc, _+_, _*_, _-_, _/_, _≤_, _<_, min}
+use Prim.Native.Nat.{ℕ, _+_, _*_, _≤_, _<_}
 use native.Mathlib.Omega.{arith}
-use native.Mathlib.Nat.{le-refl, eq-or-lt-of-le}
+use native.Mathlib.Nat.{le-refl}
 use mathlib.Core.Path.{_≡_, refl, sym, _∙_, ap, ap₂, subst}
 use mathlib.Core.Logic.{_⊎_, inl, inr, ⊎-elim}
 use mathlib.Core.List.{List, List·Memᴰ}
@@ -9,20 +9,18 @@ use mathlib.Core.Bool.{Bool, true, false, cond, not, _&&_, _||_, and-eq-true-iff
 use lib.Dec.{ltb, eqb}
 use lib.ListN.{length, getD}
 use borrow.Author.Tests.{ltb-true, ltb-false, eqb-true, eqb-false}
-use Rattle.rules.specs.declared.Layout.{Layout}
 use Rattle.rules.specs.declared.Action.{Action}
-use Rattle.rules.specs.Store.{layoutInBounds}
 use Rattle.rules.specs.Plans.{Fits}
 use Rattle.rules.specs.Policies.{inFrontHalf, inBackHalf}
 use Rattle.rules.specs.BestPlan.{actionsOf}
 use Rattle.rules.proofs.Enumeration.{actions-sound, actions-complete}
 use Rattle.optimum.specs.Least.{sumUpTo}
-use Rattle.optimum.specs.Routing.{noTour, sat, leastOf}
+use Rattle.optimum.specs.Routing.{sat, leastOf}
 use Rattle.table.specs.declared.layers.Aisle.{Aisle}
 use Rattle.table.specs.declared.layers.Turns.{Turns}
 use Rattle.machine.specs.Steps.{bit}
 use Rattle.table.specs.Candidates.{candidateOf, actionOfParts, candidateLength, candidateHalves}
-use Rattle.table.specs.Rows.{tab, nextAt}
+use Rattle.rows.specs.Rows.{tab, nextAt}
 use Rattle.table.specs.Turns.{frontAt, backAt, frontCost, backCost, frontTurn, backTurn, TurnsOf, turnWay, SweepReady, SweptTo}
 use Rattle.table.specs.Layers.{stepWith, leftCode, throughCandidate, throughAction, wayWith, AisleReady, passHalves, passKind, passesOf, OfPass, PassDone, RowFilled}
 use Rattle.table.proofs.Geometry.{within}
@@ -35,8 +33,8 @@ use Rattle.table.proofs.ActionRows.{candidate-parts, way-is, way-dead, 
 pub sweep-ready : (x : Aisle) (row perm fronts backs : List ℕ) (top : ℕ) → AisleReady x fronts backs → 2048 ≤ length row → 2048 ≤ length perm
     → top ≡ x .layout .cells + 1 → SweepReady row perm fronts backs top (x .weight)
 sweep-ready x row perm fronts backs top ready row-long perm-long top-is =
-    let w = within (x .layout) (ready .bounds) in
-    let light = ready .small in
+    let w = within (x .layout) (ready .aisle .bounds) in
+    let light = ready .aisle .small in
     record {
       small = light;
       top-fits = omega (arith, w .cells .1);

@@ -2,13 +2,13 @@
 use Prim.Native.Nat.{ℕ, _+_, _*_, _-_, _≤_, _<_, min}
 use native.Mathlib.Omega.{arith}
 use native.Mathlib.Nat.{eq-or-lt-of-le, le-refl}
-use mathlib.Core.Path.{_≡_, refl, sym, _∙_, ap, subst}
+use mathlib.Core.Path.{_≡_, refl, _∙_, ap, subst}
 use mathlib.Core.Logic.{_⊎_, inl, inr, ⊎-elim}
 use mathlib.Core.List.{List}
-use lib.ListN.{length, getD}
+use lib.ListN.{getD}
 use Rattle.optimum.specs.Least.{sumUpTo}
 use Rattle.optimum.specs.Routing.{sat}
-use Rattle.table.specs.Rows.{tab, RelaxedRow}
+use Rattle.rows.specs.Rows.{tab, RelaxedRow}
 use Rattle.table.specs.Turns.{turnWay, backWay, BacksDone, SweptTo}
 
 -- a least of two is one of them

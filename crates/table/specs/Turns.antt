@@ -11,7 +11,7 @@ use Rattle.rules.specs.Store.{position, aisleLength}
 use Rattle.rules.specs.Policies.{inFrontHalf, inBackHalf}
 use Rattle.optimum.specs.Routing.{noTour, sat}
 use Rattle.table.specs.declared.layers.Turns.{Turns}
-use Rattle.table.specs.Rows.{tab}
+use Rattle.rows.specs.Rows.{tab}
 
 -- the heights that the front part of a kind of action reaches: VOID and TOP have none, ONCE and TWICE pass all cells
 abbrev pub frontAt : ℕ → ℕ → ℕ → Bool

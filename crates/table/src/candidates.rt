@@ -5,7 +5,6 @@ ghost use Rattle.machine.specs.Steps.{bit};
 ghost use Rattle.table.specs.Candidates.{candidateHalves, candidateLength};
 ghost use Rattle.rules.specs.Policies.{inBackHalf, inFrontHalf};
 ghost use Rattle.rules.specs.Store.{aisleLength, layoutInBounds, position};
-ghost use lib.ListN.{length};
 ghost use mathlib.Core.Bool.{true};
 ghost use mathlib.Core.Path.{_≡_};
 

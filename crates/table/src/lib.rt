@@ -7,5 +7,3 @@ pub mod candidates;
 pub mod filling;
 pub mod layers;
 pub mod passages;
-pub mod rows;
-pub mod stored;

@@ -1,7 +1,6 @@
 -- `table::candidates::back_half` meets its contract.
 use borrow.Author.Needs.{needs}
-use Prim.Native.Nat.{_+_, _*_, _≤_, _<_}
-use mathlib.Core.Path.{_≡_, _∙_}
+use Prim.Native.Nat.{_*_}
 use Rattle.rules.specs.Policies.{inBackHalf}
 use lib.Dec.{leb}
 use mathlib.Core.Path.{ap₂}

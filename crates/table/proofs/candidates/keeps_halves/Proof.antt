@@ -1,17 +1,23 @@
--- `table::candidates::keeps_halves` meets its contract.
+-- `table::candidates::keeps_halves` meets its contract: a case for each kind.
 use borrow.Author.Needs.{needs}
 use native.Mathlib.Omega.{arith}
-use Prim.Native.Nat.{_+_, _*_, _≤_, _<_}
+use Prim.Native.Nat.{ℕ, _≤_}
 use mathlib.Core.Path.{_≡_, sym, _∙_, ap, ap₂}
-use Rattle.table.proofs.Geometry.{parts-whole}
-use Rattle.table.specs.Candidates.{halvesOfParts, candidateHalves}
 use mathlib.Core.Bool.{_&&_}
+use Rattle.rules.specs.declared.Layout.{Layout}
+use Rattle.table.specs.declared.candidates.Candidate.{Candidate}
+use Rattle.table.specs.Candidates.{halvesOfParts, candidateHalves}
+use Rattle.table.proofs.Geometry.{parts-whole}
 use Rattle.table.proofs.candidates.keeps_halves.Statement.{statement}
 use Rattle.table.proofs.candidates.keeps_halves.Tie as tie
 
-returns : tie.Need-returns
+-- the half rule for a candidate whose kind is known
+of-kind : (z : Layout) (c : Candidate) (k : ℕ) → c .kind ≡ k → halvesOfParts z k (c .front) (c .back) ≡ candidateHalves z c
 unfolding candidateHalves
-returns c = (sym (ap (λ k. halvesOfParts ((c .before) .args .z) k ((c .before) .args .c .front) ((c .before) .args .c .back)) (c .if1 .taken)), omega arith)
+of-kind z c k e = sym (ap (λ n. halvesOfParts z n (c .front) (c .back)) e)
+
+returns : tie.Need-returns
+returns c = let p = c .before .args in (of-kind (p .z) (p .c) 0 (c .if1 .taken), omega arith)
 
 front-half-requires : tie.Need-front-half-requires
 front-half-requires c κs = search needs
@@ -20,8 +26,11 @@ flag-requires : tie.Need-flag-requires
 flag-requires c κs = search needs
 
 returns-2 : tie.Need-returns-2
-unfolding candidateHalves
-returns-2 c = let f = c .flag .ensures in (f .0 ∙ c .before .front-half .ensures ∙ sym (ap (λ k. halvesOfParts ((c .before .before .before .before) .args .z) k ((c .before .before .before .before) .args .c .front) ((c .before .before .before .before) .args .c .back)) (c .before .before .if2 .taken)), f .1)
+returns-2 c =
+    let at-half = c .before in
+    let at-if = at-half .before in
+    let p = at-if .before .before .args in
+    (c .flag .ensures .0 ∙ at-half .front-half .ensures ∙ of-kind (p .z) (p .c) 1 (at-if .if2 .taken), c .flag .ensures .1)
 
 back-half-requires : tie.Need-back-half-requires
 back-half-requires c κs = search needs
@@ -30,8 +39,11 @@ flag-requires-2 : tie.Need-flag-requires-2
 flag-requires-2 c κs = search needs
 
 returns-3 : tie.Need-returns-3
-unfolding candidateHalves
-returns-3 c = let f = c .flag2 .ensures in (f .0 ∙ c .before .back-half .ensures ∙ sym (ap (λ k. halvesOfParts ((c .before .before .before .before .before) .args .z) k ((c .before .before .before .before .before) .args .c .front) ((c .before .before .before .before .before) .args .c .back)) (c .before .before .if3 .taken)), f .1)
+returns-3 c =
+    let at-half = c .before in
+    let at-if = at-half .before in
+    let p = at-if .before .before .before .args in
+    (c .flag2 .ensures .0 ∙ at-half .back-half .ensures ∙ of-kind (p .z) (p .c) 2 (at-if .if3 .taken), c .flag2 .ensures .1)
 
 front-half-requires-2 : tie.Need-front-half-requires-2
 front-half-requires-2 c κs = search needs
@@ -43,12 +55,23 @@ flag-requires-3 : tie.Need-flag-requires-3
 flag-requires-3 c κs = search needs
 
 returns-4 : tie.Need-returns-4
-unfolding candidateHalves
-returns-4 c = let f = c .flag3 .ensures in (f .0 ∙ ap₂ _&&_ (c .before .before .front-half2 .ensures) (c .before .back-half2 .ensures) ∙ sym (ap (λ k. halvesOfParts ((c .before .before .before .before .before .before .before) .args .z) k ((c .before .before .before .before .before .before .before) .args .c .front) ((c .before .before .before .before .before .before .before) .args .c .back)) (c .before .before .before .if4 .taken)), f .1)
+returns-4 c =
+    let at-back = c .before in
+    let at-front = at-back .before in
+    let at-if = at-front .before in
+    let p = at-if .before .before .before .before .args in
+    let both = ap₂ _&&_ (at-front .front-half2 .ensures) (at-back .back-half2 .ensures) in
+    (c .flag3 .ensures .0 ∙ both ∙ of-kind (p .z) (p .c) 3 (at-if .if4 .taken), c .flag3 .ensures .1)
 
 returns-5 : tie.Need-returns-5
 unfolding candidateHalves
-returns-5 c = (sym (parts-whole ((c .before .before .before .before) .args .z) ((c .before .before .before .before) .args .c .kind) ((c .before .before .before .before) .args .c .front) ((c .before .before .before .before) .args .c .back) (omega (arith, c .if4 .left, c .before .if3 .left, c .before .before .if2 .left, c .before .before .before .if1 .left))), omega arith)
+returns-5 c =
+    let at-if3 = c .before in
+    let at-if2 = at-if3 .before in
+    let at-if1 = at-if2 .before in
+    let p = at-if1 .before .args in
+    let whole : 4 ≤ p .c .kind = omega (arith, c .if4 .left, at-if3 .if3 .left, at-if2 .if2 .left, at-if1 .if1 .left) in
+    (sym (parts-whole (p .z) (p .c .kind) (p .c .front) (p .c .back) whole), omega arith)
 
 pub keeps-halves-spec : {M : Type 1} → statement M
 keeps-halves-spec =

@@ -1,6 +1,6 @@
 -- `table::layers::back_at` meets its contract, kind by kind.
 use native.Mathlib.Omega.{arith}
-use mathlib.Core.Path.{_≡_, sym, ap}
+use mathlib.Core.Path.{sym, ap}
 use Rattle.table.specs.Turns.{backAt}
 use Rattle.table.proofs.TurnLaws.{back-past}
 use Rattle.table.proofs.layers.back_at.Statement.{statement}

@@ -1,6 +1,6 @@
 -- `table::layers::front_at` meets its contract, kind by kind.
 use native.Mathlib.Omega.{arith}
-use mathlib.Core.Path.{_≡_, sym, ap}
+use mathlib.Core.Path.{sym, ap}
 use Rattle.table.specs.Turns.{frontAt}
 use Rattle.table.proofs.TurnLaws.{front-past}
 use Rattle.table.proofs.layers.front_at.Statement.{statement}

@@ -1,6 +1,6 @@
 -- `table::layers::front_cost` meets its contract, kind by kind.
 use native.Mathlib.Omega.{arith}
-use mathlib.Core.Path.{_≡_, sym, _∙_, ap}
+use mathlib.Core.Path.{sym, _∙_, ap}
 use Prim.Native.Nat.{_*_}
 use borrow.Author.Needs.{needs}
 use Rattle.table.specs.Turns.{frontCost}

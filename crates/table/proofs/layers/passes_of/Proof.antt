@@ -1,5 +1,5 @@
 -- `table::layers::passes_of` meets its contract by its test.
-use mathlib.Core.Path.{_≡_, sym, ap}
+use mathlib.Core.Path.{sym, ap}
 use mathlib.Core.Bool.{cond}
 use borrow.Author.Tests.{eq-eqb, ne-eqb}
 use Rattle.table.proofs.layers.passes_of.Statement.{statement}

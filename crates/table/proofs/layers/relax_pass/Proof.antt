@@ -1,10 +1,8 @@
 -- `table::layers::relax_pass` meets its contract: the sweep over the turns of its kind, or nothing for a kind that leads nowhere.
 use native.Mathlib.Omega.{arith}
-use Prim.Native.Nat.{_*_, _<_, _≤_}
-use mathlib.Core.Path.{_≡_, subst}
-use mathlib.Core.Bool.{false}
+use mathlib.Core.Path.{subst}
 use borrow.Author.Needs.{needs}
-use Rattle.table.specs.Rows.{LivesAs}
+use Rattle.rows.specs.Rows.{LivesAs}
 use Rattle.table.specs.Layers.{passKind, passHalves}
 use Rattle.table.proofs.PassLaws.{sweep-ready, pass-kind, pass-mode, pass-skipped, pass-swept}
 use Rattle.table.proofs.layers.relax_pass.Statement.{statement}

@@ -2,7 +2,7 @@
 use native.Mathlib.Omega.{arith}
 use Prim.Native.Nat.{_*_}
 use borrow.Author.Needs.{needs}
-use Rattle.table.proofs.Relaxing.{row-same}
+use Rattle.rows.proofs.Relaxing.{row-same}
 use Rattle.table.proofs.layers.relax_turn.Statement.{statement}
 use Rattle.table.proofs.layers.relax_turn.Tie as tie
 

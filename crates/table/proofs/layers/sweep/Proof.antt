@@ -1,9 +1,9 @@
 -- `table::layers::sweep` meets its contract: `acc` holds the best back turns past height h, the row all pairs whose front turn is at h or past it.
 use native.Mathlib.Omega.{arith}
 use native.Mathlib.Nat.{le-refl}
-use Prim.Native.Nat.{ℕ, _+_, _*_, _-_, _≤_, _<_}
+use Prim.Native.Nat.{_+_, _-_, _≤_}
 use mathlib.Core.Path.{_≡_, refl, sym, _∙_, subst}
-use lib.ListN.{length, getD, replicate, getD-replicate}
+use lib.ListN.{length, replicate, getD-replicate}
 use Rattle.table.specs.Turns.{BacksDone, SweptTo}
 use Rattle.table.proofs.Sweeping.{backs-none, backs-one, swept-none, swept-one}
 use Rattle.table.proofs.layers.sweep.Statement.{statement}

@@ -1,6 +1,6 @@
 -- `table::passages::plain_map` meets its contract: the numbers below q stand in their places.
 use native.Mathlib.Omega.{arith}
-use Prim.Native.Nat.{ℕ, _+_, _*_, _-_, _≤_, _<_}
+use Prim.Native.Nat.{ℕ, _-_, _≤_, _<_}
 use mathlib.Core.Path.{_≡_, refl, _∙_}
 use lib.ListN.{length, getD, length-set}
 use Rattle.demand.proofs.Filling.{filled-one}

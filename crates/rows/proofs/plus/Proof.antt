@@ -1,0 +1,23 @@
+-- `rows::plus` meets its contract by the meaning of `sat`.
+use native.Mathlib.Omega.{arith}
+use borrow.Author.Needs.{needs}
+use Rattle.optimum.specs.Least.{sumUpTo}
+use Rattle.rows.proofs.plus.Statement.{statement}
+use Rattle.rows.proofs.plus.Tie as tie
+
+sub-if1 : tie.Need-sub-if1
+sub-if1 c = search needs
+
+add-result : tie.Need-add-result
+add-result c = search needs
+
+returns : tie.Need-returns
+unfolding sumUpTo
+returns c = omega arith
+
+returns-2 : tie.Need-returns-2
+unfolding sumUpTo
+returns-2 c = omega arith
+
+pub plus-spec : {M : Type 1} → statement M
+plus-spec = tie.close (tie.spec sub-if1 add-result returns returns-2)
