@@ -1,4 +1,5 @@
 pub mod FirstRanks
+pub mod ChoiceLaws
 pub mod TraceLaws
 pub mod TraceEnds
 pub mod RankLaws

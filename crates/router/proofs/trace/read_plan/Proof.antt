@@ -21,7 +21,7 @@ use Rattle.router.proofs.trace.read_plan.Statement.{statement}
 use Rattle.router.proofs.trace.read_plan.Tie as tie
 
 abbrev Inv-loop : tie.InvT-loop
-Inv-loop work job shelf d next₀ aisles t₀ n₀ next t n = (length next ≡ 2048) × Traced (jobOf job) (t .stages) n (t .state) (t .demand)
+Inv-loop work job shelf d next₀ aisles t₀ n₀ next t n = (length next ≡ 2048) × Traced (jobOf job) n t
 
 abbrev μ-loop : tie.MeasureT-loop
 μ-loop work job shelf d next₀ aisles t₀ n₀ next t n = aisles - n
@@ -30,7 +30,7 @@ abbrev μ-loop : tie.MeasureT-loop
 in-row : (c : tie.In-loop Inv-loop μ-loop) →
     let job = c .before .before .before .before .args .job in
     let at = c .before .loop in
-    (at .n < job .layout .aisles) × (at .n < 16) × (at .t .state < 8) × (at .t .demand < 256)
+    (at .n < job .layout .aisles) × (at .n < 16) × (at .t .at .state < 8) × (at .t .at .demand < 256)
 unfolding jobOf
 in-row c =
     let start = c .before .before .before .before in
@@ -88,7 +88,7 @@ slice-aggregate-trace-aisle c = omega (arith, c .before .before .before .before 
 here-known : (c : tie.After-wide Inv-loop μ-loop) →
     let job = jobOf (c .before .before .before .before .before .before .before .before .before .args .job) in
     let at = c .before .before .before .before .before .before .loop in
-    c .wide .result ≡ value (routing job (allActions job)) (job .layout .aisles - at .n) (suc (at .n)) (stateOf (at .t .state)) (demandOf (radices job) (at .t .demand))
+    c .wide .result ≡ value (routing job (allActions job)) (job .layout .aisles - at .n) (suc (at .n)) (stateOf (at .t .at .state)) (demandOf (radices job) (at .t .at .demand))
 unfolding jobOf
 here-known c =
     let start = c .before .before .before .before .before .before .before .before .before in
@@ -98,9 +98,9 @@ here-known c =
     let row : at .n ≡ suc (at .n) - 1 = omega arith in
     let left : suc (job .layout .aisles) - suc (at .n) ≡ job .layout .aisles - at .n = omega arith in
     c .wide .ensures .0
-    ∙ ap (λ k. getD (start .args .work .now) (k * 2048 + (at .t .demand * 8 + at .t .state)) 0) row
-    ∙ start .pre .4 (suc (at .n)) (at .t .state) (at .t .demand) (omega arith) (omega arith) (at .inv .1 .state-below) (at .inv .1 .demand-below)
-    ∙ ap (λ k. value (routing job (allActions job)) k (suc (at .n)) (stateOf (at .t .state)) (demandOf (radices job) (at .t .demand))) left
+    ∙ ap (λ k. getD (start .args .work .now) (k * 2048 + (at .t .at .demand * 8 + at .t .at .state)) 0) row
+    ∙ start .pre .4 (suc (at .n)) (at .t .at .state) (at .t .at .demand) (omega arith) (omega arith) (at .inv .1 .state-below) (at .inv .1 .demand-below)
+    ∙ ap (λ k. value (routing job (allActions job)) k (suc (at .n)) (stateOf (at .t .at .state)) (demandOf (radices job) (at .t .at .demand))) left
 
 trace-aisle-requires : tie.Need-trace-aisle-requires Inv-loop μ-loop
 unfolding jobOf
@@ -112,8 +112,11 @@ trace-aisle-requires c κs =
     let r = in-row (c .before .before .before .before .before .before) in
     let asked : MapsAsked (start .args .job) (start .args .shelf) (start .args .d) (suc (at .n)) =
     record { sound = start .pre .0; shelf-of = start .pre .1; digits-of = start .pre .2; aisle = (omega arith, omega arith) } in
-    let row = subst (λ k. RowHolds job (job .layout .aisles - k) (suc k) (next .last .0)) (add-one (at .n)) (next .ensures .0) in
-    (asked, omega (arith, at .inv .0, next .ensures .1), at .inv .1, row, here-known (c .before))
+    let row = subst (λ k. RowHolds job (job .layout .aisles - k) (suc k) (next .last .0)) (add-one (at .n)) (next .ensures .0) in (
+      asked,
+      omega (arith, at .inv .0, next .ensures .1),
+      record { traced = at .inv .1; more = r .0; row = row; value-here = here-known (c .before) },
+    )
 
 add-n : tie.Need-add-n Inv-loop μ-loop
 add-n c = let r = in-row (c .before .before .before .before .before .before .before) in omega arith
@@ -127,7 +130,7 @@ loop-again c =
     let job = jobOf (c .before .before .before .before .before .before .before .before .before .before .before .args .job) in
     let at = c .before .before .before .before .before .before .before .before .loop in
     let t = c .trace-aisle in
-    let traced = subst (λ k. Traced job (t .result .stages) k (t .result .state) (t .result .demand)) (sym (add-one (at .n))) (t .ensures) in
+    let traced = subst (λ k. Traced job k (t .result)) (sym (add-one (at .n))) (t .ensures) in
     (c .before .before .before .before .before .next-row .ensures .1 ∙ at .inv .0, traced)
 
 -- behind the loop all aisles are found
@@ -138,8 +141,8 @@ returns c =
     let job = jobOf (start .args .job) in
     let at = c .before .before .loop in
     let all : at .n ≡ job .layout .aisles = omega (arith, at .inv .1 .seen) in
-    let traced = subst (λ k. Traced job (at .t .stages) k (at .t .state) (at .t .demand)) all (at .inv .1) in
-    (refl, trace-end job (start .pre .0 .admitted) (at .t .stages) (at .t .state) (at .t .demand) traced)
+    let traced = subst (λ k. Traced job k (at .t)) all (at .inv .1) in
+    (refl, trace-end job (start .pre .0 .admitted) (at .t) traced)
 
 pub read-plan-spec : {M : Type 1} → statement M
 read-plan-spec =
