@@ -2,36 +2,44 @@
 use Prim.Native.Nat.{ℕ, suc, _+_, _*_, _-_, _≤_, _<_}
 use native.Mathlib.Omega.{arith}
 use native.Mathlib.Numerals.{add-one}
-use native.Mathlib.Decide.{ℕ-discrete}
-use native.Mathlib.Nat.{eq-or-lt-of-le}
-use mathlib.Core.Path.{_≡_, refl, sym, _∙_, ap, fun-ext}
+use native.Mathlib.Decide.{ℕ-discrete, decLt}
+use mathlib.Core.Path.{_≡_, refl, sym, _∙_, ap, subst}
 use mathlib.Core.Logic.{_⊎_, inl, inr, ⊎-elim}
-use mathlib.Core.List.{List, [], _∷_, map}
-use mathlib.Core.Bool.{Bool, true, false, cond, and-false}
+use mathlib.Core.List.{List, [], _∷_, map, List·Memᴰ}
+use mathlib.Core.Bool.{Bool, true, false, cond, _&&_, and-false}
+use mathlib.Core.Option.{Option, none, some}
 use lib.Dec.{eqb, leb}
 use lib.ListN.{length, getD, set, replicate, length-set}
 use lib.Seq.{getD-set-same, getD-set-other}
 use borrow.Author.Tests.{le-leb, lt-leb, eq-eqb, ne-eqb}
+use Rattle.rules.specs.declared.Action.{Action}
 use Rattle.rules.specs.declared.Action.the-variants.{Bottom, Top}
 use Rattle.rules.specs.declared.OrderLine.{OrderLine}
 use Rattle.rules.specs.declared.StockRecord.{StockRecord}
 use Rattle.rules.specs.Lists.{sumOf}
-use Rattle.rules.proofs.Lists.{sum-agree}
 use Rattle.rules.specs.Jobs.{Job}
-use Rattle.rules.specs.Refusals.{stockInBounds, weight}
+use Rattle.rules.specs.Picks.{recordAt}
+use Rattle.rules.specs.Refusals.{stockInBounds, weight, Admitted}
+use Rattle.rules.proofs.Lists.{sum-agree}
 use Rattle.rules.proofs.Admission.{layout-within, list-within, stock-within}
 use Rattle.optimum.specs.Demand.{supplyIn, gains, radices, lessCode}
-use Rattle.optimum.proofs.Radix.{count, less-code-below, radices-positive, gains-length, count-weight}
-use Rattle.values.specs.declared.JobValue.{JobValue}
-use Rattle.values.specs.Values.{jobOf}
+use Rattle.optimum.proofs.Radix.{less-code-below, radices-positive, gains-length, count-weight}
+use Rattle.values.specs.declared.Shelf.{Shelf}
+use Rattle.values.specs.Shelves.{lineOf, quantityOf, cellNumber}
 use Rattle.demand.specs.declared.digits.Digits.{Digits}
-use Rattle.demand.specs.declared.shelf.Shelf.{Shelf}
-use Rattle.demand.specs.Shelves.{lessLine, cellSupply, cellGains, cellNumber, RowSet, MapsAsked, FrontsTo, BacksFrom}
-use Rattle.demand.specs.Maps.{MapsReady}
+use Rattle.demand.specs.Digits.{lessLine}
+use Rattle.demand.specs.Maps.{entry, RowSet, MapsAsked, RowOf, reach, heightAt, RowsTo, MapsReady}
 use Rattle.demand.proofs.Filling.{below}
 use Rattle.demand.proofs.Composition.{plus, Parted, gainsWhere, gains-parted, less-code-plus}
-use Rattle.demand.proofs.DigitLaws.{less-code-none, less-line-code, radices-length}
-use Rattle.demand.proofs.Shelving.{less-or-more, map-zero}
+use Rattle.demand.proofs.DigitLaws.{radices-length, less-code-none, lessAt, none-gained, less-article, less-line-code}
+use Rattle.demand.proofs.Shelving.{lines-below, supplied, cell-gains}
+
+less-or-more : (i k : ℕ) → (i ≡ k → ⊥) → (i < k) ⊎ (k < i)
+less-or-more i k ne = go (decLt i k)
+  where
+    go : Dec (i < k) → (i < k) ⊎ (k < i)
+    go (yes l) = inl l
+    go (no n) = inr (omega arith)
 
 -- at first a row is as it was
 pub set-none : (map : List ℕ) (to : ℕ) (f : ℕ → ℕ) → RowSet map map to 0 f
@@ -82,149 +90,137 @@ back-parted i c n = go (ℕ-discrete c i)
         (λ l. rw (le-leb i c (omega arith), le-leb (suc i) c l, ne-eqb c i ne) (omega arith))
         (less-or-more c i ne)
 
-module _ (job : Job) (ok : stockInBounds job ≡ true) (j : ℕ) where
-  pub front-gains : (h : ℕ) → gains job j (Bottom (suc h)) ≡ plus (gains job j (Bottom h)) (cellGains job j (suc h))
-  unfolding gains supplyIn cellGains cellSupply
-  front-gains h = gains-parted job ok j (λ c. leb c (suc h)) (λ c. leb c h) (λ c. eqb c (suc h)) (λ c low high. front-parted h c)
-
-  pub back-gains : (i : ℕ) → gains job j (Top i) ≡ plus (gains job j (Top (suc i))) (cellGains job j i)
-  unfolding gains supplyIn cellGains cellSupply
-  back-gains i = gains-parted job ok j (λ c. leb i c) (λ c. leb (suc i) c) (λ c. eqb c i) (λ c low high. back-parted i c)
-
 -- a part that reaches no cell supplies nothing
 no-gains : (job : Job) (p : ℕ → Bool) (j : ℕ) → stockInBounds job ≡ true → ((c : ℕ) → 1 ≤ c → c ≤ job .layout .cells → p c ≡ false) → gainsWhere job j p ≡ replicate (length (job .lines)) 0
-no-gains job p j ok none =
-    ap (λ (g : OrderLine → ℕ). map g (job .lines))
-    (fun-ext (λ l. sum-agree _ (λ r. 0) (job .stock)
-    (λ s m. (let w = stock-within job .0 ok .records s m .cell in rw (none (s .cell) w.0 w.1, and-false (eqb (s .aisle) j), and-false (eqb (s .article) (l .article))) refl)) ∙ sum-zero (job .stock)))
-    ∙ sym (map-zero (job .lines))
+no-gains job p j ok out = none-gained _ (job .lines) (λ l k. sum-agree _ (λ r. 0) (job .stock) (λ s m. nothing l s m) ∙ sum-zero (job .stock))
   where
     sum-zero : (xs : List StockRecord) → sumOf (λ (r : StockRecord). 0) xs ≡ 0
     sum-zero [] = refl
     sum-zero (x ∷ xs) = omega (arith, sum-zero xs)
 
-module _ (job : Job) (ok : stockInBounds job ≡ true) (j q : ℕ) (h : q < weight (job .lines)) where
-  unchanged : lessCode (radices job) (replicate (length (job .lines)) 0) q ≡ q
-  unchanged =
-      rw (← radices-length job) (less-code-none (radices-positive job) q (omega (arith, count-weight job)))
+    nothing : (l : OrderLine) (s : StockRecord) → List·Memᴰ s (job .stock) → cond (eqb (s .article) (l .article) && (eqb (s .aisle) j && p (s .cell))) (s .quantity) 0 ≡ 0
+    nothing l s m =
+        let w = stock-within job .0 ok .records s m .cell in
+        rw (out (s .cell) (w .0) (w .1), and-false (eqb (s .aisle) j), and-false (eqb (s .article) (l .article))) refl
 
-  -- BOTTOM 0 and TOP behind the last cell leave a demand as it is
-  front-unchanged : lessCode (radices job) (gains job j (Bottom 0)) q ≡ q
+-- what the record of a cell leaves of a demand
+less-cell : (job : Job) → Admitted job → (o : Option StockRecord) (q : ℕ) → q < weight (job .lines)
+    → lessCode (radices job) (map (λ (l : OrderLine). supplied o (l .article)) (job .lines)) q ≡ lessAt (radices job) (lineOf (job .lines) o) (quantityOf o) q
+unfolding radices
+less-cell job ok none q h =
+    rw (none-gained (λ l. 0) (job .lines) (λ l m. refl), ← radices-length job) (less-code-none (radices-positive job) q (omega (arith, count-weight job)))
+less-cell job ok (some r) q h =
+    less-article (r .article) (r .quantity) (job .lines) (ok .articles-once) q (omega (arith, count-weight job))
+
+-- heights: within the aisle, at a cell, all different
+pub height-below : (back : Bool) (cells n : ℕ) → n ≤ suc cells → heightAt back cells n ≤ suc cells
+height-below false cells n h = h
+height-below true cells n h = omega arith
+
+pub height-in : (back : Bool) (cells n : ℕ) → n < cells → (1 ≤ heightAt back cells (n + 1)) × (heightAt back cells (n + 1) ≤ cells)
+height-in false cells n h = (omega arith, omega arith)
+height-in true cells n h = (omega arith, omega arith)
+
+pub heights-differ : (back : Bool) (cells k n : ℕ) → k < n → n ≤ suc cells → heightAt back cells k ≡ heightAt back cells n → ⊥
+heights-differ false cells k n b h e = omega arith
+heights-differ true cells k n b h e = omega arith
+
+-- at the next height one more cell is reached
+module _ (job : Job) (ok : stockInBounds job ≡ true) (j : ℕ) where
+  front-gains : (h : ℕ) → gains job j (Bottom (suc h)) ≡ plus (gains job j (Bottom h)) (gainsWhere job j (λ c. eqb c (suc h)))
   unfolding gains supplyIn
-  front-unchanged =
-      ap (λ gs. lessCode (radices job) gs q) (no-gains job (λ c. leb c 0) j ok (λ c low high. lt-leb c 0 low)) ∙ unchanged
+  front-gains h = gains-parted job ok j (λ c. leb c (suc h)) (λ c. leb c h) (λ c. eqb c (suc h)) (λ c low high. front-parted h c)
 
-  back-unchanged : lessCode (radices job) (gains job j (Top (suc (job .layout .cells)))) q ≡ q
+  back-gains : (i : ℕ) → gains job j (Top i) ≡ plus (gains job j (Top (suc i))) (gainsWhere job j (λ c. eqb c i))
   unfolding gains supplyIn
-  back-unchanged =
-      ap (λ gs. lessCode (radices job) gs q) (no-gains job (λ c. leb (suc (job .layout .cells)) c) j ok (λ c low high. lt-leb (suc (job .layout .cells)) c (omega arith))) ∙ unchanged
+  back-gains i = gains-parted job ok j (λ c. leb i c) (λ c. leb (suc i) c) (λ c. eqb c i) (λ c low high. back-parted i c)
 
-module _ (v : JobValue) (shelf : Shelf) (d : Digits) (j : ℕ) (asked : MapsAsked v shelf d j) where
-  ok : stockInBounds (jobOf v) ≡ true
-  ok = asked .sound .admitted .stock
+  next-gains : (back : Bool) (cells n : ℕ) → n < cells
+      → let c = heightAt back cells (n + 1) in gains job j (reach back c) ≡ plus (gains job j (reach back (heightAt back cells n))) (gainsWhere job j (λ k. eqb k c))
+  next-gains false cells n h = rw (add-one n) (front-gains n)
+  next-gains true cells n h = let e : suc cells - n ≡ suc (suc cells - (n + 1)) = omega arith in rw e (back-gains (suc cells - (n + 1)))
 
-  counted : d .weight ≡ weight (jobOf v .lines)
+  -- at the first height none is reached
+  first-gains : (back : Bool) → gains job j (reach back (heightAt back (job .layout .cells) 0)) ≡ replicate (length (job .lines)) 0
+  unfolding gains supplyIn
+  first-gains false = no-gains job (λ c. leb c 0) j ok (λ c low high. lt-leb c 0 low)
+  first-gains true = no-gains job (λ c. leb (suc (job .layout .cells) - 0) c) j ok (λ c low high. lt-leb (suc (job .layout .cells) - 0) c (omega arith))
+
+module _ (job : Job) (shelf : Shelf) (d : Digits) (cells j : ℕ) (asked : MapsAsked job shelf d cells j) where
+  ok : stockInBounds job ≡ true
+  ok = asked .admitted .stock
+
+  counted : d .weight ≡ weight (job .lines)
   counted = asked .digits-of .counted
 
   -- the numbers that the code computes with
-  pub aisle-small : (1 ≤ v .layout .cells) × (v .layout .cells ≤ 24) × (1 ≤ j) × (j ≤ 16)
-  unfolding jobOf
-  aisle-small = let z = layout-within (v .layout) .0 (asked .sound .admitted .layout) in (z .cells .0, z .cells .1, asked .aisle .0, omega (arith, asked .aisle .1))
+  pub aisle-small : (1 ≤ cells) × (cells ≤ 24) × (1 ≤ j) × (j ≤ 16)
+  aisle-small =
+      let z = layout-within (job .layout) .0 (asked .admitted .layout) in
+      (omega (arith, asked .cells-are), omega (arith, asked .cells-are), asked .aisle .0, omega (arith, asked .aisle .1))
 
-  pub line-small : (k : ℕ) → getD (shelf .line) k 0 ≤ 8
-  line-small k =
-      omega (arith, asked .shelf-of .lines-below k, list-within (jobOf v) .0 (asked .sound .admitted .list) .count .1)
-
-  -- a demand after what is before a cell, and then after the cell
-  cell-step : (gs : List ℕ) (c q x : ℕ) → 1 ≤ c → c ≤ v .layout .cells → length gs ≡ length (radices (jobOf v))
-      → x ≡ lessCode (radices (jobOf v)) gs q
-      → lessLine d (getD (shelf .line) (cellNumber j c) 0) (getD (shelf .quantity) (cellNumber j c) 0) x ≡ lessCode (radices (jobOf v)) (plus gs (cellGains (jobOf v) j c)) q
-  cell-step gs c q x low high e p =
-      let rs = radices (jobOf v) in
-      let positive = radices-positive (jobOf v) in
-      let at = cellNumber j c in
+  pub line-small : (c : ℕ) → 1 ≤ c → c ≤ cells → getD (shelf .line) (cellNumber j c) 0 ≤ 8
+  line-small c low high =
       let z = aisle-small in
-      less-line-code (jobOf v) d (asked .digits-of) (getD (shelf .line) at 0) (getD (shelf .quantity) at 0) x (asked .shelf-of .lines-below at)
-      (rw p (omega (arith, counted, count-weight (jobOf v), less-code-below gs positive e q)))
-      ∙ ap (λ hs. lessCode rs hs x) (asked .shelf-of .supplies j c (z .2) (z .3) low (omega arith))
-      ∙ ap (lessCode rs (cellGains (jobOf v) j c)) p
-      ∙ sym (less-code-plus gs (cellGains (jobOf v) j c) positive e q)
+      omega (arith, lines-below job shelf (asked .shelf-of) j c (z .2) (z .3) low (omega arith), list-within job .0 (asked .admitted .list) .count .1)
 
-  -- their demands are below the weight
-  pub front-below : (map : List ℕ) (h : ℕ) → FrontsTo (jobOf v) j (h + 1) map → (q : ℕ) → q < d .weight → getD map (h * 256 + q) 0 < d .weight
-  front-below map h t q l =
-      omega (
-        arith,
-        t h q (omega arith) (omega (arith, counted)),
-        counted,
-        count-weight (jobOf v),
-        less-code-below (gains (jobOf v) j (Bottom h))
-            (radices-positive (jobOf v)) (gains-length (jobOf v) j (Bottom h)) q,
-      )
+  -- the demands of a row are below the weight
+  pub row-below : (x : Action) (map : List ℕ) (row : ℕ) → RowOf job j x map row → (q : ℕ) → q < d .weight → entry map row q < d .weight
+  row-below x map row t q l =
+      omega (arith, t q (omega (arith, counted)), counted, count-weight job, less-code-below (gains job j x) (radices-positive job) (gains-length job j x) q)
 
-  pub back-below : (map : List ℕ) (n i : ℕ) → n < i → i ≤ suc (v .layout .cells) → BacksFrom (jobOf v) j n map → (q : ℕ) → q < d .weight → getD map (i * 256 + q) 0 < d .weight
-  unfolding jobOf
-  back-below map n i low high t q l =
-      omega (
-        arith,
-        t i q low high (omega (arith, counted)),
-        counted,
-        count-weight (jobOf v),
-        less-code-below (gains (jobOf v) j (Top i))
-            (radices-positive (jobOf v)) (gains-length (jobOf v) j (Top i)) q,
-      )
+  -- what one more cell leaves of a demand
+  cell-step : (x : Action) (c q v : ℕ) → 1 ≤ c → c ≤ cells → v ≡ lessCode (radices job) (gains job j x) q
+      → lessLine d (getD (shelf .line) (cellNumber j c) 0) (getD (shelf .quantity) (cellNumber j c) 0) v
+      ≡ lessCode (radices job) (plus (gains job j x) (gainsWhere job j (λ k. eqb k c))) q
+  cell-step x c q v low high e =
+      let z = aisle-small in
+      let rs = radices job in
+      let o = recordAt (job .stock) (record { aisle = j; height = c }) in
+      let small : v < weight (job .lines) = rw e (omega (arith, count-weight job, less-code-below (gains job j x) (radices-positive job) (gains-length job j x) q)) in
+      less-line-code job d (asked .digits-of) (getD (shelf .line) (cellNumber j c) 0) (getD (shelf .quantity) (cellNumber j c) 0) v (lines-below job shelf (asked .shelf-of) j c (z .2) (z .3) low (omega arith))
+      ∙ rw (asked .shelf-of .line-at j c (z .2) (z .3) low (omega arith), asked .shelf-of .quantity-at j c (z .2) (z .3) low (omega arith)) (sym (less-cell job (asked .admitted) o v small))
+      ∙ ap (λ hs. lessCode rs hs v) (sym (cell-gains job (asked .admitted) j c))
+      ∙ ap (lessCode rs (gainsWhere job j (λ k. eqb k c))) e
+      ∙ sym (less-code-plus (gains job j x) (gainsWhere job j (λ k. eqb k c)) (radices-positive job) (gains-length job j x) q)
 
-  -- the rows of BOTTOM: the first one, and one more
-  pub front-first : (map map′ : List ℕ) → RowSet map map′ 0 (d .weight) (λ q. q) → FrontsTo (jobOf v) j 1 map′
-  front-first map map′ r h q l k =
-      let first : h ≡ 0 = omega arith in
-      rw first (r .done q (omega (arith, counted)) ∙ sym (front-unchanged (jobOf v) ok j q k))
+  -- the first row of a map, and one more
+  pub first-row : (back : Bool) (map map′ : List ℕ) → RowSet map map′ (heightAt back cells 0) (d .weight) (λ q. q) → RowsTo job cells j back 1 map′
+  first-row back map map′ r k l q h =
+      let first : k ≡ 0 = omega arith in
+      rw first
+      (r .done q (omega (arith, counted))
+      ∙ sym (ap (λ n. lessCode (radices job) (gains job j (reach back (heightAt back n 0))) q) (asked .cells-are) ∙ ap (λ gs. lessCode (radices job) gs q) (first-gains job ok j back)
+      ∙ rw (← radices-length job) (less-code-none (radices-positive job) q (omega (arith, count-weight job)))))
 
-  pub front-next : (map map′ : List ℕ) (h : ℕ) → h < v .layout .cells → FrontsTo (jobOf v) j (h + 1) map
-      → RowSet map map′ (h + 1) (d .weight) (λ q. lessLine d (getD (shelf .line) ((j - 1) * 24 + h) 0) (getD (shelf .quantity) ((j - 1) * 24 + h) 0) (getD map (h * 256 + q) 0))
-      → FrontsTo (jobOf v) j (h + 1 + 1) map′
-  front-next map map′ h low t r i q l k =
-      ⊎-elim (λ b. r .rest (i * 256 + q) (inl (omega (arith, counted, asked .digits-of .small))) ∙ t i q b k) (λ e. here e) (below i (h + 1) l)
+  pub next-row : (back : Bool) (map map′ : List ℕ) (n from to : ℕ) → n < cells → from ≡ heightAt back cells n → to ≡ heightAt back cells (n + 1) → RowsTo job cells j back (n + 1) map
+      → RowSet map map′ to (d .weight) (λ q. lessLine d (getD (shelf .line) (cellNumber j to) 0) (getD (shelf .quantity) (cellNumber j to) 0) (entry map from q))
+      → RowsTo job cells j back (n + 1 + 1) map′
+  next-row back map map′ n from to low f e t r k l q h = ⊎-elim kept (λ p. subst Here (e ∙ ap (heightAt back cells) (sym p)) here) (below k (n + 1) l)
     where
-      number : cellNumber j (suc h) ≡ (j - 1) * 24 + h
-      number = omega arith
+      Here : ℕ → Type 0
+      Here c = entry map′ c q ≡ lessCode (radices job) (gains job j (reach back c)) q
 
-      here : i ≡ h + 1 → getD map′ (i * 256 + q) 0 ≡ lessCode (radices (jobOf v)) (gains (jobOf v) j (Bottom i)) q
-      here e =
-          let s : i ≡ suc h = omega arith in
-          ap (λ n. getD map′ (n * 256 + q) 0) e
-          ∙ r .done q (omega (arith, counted))
-          ∙ ap (λ n. lessLine d (getD (shelf .line) n 0) (getD (shelf .quantity) n 0) (getD map (h * 256 + q) 0)) (sym number)
-          ∙ cell-step (gains (jobOf v) j (Bottom h)) (suc h) q (getD map (h * 256 + q) 0) (omega arith) low (gains-length (jobOf v) j (Bottom h)) (t h q (omega arith) k)
-          ∙ ap (λ gs. lessCode (radices (jobOf v)) gs q) (sym (front-gains (jobOf v) ok j h) ∙ ap (λ n. gains (jobOf v) j (Bottom n)) (sym s))
+      here : Here to
+      here =
+          let there = rw (← e) at (height-in back cells n low) in
+          r .done q (omega (arith, counted))
+          ∙ cell-step (reach back (heightAt back cells n)) to q (entry map from q) (there .0) (there .1) (rw f (t n (omega arith) q h))
+          ∙ ap (λ gs. lessCode (radices job) gs q) (sym (rw (← e) at (next-gains job ok j back cells n low)))
 
-  -- the rows of TOP: the first one, and one more
-  pub back-first : (map map′ : List ℕ) → RowSet map map′ (v .layout .cells + 1) (d .weight) (λ q. q) → BacksFrom (jobOf v) j (v .layout .cells) map′
-  unfolding jobOf
-  back-first map map′ r i q l m k =
-      let first : i ≡ suc (v .layout .cells) = omega arith in
-      let next : suc (v .layout .cells) ≡ v .layout .cells + 1 = omega arith in
-      rw first (ap (λ n. getD map′ (n * 256 + q) 0) next ∙ r .done q (omega (arith, counted)) ∙ sym (back-unchanged (jobOf v) ok j q k))
-
-  pub back-next : (map map′ : List ℕ) (n i : ℕ) → 1 ≤ i → i ≤ v .layout .cells → n + 1 ≡ i → BacksFrom (jobOf v) j i map
-      → RowSet map map′ i (d .weight) (λ q. lessLine d (getD (shelf .line) (cellNumber j i) 0) (getD (shelf .quantity) (cellNumber j i) 0) (getD map ((i + 1) * 256 + q) 0))
-      → BacksFrom (jobOf v) j n map′
-  unfolding jobOf
-  back-next map map′ n i low high e t r k q l m h =
-      ⊎-elim (λ p. here (sym p)) (λ b. r .rest (k * 256 + q) (inr (omega (arith, asked .digits-of .small))) ∙ t k q b m h) (eq-or-lt-of-le (upper e l))
-    where
-      upper : n + 1 ≡ i → n < k → i ≤ k
-      upper e l = omega arith
-
-      here : k ≡ i → getD map′ (k * 256 + q) 0 ≡ lessCode (radices (jobOf v)) (gains (jobOf v) j (Top k)) q
-      here p =
-          rw p
-          (r .done q (omega (arith, counted))
-          ∙ cell-step (gains (jobOf v) j (Top (suc i))) i q (getD map ((i + 1) * 256 + q) 0) low high (gains-length (jobOf v) j (Top (suc i)))
-          (t (i + 1) q (omega arith) (omega arith) h ∙ ap (λ x. lessCode (radices (jobOf v)) (gains (jobOf v) j (Top x)) q) (add-one i))
-          ∙ ap (λ gs. lessCode (radices (jobOf v)) gs q) (sym (back-gains (jobOf v) ok j i)))
+      kept : k < n + 1 → Here (heightAt back cells k)
+      kept b =
+          other-row map map′ to (d .weight) (heightAt back cells k) q _ (asked .digits-of .small .1) (omega (arith, counted, asked .digits-of .small .1))
+          (λ p. heights-differ back cells k (n + 1) b (omega arith) (p ∙ e)) r
+          ∙ t k b q h
 
 -- the rows of both maps
-pub maps-ready : (job : Job) (j : ℕ) (fronts backs : List ℕ) → FrontsTo job j (job .layout .cells + 1) fronts → BacksFrom job j 0 backs → MapsReady job j fronts backs
-maps-ready job j fronts backs f b =
-    record { front = λ h q l k. f h q (omega arith) k; back = λ i q l m k. b i q l m k }
+pub maps-ready : (job : Job) (cells j : ℕ) (fronts backs : List ℕ) → cells ≡ job .layout .cells → RowsTo job cells j false (suc cells) fronts → RowsTo job cells j true (suc cells) backs → MapsReady job j fronts backs
+maps-ready job cells j fronts backs e f b =
+    record {
+      front = λ h q l k. f h (omega arith) q k;
+      back = λ i q l m k. subst (λ n. RowOf job j (Top n) backs n) (again i l m) (b (suc cells - i) (omega arith)) q k;
+    }
+  where
+    again : (i : ℕ) → 1 ≤ i → i ≤ suc (job .layout .cells) → suc cells - (suc cells - i) ≡ i
+    again i l m = omega arith

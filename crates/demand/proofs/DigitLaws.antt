@@ -1,24 +1,31 @@
 -- The digits of a job by its lines, and the demand number less one digit.
 use Prim.Native.Nat.{ℕ, zero, suc, _+_, _*_, _-_, _/_, _%_, _≤_, _<_, min}
 use native.Mathlib.Omega.{arith}
-use native.Mathlib.Nat.{mul-comm, mul-assoc, mul-left-comm, mul-le-mul, mul-le-mul-left, mul-le-mul-right, mul-sub, mod-le, mod-lt, mod-self, mod-eq-of-lt, suc-mod, zero-mod, zero-div, div-self, div-eq-of-lt, add-mul-div-right, mod-add-div, mod-add-div', div-one, div-mul-le-self, div-div-eq-div-mul, div-lt-iff-lt-mul}
+use native.Mathlib.Nat.{mul-comm, mul-assoc, mul-left-comm, mul-le-mul, mul-le-mul-left, mul-le-mul-right, mul-sub, mod-le, mod-lt, mod-self, mod-eq-of-lt, suc-mod, zero-mod, zero-div, div-self, div-eq-of-lt, add-mul-div-right, mod-add-div, mod-add-div', div-one, div-mul-le-self, mul-div-le, div-div-eq-div-mul, div-lt-iff-lt-mul}
 use native.Mathlib.Numerals.{add-one}
 use native.Mathlib.Decide.{ℕ-discrete}
 use mathlib.Core.Path.{_≡_, refl, sym, _∙_, ap, ap₂, subst}
-use mathlib.Core.List.{List, [], _∷_, map}
+use mathlib.Core.Bool.{Bool, true, false, cond}
+use mathlib.Core.List.{List, [], _∷_, map, List·Memᴰ, List·Memᴰ·head, List·Memᴰ·tail}
+use lib.Dec.{eqb}
 use lib.ListN.{length, getD, take, set, replicate, length-set, length-map, getD-replicate, length-take}
 use lib.Seq.{getD-set-same, getD-set-other, getD-take, take-all}
 use Rattle.rules.specs.declared.OrderLine.{OrderLine}
 use Rattle.rules.specs.Jobs.{Job}
-use Rattle.rules.specs.Refusals.{weight}
+use Rattle.rules.specs.Refusals.{weight, sameArticle}
+use Rattle.rules.specs.Lists.{anyOf, anyTwo}
+use Rattle.rules.proofs.Lists.{any-false}
+use borrow.Author.Tests.{eq-eqb, ne-eqb}
+use Rattle.values.specs.Shelves.{lineFrom}
 use Rattle.optimum.specs.Demand.{less, radices, codeOf, demandOf, lessCode}
 use Rattle.optimum.proofs.Radix.{count, Positive, no-radix, radix as one-radix, code-of-demand, radices-positive, count-weight}
 use Rattle.values.specs.declared.JobValue.{JobValue}
 use Rattle.values.specs.Values.{jobOf}
 use Rattle.demand.specs.declared.digits.Digits.{Digits}
 use Rattle.demand.specs.declared.digits.Place.{Place}
-use Rattle.demand.specs.Shelves.{noLine, Usable, DigitsOf, PlaceOf, lessDigit, lessLine, gainOf}
+use Rattle.demand.specs.Digits.{noLine, Usable, DigitsOf, PlaceOf, lessDigit, lessLine}
 use Rattle.demand.proofs.Filling.{filled-one}
+use Rattle.demand.proofs.Shelving.{or-false}
 
 -- the product of the first radices: at least 1, at most the product of all
 count-positive : {rs : List ℕ} → Positive rs → 1 ≤ count rs
@@ -42,6 +49,14 @@ take-radix [] zero = refl
 take-radix [] (suc l) = refl
 take-radix (k ∷ ls) zero = omega arith
 take-radix (k ∷ ls) (suc l) = let r = k .quantity + 1 in ap (λ n. r * n) (take-radix ls l) ∙ sym (mul-assoc r (count (take l (map (λ (k : OrderLine). k .quantity + 1) ls))) (getD ls l noLine .quantity + 1))
+
+-- the radix of a line
+abbrev pub radixOf : OrderLine → ℕ
+radixOf l = l .quantity + 1
+
+radix-positive : (ls : List OrderLine) → Positive (map radixOf ls)
+radix-positive [] = no-radix
+radix-positive (l ∷ ls) = one-radix {r = radixOf l} (omega arith) (radix-positive ls)
 
 -- what a function has at the place of a line
 pub mapped-at : (f : OrderLine → ℕ) (ls : List OrderLine) (l : ℕ) → l < length ls → getD (map f ls) l 0 ≡ f (getD ls l noLine)
@@ -135,52 +150,101 @@ unfolding lessCode
 less-code-none {rs} p q h =
     ap (codeOf rs) (ap (λ n. less (demandOf rs q) (replicate n 0)) (sym (demand-length rs q)) ∙ less-none (demandOf rs q)) ∙ code-of-demand p q h
 
--- what is taken from a digit is within the number
-digit-within : (radix stride n q : ℕ) → min (q / stride % radix) n * stride ≤ q
-digit-within radix stride n q =
-    let low : min (q / stride % radix) n ≤ q / stride = omega (arith, mod-le (q / stride) radix) in
-    omega (arith, mul-le-mul-right stride low, div-mul-le-self q stride)
+-- the digit of a line in a number, times the product of the radices before it, is within the number
+digit-in : {rs : List ℕ} → Positive rs → (l q : ℕ) → getD (demandOf rs q) l 0 * count (take l rs) ≤ q
+digit-in no-radix l q = omega arith
+digit-in (one-radix {r = r} {rs = rs} low p) zero q = omega (arith, mod-le q r)
+digit-in (one-radix {r = r} {rs = rs} low p) (suc l) q =
+    let s = count (take l rs) in
+    let d = getD (demandOf rs (q / r)) l 0 in
+    omega (arith, mul-left-comm d r s, mul-le-mul-left r (digit-in p l (q / r)), mul-div-le q r)
+
+-- the digit by division
+digit-is : {rs : List ℕ} → Positive rs → (l q : ℕ) → l < length rs → getD (demandOf rs q) l 0 ≡ q / count (take l rs) % getD rs l 0
+digit-is no-radix l q h = absurd (omega arith)
+digit-is (one-radix {r = r} low p) zero q h = rw (div-one q) refl
+digit-is (one-radix {r = r} {rs = rs} low p) (suc l) q h =
+    digit-is p l (q / r) (omega arith) ∙ ap (λ n. n % getD rs l 0) (div-div-eq-div-mul q r (count (take l rs)))
 
 quotient-below : (r p q : ℕ) → 0 < r → q < r * p → q / r < p
 quotient-below r p q low h = div-lt-iff-lt-mul low .1 (rw (mul-comm p r) h)
 
-higher-digit : (q r x : ℕ) → x ≤ q / r → q % r - 0 + r * (q / r - x) ≡ q - r * x
-higher-digit q r x h = omega (arith, mod-add-div q r, mul-sub r (q / r) x, mul-le-mul-left r h)
+-- a number less n in the digit of a line, given as its number + 1; 0 for no line
+abbrev pub lessAt : List ℕ → ℕ → ℕ → ℕ → ℕ
+lessAt rs zero n q = q
+lessAt rs (suc l) n q = q - min (getD (demandOf rs q) l 0) n * count (take l rs)
 
--- gains in one digit
-pub less-code-digit : {rs : List ℕ} → Positive rs → (l n q : ℕ) → l < length rs → q < count rs → lessCode rs (set (replicate (length rs) 0) l n) q ≡ lessDigit (getD rs l 0) (count (take l rs)) n q
-unfolding lessCode lessDigit
-less-code-digit no-radix l n q h k = absurd (omega arith)
-less-code-digit (one-radix {r = r} {rs = rs} low p) zero n q h k =
-    ap (λ x. q % r - n + r * x) (less-code-none p (q / r) (quotient-below r (count rs) q low k))
-    ∙ rw (div-one q) (omega (arith, mod-add-div q r))
-less-code-digit (one-radix {r = r} {rs = rs} low p) (suc l) n q h k =
+-- the same number for lines that begin one earlier
+abbrev onward : ℕ → ℕ
+onward zero = zero
+onward (suc l) = suc (suc l)
+
+-- in a higher digit: what is below stays
+less-higher : (r : ℕ) {rs : List ℕ} → Positive rs → (x n q : ℕ) → q % r - 0 + r * lessAt rs x n (q / r) ≡ lessAt (r ∷ rs) (onward x) n q
+less-higher r {rs} p zero n q = omega (arith, mod-add-div q r)
+less-higher r {rs} p (suc l) n q =
     let s = count (take l rs) in
-    let d = getD rs l 0 in
-    let m = min (q / r / s % d) n in
-    ap (λ x. q % r - 0 + r * x) (less-code-digit p l n (q / r) (omega arith) (quotient-below r (count rs) q low k))
-    ∙ higher-digit q r (m * s) (digit-within d s n (q / r))
-    ∙ ap (λ x. q - x) (mul-left-comm r m s)
-    ∙ ap (λ x. q - min (x % d) n * (r * s)) (div-div-eq-div-mul q r s)
-
--- the number less a line's gains, as the arrays of digits have it
-pub less-line-code : (job : Job) (d : Digits) → DigitsOf job d → (line n q : ℕ) → line ≤ length (job .lines) → q < d .weight
-    → lessLine d line n q ≡ lessCode (radices job) (gainOf (length (job .lines)) line n) q
-less-line-code job d ok line n q h k = go line h
+    let d = getD (demandOf rs (q / r)) l 0 in
+    let m = min d n in
+    let within : m * s ≤ q / r = omega (arith, mul-le-mul-right s (least d n), digit-in p l (q / r)) in
+    omega (arith, mod-add-div q r, mul-sub r (q / r) (m * s), mul-le-mul-left r within, mul-left-comm m r s)
   where
-    p : Positive (radices job)
-    p = radices-positive job
+    least : (d n : ℕ) → min d n ≤ d
+    least d n = omega arith
 
-    long : length (radices job) ≡ length (job .lines)
-    long = radices-length job
+line-onward : (lines : List OrderLine) (k a : ℕ) → lineFrom (suc k) lines a ≡ onward (lineFrom k lines a)
+line-onward [] k a = refl
+line-onward (l ∷ ls) k a = go (eqb (l .article) a) (line-onward ls (suc k) a)
+  where
+    go : (b : Bool) → lineFrom (suc (suc k)) ls a ≡ onward (lineFrom (suc k) ls a)
+        → cond b (suc (suc k)) (lineFrom (suc (suc k)) ls a) ≡ onward (cond b (suc k) (lineFrom (suc k) ls a))
+    go true e = refl
+    go false e = e
 
-    low : q < count (radices job)
-    low = omega (arith, ok .counted, count-weight job)
+-- lines of which none has a part in the gains
+pub none-gained : (f : OrderLine → ℕ) (ls : List OrderLine) → ((l : OrderLine) → List·Memᴰ l ls → f l ≡ 0) → map f ls ≡ replicate (length ls) 0
+none-gained f [] none = refl
+none-gained f (l ∷ ls) none = ap₂ (λ x xs. x ∷ xs) (none l (List·Memᴰ·head refl)) (none-gained f ls (λ k m. none k (List·Memᴰ·tail m)))
 
-    go : (line : ℕ) → line ≤ length (job .lines) → lessLine d line n q ≡ lessCode (radices job) (gainOf (length (job .lines)) line n) q
-    go zero h = rw (← long) (sym (less-code-none p q low))
-    go (suc l) h =
-        rw (ok .radix-at l h, ok .stride-at l h, ← long) (sym (less-code-digit p l n q (omega (arith, long)) low))
+-- what n of an article leave of a number, where no two lines have one article: n less in the digit of the article's line
+module _ (a n : ℕ) where
+  abbrev pub gain : OrderLine → ℕ
+  gain l = cond (eqb a (l .article)) n 0
+
+  pub less-article : (ls : List OrderLine) → anyTwo sameArticle ls ≡ false → (q : ℕ) → q < count (map radixOf ls)
+      → lessCode (map radixOf ls) (map gain ls) q ≡ lessAt (map radixOf ls) (lineFrom 0 ls a) n q
+  unfolding lessCode sameArticle
+  less-article [] once q h = omega arith
+  less-article (l ∷ ls) once q h = go (ℕ-discrete (l .article) a) (less-article ls (parts .1) (q / r) below)
+    where
+      r : ℕ
+      r = radixOf l
+
+      rs : List ℕ
+      rs = map radixOf ls
+
+      parts : (anyOf (sameArticle l) ls ≡ false) × (anyTwo sameArticle ls ≡ false)
+      parts = or-false (anyOf (sameArticle l) ls) (anyTwo sameArticle ls) once
+
+      below : q / r < count rs
+      below = quotient-below r (count rs) q (omega arith) h
+
+      go : Dec (l .article ≡ a) → lessCode rs (map gain ls) (q / r) ≡ lessAt rs (lineFrom 0 ls a) n (q / r)
+          → q % r - gain l + r * lessCode rs (map gain ls) (q / r) ≡ lessAt (r ∷ rs) (cond (eqb (l .article) a) 1 (lineFrom 1 ls a)) n q
+      go (yes e) rest =
+          let others : map gain ls ≡ replicate (length rs) 0 =
+          none-gained gain ls (λ k m. rw (← e, any-false (sameArticle l) ls .0 (parts .0) k m) refl) ∙ ap (λ k. replicate k 0) (sym (length-map ls radixOf)) in
+          rw (eq-eqb (l .article) a e, eq-eqb a (l .article) (sym e), others, less-code-none (radix-positive ls) (q / r) below) (omega (arith, mod-add-div q r))
+      go (no ne) rest =
+          rw (ne-eqb (l .article) a ne, ne-eqb a (l .article) (λ e. ne (sym e)), rest, line-onward ls 0 a)
+          (less-higher r (radix-positive ls) (lineFrom 0 ls a) n q)
+
+-- what a cell leaves of a number: as the digits of the job have it
+pub less-line-code : (job : Job) (d : Digits) → DigitsOf job d → (line n q : ℕ) → line ≤ length (job .lines) → lessLine d line n q ≡ lessAt (radices job) line n q
+unfolding lessDigit
+less-line-code job d of zero n q h = refl
+less-line-code job d of (suc l) n q h =
+    rw (of .radix-at l h, of .stride-at l h, digit-is (radices-positive job) l q (omega (arith, radices-length job))) refl
 
 -- what is taken from a line's digit, as the tables have it
 pub line-less : (d : Digits) (line n q : ℕ) → 1 ≤ line → lessDigit (getD (d .radix) (line - 1) 0) (getD (d .stride) (line - 1) 0) n q ≡ lessLine d line n q
@@ -249,7 +313,8 @@ pub taken-within : (radix stride n q : ℕ) (p : Place) (m : ℕ) → PlaceOf ra
 unfolding lessDigit
 taken-within radix stride n q p m at e =
     let is : m ≡ min (q / stride % radix) n = e ∙ ap (λ k. min k n) (at .digit-is) in
-    rw is (digit-within radix stride n q, refl)
+    let low : min (q / stride % radix) n ≤ q / stride = omega (arith, mod-le (q / stride) radix) in
+    rw is (omega (arith, mul-le-mul-right stride low, div-mul-le-self q stride), refl)
 
 -- the lines of a job's value
 pub line-read : (v : JobValue) (l : ℕ) → l < v .orders → getD (v .lines) l noLine ≡ getD (jobOf v .lines) l noLine

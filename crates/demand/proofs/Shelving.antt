@@ -1,313 +1,310 @@
--- What the cells hold for the lines: the line of an article, and one more record on the shelf.
-use Prim.Native.Nat.{ℕ, zero, suc, _+_, _/_, _≤_, _<_}
+-- The shelf of a job: one more record on it, what a cell supplies to the lines, and whether an aisle holds a listed article.
+use Prim.Native.Nat.{ℕ, zero, suc, _+_, _-_, _*_, _/_, _≤_, _<_}
 use native.Mathlib.Omega.{arith}
 use native.Mathlib.Numerals.{add-one}
-use native.Mathlib.Decide.{ℕ-discrete, decLt}
-use mathlib.Core.Path.{_≡_, refl, sym, _∙_, ap, subst, fun-ext}
-use mathlib.Core.Logic.{_⊎_, inl, inr, ⊎-elim}
-use mathlib.Core.List.{List, [], _∷_, map, List·Memᴰ, List·Memᴰ·head, List·Memᴰ·tail}
-use mathlib.Core.Bool.{Bool, true, false, cond, _&&_, _||_, and-false, and-true, true≢false}
-use lib.Dec.{eqb, ltb}
-use lib.ListN.{length, getD, take, set, replicate, length-set, length-map, length-take, length-replicate, getD-replicate, List·getD-eq-default}
-use lib.Seq.{getD-set-same, getD-set-other, getD-take, take-all, take-suc, ext-getD}
-use borrow.Author.Tests.{eq-eqb, ne-eqb, lt-ltb}
+use native.Mathlib.Decide.{ℕ-discrete}
+use mathlib.Core.Path.{_≡_, refl, sym, _∙_, ap, fun-ext}
+use mathlib.Core.List.{List, [], _∷_, _++_, map, List·Memᴰ, List·Memᴰ·head, List·Memᴰ·tail}
+use mathlib.Core.Bool.{Bool, true, false, cond, _&&_, _||_, and-false, and-true, and-eq-true-iff, true≢false}
+use mathlib.Core.Option.{Option, none, some}
+use lib.Dec.{eqb}
+use lib.ListN.{length, getD, take, drop, set, replicate, length-set, length-take}
+use lib.Seq.{getD-set-same, getD-set-other, getD-take, take-all, take-suc, drop-cons}
+use borrow.Author.Tests.{eqb-true, eq-eqb, ne-eqb}
 use Rattle.rules.specs.declared.StockRecord.{StockRecord}
 use Rattle.rules.specs.declared.OrderLine.{OrderLine}
-use Rattle.rules.specs.Lists.{sumOf, anyOf, anyTwo, Sorted}
+use Rattle.rules.specs.Lists.{anyOf, anyTwo, firstOf}
+use Rattle.rules.specs.Store.{Point}
 use Rattle.rules.specs.Jobs.{Job, listed, holdsListed}
-use Rattle.rules.specs.Refusals.{sameCell, sameArticle, Admitted, RecordWithin}
-use Rattle.rules.proofs.Lists.{sum-append, any-false, any-true, no-two-alike}
-use Rattle.rules.proofs.Admission.{stock-within, layout-within}
-use Rattle.values.specs.declared.JobValue.{JobValue}
-use Rattle.values.specs.Values.{jobOf, Sound}
-use Rattle.demand.specs.declared.shelf.Shelf.{Shelf}
+use Rattle.rules.specs.Picks.{recordAt}
+use Rattle.rules.specs.Refusals.{sameCell, Admitted, RecordWithin}
+use Rattle.rules.proofs.Lists.{any-false, any-true}
+use Rattle.rules.proofs.Admission.{stock-within, layout-within, one-record-per-cell}
 use Rattle.machine.specs.Steps.{bit}
-use Rattle.demand.specs.Shelves.{noLine, gainOf, cellSupply, cellGains, LineOf, cellNumber, ShelfOf}
-use Rattle.demand.proofs.DigitLaws.{mapped-at}
+use Rattle.values.specs.declared.JobValue.{JobValue}
+use Rattle.values.specs.declared.Shelf.{Shelf}
+use Rattle.values.specs.Values.{jobOf, Sound}
+use Rattle.values.specs.Shelves.{lineFrom, lineOf, quantityOf, cellNumber, ShelfOf}
+use Rattle.demand.specs.Digits.{noLine}
+use Rattle.demand.proofs.Composition.{stockWhere, gainsWhere}
 
-or-both : (b c d : Bool) → (b || c) ≡ false → (c ≡ false → d ≡ false) → (b || d) ≡ false
-or-both true c d h f = absurd (true≢false h)
-or-both false c d h f = f h
+pub or-false : (b d : Bool) → (b || d) ≡ false → (b ≡ false) × (d ≡ false)
+or-false true d h = absurd (true≢false h)
+or-false false d h = (refl, h)
 
-pub less-or-more : (i k : ℕ) → (i ≡ k → ⊥) → (i < k) ⊎ (k < i)
-less-or-more i k ne = go (decLt i k)
-  where
-    go : Dec (i < k) → (i < k) ⊎ (k < i)
-    go (yes l) = inl l
-    go (no n) = inr (omega arith)
-
-eqb-comm : (m n : ℕ) → eqb m n ≡ eqb n m
-eqb-comm m n = go (ℕ-discrete m n)
-  where
-    go : Dec (m ≡ n) → eqb m n ≡ eqb n m
-    go (yes e) = rw e refl
-    go (no ne) = ne-eqb m n ne ∙ sym (ne-eqb n m (λ e. ne (sym e)))
-
-module _ {A : Type 0} (d : A) where
+module _ {A : Type 0} where
   -- what stands at a place of the list is a member
-  at-member : (xs : List A) (i : ℕ) → i < length xs → List·Memᴰ (getD xs i d) xs
-  at-member [] i h = absurd (omega arith)
-  at-member (x ∷ xs) zero h = List·Memᴰ·head refl
-  at-member (x ∷ xs) (suc i) h = List·Memᴰ·tail (at-member xs i (omega arith))
+  pub at-member : (d : A) (xs : List A) (i : ℕ) → i < length xs → List·Memᴰ (getD xs i d) xs
+  at-member d [] i h = absurd (omega arith)
+  at-member d (x ∷ xs) zero h = List·Memᴰ·head refl
+  at-member d (x ∷ xs) (suc i) h = List·Memᴰ·tail (at-member d xs i (omega arith))
 
-  -- a test that holds at a place holds of some element
-  any-at : (t : A → Bool) (xs : List A) (i : ℕ) → i < length xs → t (getD xs i d) ≡ true → anyOf t xs ≡ true
-  any-at t xs i h e = any-true t xs .1 (getD xs i d, at-member xs i h, e)
+  -- where no two are alike, none in front of a place is like what stands there
+  none-before : (alike : A → A → Bool) (d : A) (xs : List A) (n : ℕ) → n < length xs → anyTwo alike xs ≡ false → anyOf (λ x. alike x (getD xs n d)) (take n xs) ≡ false
+  none-before alike d [] n h e = absurd (omega arith)
+  none-before alike d (x ∷ xs) zero h e = refl
+  none-before alike d (x ∷ xs) (suc n) h e =
+      let parts = or-false (anyOf (alike x) xs) (anyTwo alike xs) e in
+      rw (any-false (alike x) xs .0 (parts .0) (getD xs n d) (at-member d xs n (omega arith))) (none-before alike d xs n (omega arith) (parts .1))
 
-  -- a test that holds of none of the first elements, nor of the next
-  pub none-more : (t : A → Bool) (xs : List A) (i : ℕ) → anyOf t (take i xs) ≡ false → t (getD xs i d) ≡ false → anyOf t (take (i + 1) xs) ≡ false
-  none-more t xs i none e = rw (add-one i) (go xs i none e)
+  -- the first element of which a test holds: a member; none where the test holds of none; with one more, at the end
+  first-member : (t : A → Bool) (xs : List A) (x : A) → firstOf t xs ≡ some x → List·Memᴰ x xs × (t x ≡ true)
+  first-member t [] x e = let z : _≡_ {A = ℕ} 0 1 = cc in absurd (omega arith)
+  first-member t (y ∷ ys) x e = go (t y) refl e (first-member t ys x)
     where
-      go : (ys : List A) (k : ℕ) → anyOf t (take k ys) ≡ false → t (getD ys k d) ≡ false → anyOf t (take (suc k) ys) ≡ false
-      go [] k none e = refl
-      go (y ∷ ys) zero none e = rw e refl
-      go (y ∷ ys) (suc k) none e = or-both (t y) (anyOf t (take k ys)) (anyOf t (take (suc k) ys)) none (λ p. go ys k p e)
+      go : (b : Bool) → t y ≡ b → cond b (some y) (firstOf t ys) ≡ some x → (firstOf t ys ≡ some x → List·Memᴰ x ys × (t x ≡ true)) → List·Memᴰ x (y ∷ ys) × (t x ≡ true)
+      go true h e rest = let same : x ≡ y = cc in (List·Memᴰ·head same, ap t same ∙ h)
+      go false h e rest = let r = rest e in (List·Memᴰ·tail (r .0), r .1)
 
-  -- two places of a list whose elements stand in a relation, the nearer one in front
-  sorted-at : (R : A → A → Type 0) (xs : List A) → Sorted R xs → (i k : ℕ) → i < k → k < length xs → R (getD xs i d) (getD xs k d)
-  sorted-at R [] s i k l h = absurd (omega arith)
-  sorted-at R (x ∷ xs) s i zero l h = absurd (omega arith)
-  sorted-at R (x ∷ xs) s zero (suc k) l h = s .0 (getD xs k d) (at-member xs k (omega arith))
-  sorted-at R (x ∷ xs) s (suc i) (suc k) l h = sorted-at R xs s.1 i k (omega arith) (omega arith)
-
-gain-length : (len r n : ℕ) → length (gainOf len r n) ≡ len
-gain-length len zero n = length-replicate {A = ℕ} len 0
-gain-length len (suc l) n = length-set (replicate len 0) l n ∙ length-replicate {A = ℕ} len 0
-
--- an article stands on one line: the others of so many lines get nothing from its cell
-module _ (lines : List OrderLine) (once : anyTwo sameArticle lines ≡ false) (a : ℕ) where
-  other-line : (i k : ℕ) → i < length lines → k < length lines → (i ≡ k → ⊥) → getD lines k noLine .article ≡ a → eqb a (getD lines i noLine .article) ≡ false
-  unfolding sameArticle
-  other-line i k hi hk ne e = ⊎-elim (λ l. rw (← e, eqb-comm (getD lines k noLine .article) (getD lines i noLine .article)) (sorted-at noLine _ lines apart i k l hk)) (λ l. rw (← e) (sorted-at noLine _ lines apart k i l hi)) (less-or-more i k ne)
+  first-none : (t : A → Bool) (xs : List A) → firstOf t xs ≡ none → anyOf t xs ≡ false
+  first-none t [] e = refl
+  first-none t (y ∷ ys) e = go (t y) e (first-none t ys)
     where
-      apart : Sorted (λ x y. sameArticle x y ≡ false) lines
-      apart = no-two-alike sameArticle lines .0 once
+      go : (b : Bool) → cond b (some y) (firstOf t ys) ≡ none → (firstOf t ys ≡ none → anyOf t ys ≡ false) → (b || anyOf t ys) ≡ false
+      go true k rest = let z : _≡_ {A = ℕ} 0 1 = cc in absurd (omega arith)
+      go false k rest = rest k
 
-  gain-at : (r n : ℕ) → LineOf lines a r → (i : ℕ) → i < length lines → getD (gainOf (length lines) r n) i 0 ≡ cond (eqb a (getD lines i noLine .article)) n 0
-  gain-at zero n f i h =
-      getD-replicate {A = ℕ} (length lines) i 0 0 h
-      ∙ sym (ap (λ b. cond b n 0) (eqb-comm a (getD lines i noLine .article) ∙ any-false _ lines .0 (f .stands) (getD lines i noLine) (at-member noLine lines i h)))
-  gain-at (suc l) n f i h = go (ℕ-discrete i l)
-    where
-      go : Dec (i ≡ l) → getD (set (replicate (length lines) 0) l n) i 0 ≡ cond (eqb a (getD lines i noLine .article)) n 0
-      go (yes e) =
-          rw (e, eq-eqb a (getD lines l noLine .article) (sym (f .found l refl .1))) (getD-set-same (replicate (length lines) 0) l n 0 (omega (arith, f .found l refl .0, length-replicate {A = ℕ} (length lines) 0)))
-      go (no ne) =
-          rw (getD-set-other (replicate (length lines) 0) l i n 0 ne, other-line i l h (f .found l refl .0) ne (f .found l refl .1)) (getD-replicate {A = ℕ} (length lines) i 0 0 h)
+  first-other : (t : A → Bool) (xs : List A) (y : A) → t y ≡ false → firstOf t (xs ++ (y ∷ [])) ≡ firstOf t xs
+  first-other t [] y e = rw e refl
+  first-other t (x ∷ xs) y e = ap (cond (t x) (some x)) (first-other t xs y e)
 
-  -- what a cell with n of the article supplies to each line
-  pub line-gains : (r n : ℕ) → LineOf lines a r → gainOf (length lines) r n ≡ map (λ (l : OrderLine). cond (eqb a (l .article)) n 0) lines
-  line-gains r n f =
-      let supplied : OrderLine → ℕ = λ l. cond (eqb a (l .article)) n 0 in
-      let long = gain-length (length lines) r n in
-      ext-getD 0 (gainOf (length lines) r n) (map supplied lines) (long ∙ sym (length-map lines supplied)) (λ i h. gain-at r n f i (omega arith) ∙ sym (mapped-at supplied lines i (omega arith)))
+  first-last : (t : A → Bool) (xs : List A) (y : A) → anyOf t xs ≡ false → t y ≡ true → firstOf t (xs ++ (y ∷ [])) ≡ some y
+  first-last t [] y e h = rw h refl
+  first-last t (x ∷ xs) y e h = let parts = or-false (t x) (anyOf t xs) e in rw (parts .0) (first-last t xs y (parts .1) h)
 
--- the line of an article, as the code looks for it: not among the first l lines, at the next one, on no line
-abbrev isOf : ℕ → OrderLine → Bool
-isOf a l = eqb (l .article) a
+-- the line of an article, as the code looks for it: at the next line, or behind it; on no line behind the last
+pub line-here : (lines : List OrderLine) (l a : ℕ) → l < length lines → getD lines l noLine .article ≡ a → lineFrom l (drop l lines) a ≡ l + 1
+line-here lines l a h e = rw (drop-cons lines l noLine h, eq-eqb (getD lines l noLine .article) a e) (omega arith)
 
-pub line-found : (lines : List OrderLine) (a l : ℕ) → 1 ≤ a → getD lines l noLine .article ≡ a → LineOf lines a (l + 1)
-line-found lines a l low e = rw (add-one l) (record { stands = any-at noLine (isOf a) lines l inside (eq-eqb _ a e); found = λ k p. (let s : l ≡ k = omega arith in rw (← s) (inside, e)) })
+pub line-behind : (lines : List OrderLine) (l a : ℕ) → l < length lines → (getD lines l noLine .article ≡ a → ⊥) → lineFrom l (drop l lines) a ≡ lineFrom (l + 1) (drop (l + 1) lines) a
+line-behind lines l a h ne = rw (add-one l, drop-cons lines l noLine h, ne-eqb (getD lines l noLine .article) a ne) refl
+
+-- an article is listed if it has a line, and the number + 1 of its line is at most the number of the lines
+line-listed : (lines : List OrderLine) (k a : ℕ) → bit (lineFrom k lines a) ≡ anyOf (λ (l : OrderLine). eqb (l .article) a) lines
+line-listed [] k a = refl
+line-listed (l ∷ ls) k a = go (eqb (l .article) a) (line-listed ls (suc k) a)
   where
-    inside : l < length lines
-    inside = go (decLt l (length lines))
-      where
-        go : Dec (l < length lines) → l < length lines
-        go (yes h) = h
-        go (no n) = absurd (omega (arith, ap (λ (k : OrderLine). k .article) (List·getD-eq-default lines noLine {n = l} (omega arith))))
+    go : (b : Bool) → bit (lineFrom (suc k) ls a) ≡ anyOf (λ (l : OrderLine). eqb (l .article) a) ls → bit (cond b (suc k) (lineFrom (suc k) ls a)) ≡ (b || anyOf (λ (l : OrderLine). eqb (l .article) a) ls)
+    go true e = refl
+    go false e = e
 
-pub line-none : (lines : List OrderLine) (a l : ℕ) → length lines ≤ l → anyOf (isOf a) (take l lines) ≡ false → LineOf lines a 0
-line-none lines a l all none =
-    record { stands = ap (anyOf (isOf a)) (sym (take-all l lines all)) ∙ none; found = λ k p. absurd (omega arith) }
+line-below : (lines : List OrderLine) (k a : ℕ) → lineFrom k lines a ≤ k + length lines
+line-below [] k a = omega arith
+line-below (l ∷ ls) k a = go (eqb (l .article) a) (line-below ls (suc k) a)
+  where
+    go : (b : Bool) → lineFrom (suc k) ls a ≤ suc k + length ls → cond b (suc k) (lineFrom (suc k) ls a) ≤ k + suc (length ls)
+    go true e = omega arith
+    go false e = omega arith
 
-bit-positive : (x : ℕ) → ltb 0 x ≡ bit x
-bit-positive zero = refl
-bit-positive (suc x) = lt-ltb 0 (suc x) (omega arith)
+-- a cell of the store
+abbrev cellAt : ℕ → ℕ → Point
+cellAt j c = record { aisle = j; height = c }
 
--- a record of the aisle is wanted if its article is on a line
-pub wanted-here : (lines : List OrderLine) (a x i j : ℕ) → i ≡ j → LineOf lines a x → ltb 0 x ≡ (eqb i j && anyOf (isOf a) lines)
-wanted-here lines a x i j e f = rw (eq-eqb i j e, f .stands) (bit-positive x)
+-- whether a record is of a cell
+abbrev isAt : ℕ → ℕ → StockRecord → Bool
+isAt j c r = eqb (r .aisle) j && eqb (r .cell) c
+
+is-at : (j c : ℕ) (r : StockRecord) → isAt j c r ≡ true → (r .aisle ≡ j) × (r .cell ≡ c)
+is-at j c r e = let parts = and-eq-true-iff (eqb (r .aisle) j) (eqb (r .cell) c) .0 e in (eqb-true (r .aisle) j (parts .0), eqb-true (r .cell) c (parts .1))
+
+at-itself : (r : StockRecord) → isAt (r .aisle) (r .cell) r ≡ true
+at-itself r = rw (eq-eqb (r .aisle) (r .aisle) refl, eq-eqb (r .cell) (r .cell) refl) refl
 
 -- a record that is not there
 abbrev pub noRecord : StockRecord
 noRecord = record { aisle = 0; cell = 0; article = 0; quantity = 0 }
 
--- whether a record is of the aisle and has a listed article
-abbrev pub holdsAt : Job → ℕ → StockRecord → Bool
-holdsAt job j r = eqb (r .aisle) j && listed job (r .article)
-
--- the aisle holds a listed article, as the code looks for it
-holds-found : (job : Job) (j n : ℕ) → n < length (job .stock) → holdsAt job j (getD (job .stock) n noRecord) ≡ true → holdsListed job j ≡ true
-unfolding holdsListed
-holds-found job j n h e = any-at noRecord (holdsAt job j) (job .stock) n h e
-
-pub holds-none : (job : Job) (j n : ℕ) → length (job .stock) ≤ n → anyOf (holdsAt job j) (take n (job .stock)) ≡ false → holdsListed job j ≡ false
-unfolding holdsListed
-holds-none job j n all none = ap (anyOf (holdsAt job j)) (sym (take-all n (job .stock) all)) ∙ none
-
--- the stock of an article in a cell, with one more record
-supply-more : (stock : List StockRecord) (n j c a : ℕ) → n < length stock → cellSupply (take (n + 1) stock) j c a ≡ cellSupply (take n stock) j c a + cond (eqb (getD stock n noRecord .article) a && (eqb (getD stock n noRecord .aisle) j && eqb (getD stock n noRecord .cell) c)) (getD stock n noRecord .quantity) 0
-unfolding cellSupply
-supply-more stock n j c a h =
-    let held : StockRecord → ℕ = λ r. cond (eqb (r .article) a && (eqb (r .aisle) j && eqb (r .cell) c)) (r .quantity) 0 in
-    rw (add-one n)
-    (ap (sumOf held) (take-suc stock n noRecord h)
-    ∙ sum-append held (take n stock) (getD stock n noRecord ∷ [])
-    ∙ omega arith)
-
-sum-none : (f : StockRecord → ℕ) (xs : List StockRecord) → ((i : ℕ) → i < length xs → f (getD xs i noRecord) ≡ 0) → sumOf f xs ≡ 0
-sum-none f [] h = refl
-sum-none f (x ∷ xs) h = omega (arith, h 0 (omega arith), sum-none f xs (λ i l. h (suc i) (omega arith)))
-
--- no record in front of one has its cell
-earlier-none : (stock : List StockRecord) → anyTwo sameCell stock ≡ false → (n a : ℕ) → n < length stock → cellSupply (take n stock) (getD stock n noRecord .aisle) (getD stock n noRecord .cell) a ≡ 0
-unfolding cellSupply sameCell
-earlier-none stock once n a h =
-    let r = getD stock n noRecord in
-    let held : StockRecord → ℕ = λ s. cond (eqb (s .article) a && (eqb (s .aisle) (r .aisle) && eqb (s .cell) (r .cell))) (s .quantity) 0 in
-    sum-none held (take n stock) (λ i l. (let low : i < n = omega (arith, length-take n stock) in ap held (getD-take n stock i noRecord low) ∙ nothing (eqb (getD stock i noRecord .article) a) (getD stock i noRecord .quantity) _ (sorted-at noRecord (λ x y. sameCell x y ≡ false) stock (no-two-alike sameCell stock .0 once) i n low h)))
-  where
-    nothing : (b : Bool) (m : ℕ) (d : Bool) → d ≡ false → cond (b && d) m 0 ≡ 0
-    nothing b m d e = rw (e, and-false b) refl
-
-zero-at : (n k : ℕ) → getD {A = ℕ} (replicate n 0) k 0 ≡ 0
-zero-at zero k = refl
-zero-at (suc n) zero = refl
-zero-at (suc n) (suc k) = zero-at n k
-
-line-below : (lines : List OrderLine) (a x : ℕ) → LineOf lines a x → x ≤ length lines
-line-below lines a zero f = omega arith
-line-below lines a (suc l) f = f .found l refl .0
-
--- the shelf of the first n records
-pub record ShelvedTo (job : Job) (line quantity : List ℕ) (n : ℕ) : Type 0 where
-  pub line-length : length line ≡ 384
-  pub quantity-length : length quantity ≡ 384
-  pub lines-below : (k : ℕ) → getD line k 0 ≤ length (job .lines)
-  pub supplies : (j c : ℕ) → 1 ≤ j → j ≤ 16 → 1 ≤ c → c ≤ 24 → gainOf (length (job .lines)) (getD line (cellNumber j c) 0) (getD quantity (cellNumber j c) 0) ≡ map (λ (l : OrderLine). cellSupply (take n (job .stock)) j c (l .article)) (job .lines)
-
-pub map-zero : (lines : List OrderLine) → replicate {A = ℕ} (length lines) 0 ≡ map (λ (l : OrderLine). 0) lines
-map-zero [] = refl
-map-zero (l ∷ ls) = ap (λ xs. 0 ∷ xs) (map-zero ls)
-
-pub shelved-none : (job : Job) → ShelvedTo job (replicate 384 0) (replicate 384 0) 0
-unfolding cellSupply
-shelved-none job =
-    record {
-      line-length = refl;
-      quantity-length = refl;
-      lines-below = λ k. omega (arith, zero-at 384 k);
-      supplies = λ j c a b e f. rw (zero-at 384 (cellNumber j c)) (map-zero (job .lines));
-    }
-
-pub shelved-all : (job : Job) (shelf : Shelf) (n : ℕ) → length (job .stock) ≤ n → ShelvedTo job (shelf .line) (shelf .quantity) n → ShelfOf job shelf
-unfolding cellGains
-shelved-all job shelf n all t =
-    record {
-      lines-below = t .lines-below;
-      supplies = λ j c a b e f. t .supplies j c a b e f ∙ ap (λ (xs : List StockRecord). map (λ (l : OrderLine). cellSupply xs j c (l .article)) (job .lines)) (take-all n (job .stock) all);
-    }
-
--- different cells stand at different places
-apart : (j c i d : ℕ) → 1 ≤ j → 1 ≤ c → c ≤ 24 → 1 ≤ i → 1 ≤ d → d ≤ 24 → cellNumber j c ≡ cellNumber i d → (j ≡ i) × (c ≡ d)
-apart j c i d h1 h2 h3 h4 h5 h6 e = let q : cellNumber j c / 24 ≡ cellNumber i d / 24 = ap (λ n. n / 24) e in (omega arith, omega arith)
-
-module _ (job : Job) (ok : Admitted job) (n : ℕ) (h : n < length (job .stock)) where
-  abbrev here : StockRecord
-  here = getD (job .stock) n noRecord
-
-  -- in its own cell a record is all the stock, to other cells it adds nothing
-  own-cell : (a : ℕ) → cond (eqb (here .article) a) (here .quantity) 0 ≡ cellSupply (take (n + 1) (job .stock)) (here .aisle) (here .cell) a
-  own-cell a =
-      sym (supply-more (job .stock) n (here .aisle) (here .cell) a h ∙ rw (earlier-none (job .stock) (ok .cells-once) n a h, eq-eqb (here .aisle) (here .aisle) refl, eq-eqb (here .cell) (here .cell) refl, and-true (eqb (here .article) a)) (omega arith))
-
-  other-cell : (j c a : ℕ) → (eqb (here .aisle) j && eqb (here .cell) c) ≡ false → cellSupply (take n (job .stock)) j c a ≡ cellSupply (take (n + 1) (job .stock)) j c a
-  other-cell j c a e =
-      sym (supply-more (job .stock) n j c a h ∙ rw (e, and-false (eqb (here .article) a)) (omega arith))
-
-  elsewhere : (j c : ℕ) → (cellNumber j c ≡ cellNumber (here .aisle) (here .cell) → ⊥) → (eqb (here .aisle) j && eqb (here .cell) c) ≡ false
-  elsewhere j c ne = go (ℕ-discrete (here .aisle) j)
-    where
-      go : Dec (here .aisle ≡ j) → (eqb (here .aisle) j && eqb (here .cell) c) ≡ false
-      go (yes p) = rw (eq-eqb (here .aisle) j p) (ne-eqb (here .cell) c (λ q. ne (rw (p, q) refl)))
-      go (no p) = rw (ne-eqb (here .aisle) j p) refl
-
-  module _ (w : RecordWithin (job .layout) here) where
-    -- a record's cell has a place on the shelf
-    place-below : (here .cell ≤ 24) × (cellNumber (here .aisle) (here .cell) < 384)
-    place-below = let z = layout-within (job .layout) .0 (ok .layout) in (omega arith, omega arith)
-
-    module _ (line quantity : List ℕ) (x : ℕ) (f : LineOf (job .lines) (here .article) x) (t : ShelvedTo job line quantity n) where
-      abbrev at : ℕ
-      at = cellNumber (here .aisle) (here .cell)
-
-      shelf-at : (j c : ℕ) → Dec (cellNumber j c ≡ at) → 1 ≤ j → j ≤ 16 → 1 ≤ c → c ≤ 24 → gainOf (length (job .lines)) (getD (set line at x) (cellNumber j c) 0) (getD (set quantity at (here .quantity)) (cellNumber j c) 0) ≡ map (λ (l : OrderLine). cellSupply (take (n + 1) (job .stock)) j c (l .article)) (job .lines)
-      shelf-at j c (yes e) j1 j16 c1 c24 =
-          let same = apart j c (here .aisle) (here .cell) j1 c1 c24 (w .aisle .0) (w .cell .0) (place-below .0) e in
-          rw (same .0, same .1, getD-set-same line at x 0 (omega (arith, t .line-length, place-below .1)), getD-set-same quantity at (here .quantity) 0 (omega (arith, t .quantity-length, place-below .1)))
-          (line-gains (job .lines) (ok .articles-once) (here .article) x (here .quantity) f
-          ∙ ap (λ (g : OrderLine → ℕ). map g (job .lines)) (fun-ext (λ l. own-cell (l .article))))
-      shelf-at j c (no ne) j1 j16 c1 c24 =
-          rw (getD-set-other line at (cellNumber j c) x 0 ne, getD-set-other quantity at (cellNumber j c) (here .quantity) 0 ne)
-          (t .supplies j c j1 j16 c1 c24
-          ∙ ap (λ (g : OrderLine → ℕ). map g (job .lines)) (fun-ext (λ l. other-cell j c (l .article) (elsewhere j c ne))))
-
-      lines-at : (k : ℕ) → Dec (k ≡ at) → getD (set line at x) k 0 ≤ length (job .lines)
-      lines-at k (yes e) =
-          rw (e, getD-set-same line at x 0 (omega (arith, t .line-length, place-below .1))) (line-below (job .lines) (here .article) x f)
-      lines-at k (no ne) = rw (getD-set-other line at k x 0 ne) (t .lines-below k)
-
-      -- one more record on the shelf
-      shelved-one : ShelvedTo job (set line at x) (set quantity at (here .quantity)) (n + 1)
-      shelved-one =
-          record {
-            line-length = length-set line at x ∙ t .line-length;
-            quantity-length = length-set quantity at (here .quantity) ∙ t .quantity-length;
-            lines-below = λ k. lines-at k (ℕ-discrete k at);
-            supplies = λ j c a b e g. shelf-at j c (ℕ-discrete (cellNumber j c) at) a b e g;
-          }
+-- a number for each cell, made of the cell's record
+abbrev pub Shelved : (Option StockRecord → ℕ) → List StockRecord → List ℕ → Type 0
+Shelved f stock xs =
+    (j c : ℕ) → 1 ≤ j → j ≤ 16 → 1 ≤ c → c ≤ 24 → getD xs (cellNumber j c) 0 ≡ f (recordAt stock (cellAt j c))
 
 -- the numbers of a record that the code computes with
 pub record RecordSmall (r : StockRecord) : Type 0 where
   pub aisle : (1 ≤ r .aisle) × (r .aisle ≤ 16)
   pub cell : (1 ≤ r .cell) × (r .cell ≤ 24)
-  pub article : 1 ≤ r .article
 
--- the records of a job's value
+-- at first no cell has a record
+pub shelved-none : (f : Option StockRecord → ℕ) → f none ≡ 0 → Shelved f [] (replicate 384 0)
+unfolding recordAt
+shelved-none f e j c j1 j16 c1 c24 = zero-at 384 (cellNumber j c) ∙ sym e
+  where
+    zero-at : (n k : ℕ) → getD {A = ℕ} (replicate n 0) k 0 ≡ 0
+    zero-at zero k = refl
+    zero-at (suc n) zero = refl
+    zero-at (suc n) (suc k) = zero-at n k
+
+-- different cells stand at different places
+apart : (j c i d : ℕ) → 1 ≤ j → 1 ≤ c → c ≤ 24 → 1 ≤ i → 1 ≤ d → d ≤ 24 → cellNumber j c ≡ cellNumber i d → (j ≡ i) × (c ≡ d)
+apart j c i d h1 h2 h3 h4 h5 h6 e = let q : cellNumber j c / 24 ≡ cellNumber i d / 24 = ap (λ n. n / 24) e in (omega arith, omega arith)
+
+-- one more record, the first of its cell
+module _ (f : Option StockRecord → ℕ) (stock : List StockRecord) (r : StockRecord) (w : RecordSmall r) (new : anyOf (isAt (r .aisle) (r .cell)) stock ≡ false) (xs : List ℕ) (long : length xs ≡ 384) where
+  abbrev at : ℕ
+  at = cellNumber (r .aisle) (r .cell)
+
+  shelved-more : Shelved f stock xs → Shelved f (stock ++ (r ∷ [])) (set xs at (f (some r)))
+  unfolding recordAt
+  shelved-more t j c j1 j16 c1 c24 = go (ℕ-discrete (cellNumber j c) at)
+    where
+      elsewhere : (cellNumber j c ≡ at → ⊥) → (b : Bool) → isAt j c r ≡ b → b ≡ false
+      elsewhere ne true e = let same = is-at j c r e in absurd (ne (rw (same .0, same .1) refl))
+      elsewhere ne false e = refl
+
+      go : Dec (cellNumber j c ≡ at) → getD (set xs at (f (some r))) (cellNumber j c) 0 ≡ f (recordAt (stock ++ (r ∷ [])) (cellAt j c))
+      go (yes e) =
+          let same = apart j c (r .aisle) (r .cell) j1 c1 c24 (w .aisle .0) (w .cell .0) (w .cell .1) e in
+          rw (same .0, same .1, getD-set-same xs at (f (some r)) 0 (omega arith), first-last (isAt (r .aisle) (r .cell)) stock r new (at-itself r)) refl
+      go (no ne) =
+          getD-set-other xs at (cellNumber j c) (f (some r)) 0 ne
+          ∙ t j c j1 j16 c1 c24
+          ∙ ap f (sym (first-other (isAt j c) stock r (elsewhere ne (isAt j c r) refl)))
+
+-- the shelf of the first n records of a job
+pub record ShelvedTo (job : Job) (line quantity : List ℕ) (n : ℕ) : Type 0 where
+  pub line-length : length line ≡ 384
+  pub quantity-length : length quantity ≡ 384
+  pub lines : Shelved (lineOf (job .lines)) (take n (job .stock)) line
+  pub quantities : Shelved quantityOf (take n (job .stock)) quantity
+
+pub shelve-none : (job : Job) → ShelvedTo job (replicate 384 0) (replicate 384 0) 0
+shelve-none job =
+    record {
+      line-length = refl;
+      quantity-length = refl;
+      lines = shelved-none (lineOf (job .lines)) refl;
+      quantities = shelved-none quantityOf refl;
+    }
+
+pub shelve-all : (job : Job) (shelf : Shelf) (n : ℕ) → length (job .stock) ≤ n → ShelvedTo job (shelf .line) (shelf .quantity) n → ShelfOf job shelf
+shelve-all job shelf n all t =
+    let whole = take-all n (job .stock) all in
+    record { line-at = rw whole at (t .lines); quantity-at = rw whole at (t .quantities) }
+
+-- the next record of a job's value on the shelf
 module _ (v : JobValue) (sound : Sound v) (whole : length (v .stock) ≡ 384) (n : ℕ) (h : n < v .records) where
-  record-read : getD (v .stock) n noRecord ≡ getD (jobOf v .stock) n noRecord
-  unfolding jobOf
-  record-read = sym (getD-take (v .records) (v .stock) n noRecord h)
-
   record-there : n < length (jobOf v .stock)
   unfolding jobOf
   record-there = omega (arith, length-take (v .records) (v .stock), sound .record-count)
 
-  record-bounds : RecordWithin (jobOf v .layout) (getD (jobOf v .stock) n noRecord)
-  record-bounds =
-      stock-within (jobOf v) .0 (sound .admitted .stock) .records (getD (jobOf v .stock) n noRecord) (at-member noRecord (jobOf v .stock) n record-there)
+  record-read : getD (jobOf v .stock) n noRecord ≡ getD (v .stock) n noRecord
+  unfolding jobOf
+  record-read = getD-take (v .records) (v .stock) n noRecord h
 
   pub record-small : RecordSmall (getD (v .stock) n noRecord)
   record-small =
       let z = layout-within (jobOf v .layout) .0 (sound .admitted .layout) in
-      let w = record-bounds in
-      rw record-read (record { aisle = (w .aisle .0, omega arith); cell = (w .cell .0, omega arith); article = w .article .0 })
+      let w = stock-within (jobOf v) .0 (sound .admitted .stock) .records (getD (jobOf v .stock) n noRecord) (at-member noRecord (jobOf v .stock) n record-there) in
+      rw (← record-read) (record { aisle = (w .aisle .0, omega arith); cell = (w .cell .0, omega arith) })
 
-  -- an aisle that holds the record's article, and one more record that is not wanted
-  pub holds-here : (j : ℕ) → (eqb (getD (v .stock) n noRecord .aisle) j && anyOf (isOf (getD (v .stock) n noRecord .article)) (take (v .orders) (v .lines))) ≡ true → holdsListed (jobOf v) j ≡ true
-  unfolding listed jobOf
-  holds-here j e = holds-found (jobOf v) j n record-there (ap (holdsAt (jobOf v) j) (sym record-read) ∙ e)
+  module _ (f : Option StockRecord → ℕ) (xs : List ℕ) (long : length xs ≡ 384) where
+    shelved-next : Shelved f (take n (jobOf v .stock)) xs
+        → let r = getD (v .stock) n noRecord in Shelved f (take (n + 1) (jobOf v .stock)) (set xs (cellNumber (r .aisle) (r .cell)) (f (some r)))
+    unfolding sameCell
+    shelved-next t =
+        let r = getD (v .stock) n noRecord in
+        let new : anyOf (isAt (r .aisle) (r .cell)) (take n (jobOf v .stock)) ≡ false =
+        rw (← record-read) (none-before sameCell noRecord (jobOf v .stock) n record-there (sound .admitted .cells-once)) in
+        rw (add-one n, take-suc (jobOf v .stock) n noRecord record-there, record-read) (shelved-more f (take n (jobOf v .stock)) r record-small new xs long t)
 
-  pub holds-next : (j : ℕ) → (eqb (getD (v .stock) n noRecord .aisle) j && anyOf (isOf (getD (v .stock) n noRecord .article)) (take (v .orders) (v .lines))) ≡ false → anyOf (holdsAt (jobOf v) j) (take n (jobOf v .stock)) ≡ false → anyOf (holdsAt (jobOf v) j) (take (n + 1) (jobOf v .stock)) ≡ false
-  unfolding listed jobOf
-  holds-next j e none = none-more noRecord (holdsAt (jobOf v) j) (jobOf v .stock) n none (ap (holdsAt (jobOf v) j) (sym record-read) ∙ e)
-
-  -- the record on the shelf
-  pub shelve-next : (line quantity : List ℕ) (x : ℕ) → LineOf (take (v .orders) (v .lines)) (getD (v .stock) n noRecord .article) x → ShelvedTo (jobOf v) line quantity n → ShelvedTo (jobOf v) (set line (cellNumber (getD (v .stock) n noRecord .aisle) (getD (v .stock) n noRecord .cell)) x) (set quantity (cellNumber (getD (v .stock) n noRecord .aisle) (getD (v .stock) n noRecord .cell)) (getD (v .stock) n noRecord .quantity)) (n + 1)
+  pub shelve-next : (line quantity : List ℕ) (x : ℕ) → let r = getD (v .stock) n noRecord in x ≡ lineFrom 0 (take (v .orders) (v .lines)) (r .article)
+      → ShelvedTo (jobOf v) line quantity n
+      → ShelvedTo (jobOf v) (set line (cellNumber (r .aisle) (r .cell)) x) (set quantity (cellNumber (r .aisle) (r .cell)) (r .quantity)) (n + 1)
   unfolding jobOf
-  shelve-next line quantity x f t =
-      subst (λ (r : StockRecord). LineOf (take (v .orders) (v .lines)) (r .article) x → ShelvedTo (jobOf v) (set line (cellNumber (r .aisle) (r .cell)) x) (set quantity (cellNumber (r .aisle) (r .cell)) (r .quantity)) (n + 1)) (sym record-read) (λ g. shelved-one (jobOf v) (sound .admitted) n record-there record-bounds line quantity x g t) f
+  shelve-next line quantity x e t =
+      let r = getD (v .stock) n noRecord in
+      let at = cellNumber (r .aisle) (r .cell) in
+      record {
+        line-length = length-set line at x ∙ t .line-length;
+        quantity-length = length-set quantity at (r .quantity) ∙ t .quantity-length;
+        lines = rw e (shelved-next (lineOf (jobOf v .lines)) line (t .line-length) (t .lines));
+        quantities = shelved-next quantityOf quantity (t .quantity-length) (t .quantities);
+      }
 
 pub records-count : (v : JobValue) → length (jobOf v .stock) ≤ v .records
 unfolding jobOf
 records-count v = omega (arith, length-take (v .records) (v .stock))
+
+-- a record of a stock in which no two are of one cell is the record of its cell
+its-record : (job : Job) → Admitted job → (r : StockRecord) → List·Memᴰ r (job .stock) → recordAt (job .stock) (cellAt (r .aisle) (r .cell)) ≡ some r
+unfolding recordAt
+its-record job ok r m = go (recordAt (job .stock) (cellAt (r .aisle) (r .cell))) refl
+  where
+    go : (o : Option StockRecord) → recordAt (job .stock) (cellAt (r .aisle) (r .cell)) ≡ o → recordAt (job .stock) (cellAt (r .aisle) (r .cell)) ≡ some r
+    go none e = absurd (true≢false (sym (at-itself r) ∙ any-false (isAt (r .aisle) (r .cell)) (job .stock) .0 (first-none _ (job .stock) e) r m))
+    go (some s) e =
+        let (k, there) = first-member (isAt (r .aisle) (r .cell)) (job .stock) s e in
+        let same = is-at (r .aisle) (r .cell) s there in
+        e ∙ ap some (one-record-per-cell job (ok .cells-once) s r k m (same .0) (same .1))
+
+-- whether an aisle holds a listed article
+module _ (job : Job) (ok : Admitted job) (shelf : Shelf) (of : ShelfOf job shelf) (j : ℕ) (low : 1 ≤ j) (high : j ≤ 16) where
+  -- it does where one of its cells has a line
+  pub holds-some : (c : ℕ) → 1 ≤ c → c ≤ 24 → 0 < getD (shelf .line) (cellNumber j c) 0 → holdsListed job j ≡ true
+  unfolding holdsListed listed recordAt
+  holds-some c c1 c24 h = go (recordAt (job .stock) (cellAt j c)) refl
+    where
+      positive : (n : ℕ) → 0 < n → bit n ≡ true
+      positive zero h = absurd (omega arith)
+      positive (suc n) h = refl
+
+      go : (o : Option StockRecord) → recordAt (job .stock) (cellAt j c) ≡ o → holdsListed job j ≡ true
+      go none e = absurd (omega (arith, of .line-at j c low high c1 c24 ∙ ap (lineOf (job .lines)) e))
+      go (some r) e =
+          let (m, there) = first-member (isAt j c) (job .stock) r e in
+          let line : getD (shelf .line) (cellNumber j c) 0 ≡ lineFrom 0 (job .lines) (r .article) = of .line-at j c low high c1 c24 ∙ ap (lineOf (job .lines)) e in
+          let has : listed job (r .article) ≡ true = sym (line-listed (job .lines) 0 (r .article)) ∙ positive (lineFrom 0 (job .lines) (r .article)) (omega (arith, line)) in
+          any-true _ (job .stock) .1 (r, m, rw (eq-eqb (r .aisle) j (is-at j c r there .0)) has)
+
+  -- it does not where none has
+  pub holds-none : ((c : ℕ) → 1 ≤ c → c ≤ job .layout .cells → getD (shelf .line) (cellNumber j c) 0 ≡ 0) → holdsListed job j ≡ false
+  unfolding holdsListed listed
+  holds-none none-there = any-false _ (job .stock) .1 (λ r m. go r m (eqb (r .aisle) j) refl)
+    where
+      go : (r : StockRecord) → List·Memᴰ r (job .stock) → (b : Bool) → eqb (r .aisle) j ≡ b → (b && listed job (r .article)) ≡ false
+      go r m false e = refl
+      go r m true e =
+          let w = stock-within job .0 (ok .stock) .records r m in
+          let z = layout-within (job .layout) .0 (ok .layout) in
+          let own : recordAt (job .stock) (cellAt j (r .cell)) ≡ some r = rw (← eqb-true (r .aisle) j e) (its-record job ok r m) in
+          let line : getD (shelf .line) (cellNumber j (r .cell)) 0 ≡ lineFrom 0 (job .lines) (r .article) = of .line-at j (r .cell) low high (w .cell .0) (omega arith) ∙ ap (lineOf (job .lines)) own in
+          sym (line-listed (job .lines) 0 (r .article)) ∙ ap bit (sym line ∙ none-there (r .cell) (w .cell .0) (w .cell .1))
+
+-- the line of a cell is one of the lines, counted from 1, or 0
+pub lines-below : (job : Job) (shelf : Shelf) → ShelfOf job shelf → (j c : ℕ) → 1 ≤ j → j ≤ 16 → 1 ≤ c → c ≤ 24 → getD (shelf .line) (cellNumber j c) 0 ≤ length (job .lines)
+lines-below job shelf of j c j1 j16 c1 c24 = go (recordAt (job .stock) (cellAt j c)) (of .line-at j c j1 j16 c1 c24)
+  where
+    go : (o : Option StockRecord) → getD (shelf .line) (cellNumber j c) 0 ≡ lineOf (job .lines) o → getD (shelf .line) (cellNumber j c) 0 ≤ length (job .lines)
+    go none e = omega arith
+    go (some r) e = omega (arith, line-below (job .lines) 0 (r .article))
+
+-- what the record of a cell supplies of an article
+abbrev pub supplied : Option StockRecord → ℕ → ℕ
+supplied none a = 0
+supplied (some r) a = cond (eqb (r .article) a) (r .quantity) 0
+
+-- where no two records are of one cell, the stock of an article in a cell is that of the cell's record
+cell-supply : (stock : List StockRecord) → anyTwo sameCell stock ≡ false → (j c a : ℕ) → stockWhere stock j (λ k. eqb k c) a ≡ supplied (recordAt stock (cellAt j c)) a
+unfolding recordAt sameCell
+cell-supply [] once j c a = refl
+cell-supply (r ∷ rs) once j c a = go (isAt j c r) refl (cell-supply rs (parts .1) j c a)
+  where
+    parts : (anyOf (sameCell r) rs ≡ false) × (anyTwo sameCell rs ≡ false)
+    parts = or-false (anyOf (sameCell r) rs) (anyTwo sameCell rs) once
+
+    alone : isAt j c r ≡ true → (o : Option StockRecord) → recordAt rs (cellAt j c) ≡ o → o ≡ none
+    alone e none p = refl
+    alone e (some s) p =
+        let (m, there) = first-member (isAt j c) rs s p in
+        let here = is-at j c r e in
+        let same = is-at j c s there in
+        absurd (true≢false (sym (rw (eq-eqb (r .aisle) (s .aisle) (here .0 ∙ sym (same .0)), eq-eqb (r .cell) (s .cell) (here .1 ∙ sym (same .1))) refl) ∙ any-false (sameCell r) rs .0 (parts .0) s m))
+
+    go : (b : Bool) → isAt j c r ≡ b → stockWhere rs j (λ k. eqb k c) a ≡ supplied (recordAt rs (cellAt j c)) a
+        → cond (eqb (r .article) a && b) (r .quantity) 0 + stockWhere rs j (λ k. eqb k c) a ≡ supplied (cond b (some r) (recordAt rs (cellAt j c))) a
+    go true e rest = rw (rest, alone e (recordAt rs (cellAt j c)) refl, and-true (eqb (r .article) a)) (omega arith)
+    go false e rest = rw (rest, and-false (eqb (r .article) a)) (omega arith)
+
+-- what a cell supplies to each line
+pub cell-gains : (job : Job) → Admitted job → (j c : ℕ) → gainsWhere job j (λ k. eqb k c) ≡ map (λ (l : OrderLine). supplied (recordAt (job .stock) (cellAt j c)) (l .article)) (job .lines)
+cell-gains job ok j c = ap (λ (g : OrderLine → ℕ). map g (job .lines)) (fun-ext (λ l. cell-supply (job .stock) (ok .cells-once) j c (l .article)))

@@ -1,2 +1,2 @@
-pub mod Shelves
+pub mod Digits
 pub mod Maps

@@ -1,7 +1,7 @@
 // Open demand as a number: the order lines as its digits.
 use values::JobValue;
 ghost use Prim.Native.Nat.{_*_, _+_, _<_, _≤_, min, ℕ};
-ghost use Rattle.demand.specs.Shelves.{DigitsOf, PlaceOf, lessDigit};
+ghost use Rattle.demand.specs.Digits.{DigitsOf, PlaceOf, lessDigit};
 ghost use Rattle.values.specs.Values.{Sound, jobOf};
 ghost use lib.ListN.{getD};
 ghost use mathlib.Core.Path.{_≡_};

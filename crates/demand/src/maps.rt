@@ -3,18 +3,17 @@ use crate::digits::DEMANDS;
 use crate::digits::Digits;
 use crate::digits::less_table;
 use crate::digits::wide;
-use crate::shelf::Shelf;
-use values::JobValue;
-ghost use Prim.Native.Nat.{_*_, _+_, _<_, _≤_, ℕ};
-ghost use Rattle.demand.specs.Maps.{MapsReady};
-ghost use Rattle.demand.specs.Shelves.{BacksFrom, FrontsTo, MapsAsked, RowSet, Usable, lessLine};
-ghost use Rattle.values.specs.Values.{jobOf};
+use values::Shelf;
+ghost use Prim.Native.Nat.{_*_, _+_, _<_, _≤_, suc, ℕ};
+ghost use Rattle.demand.specs.Digits.{Usable, lessLine};
+ghost use Rattle.demand.specs.Maps.{MapsAsked, MapsReady, RowSet, RowsTo, heightAt, mapSize};
+ghost use Rattle.rules.specs.Jobs.{Job};
 ghost use lib.ListN.{getD, length};
 ghost use mathlib.Core.Path.{_≡_};
 
 // A row of a map in which every demand stays as it is.
 fn plain_row(map: &mut [u16], to: usize, weight: usize)
-    requires { ⌜ (6656 ≤ length (now map)) × (to ≤ 25) × (weight ≤ 256) ⌝ }
+    requires { ⌜ (mapSize ≤ length (now map)) × (to ≤ 25) × (weight ≤ 256) ⌝ }
     ensures { λ r. ⌜ RowSet (now (map .entry)) (now (map .exit)) to weight (λ q. q) ⌝ }
 {
     let mut q = 0;
@@ -26,7 +25,7 @@ fn plain_row(map: &mut [u16], to: usize, weight: usize)
 
 // A row of a map like another one.
 fn copy_row(map: &mut [u16], to: usize, from: usize, weight: usize)
-    requires { ⌜ (6656 ≤ length (now map)) × (to ≤ 25) × (from ≤ 25) × (from ≡ to → ⊥) × (weight ≤ 256) ⌝ }
+    requires { ⌜ (mapSize ≤ length (now map)) × (to ≤ 25) × (from ≤ 25) × (from ≡ to → ⊥) × (weight ≤ 256) ⌝ }
     ensures { λ r. ⌜ RowSet (now (map .entry)) (now (map .exit)) to weight (λ q. getD (now (map .entry)) (from * 256 + q) 0) ⌝ }
 {
     let mut q = 0;
@@ -38,7 +37,7 @@ fn copy_row(map: &mut [u16], to: usize, from: usize, weight: usize)
 
 // A row of a map behind another one: its demands looked up in a table.
 fn look_up(map: &mut [u16], to: usize, from: usize, table: &[u16; DEMANDS], weight: usize)
-    requires { ⌜ (6656 ≤ length (now map)) × (to ≤ 25) × (from ≤ 25) × (from ≡ to → ⊥) × (weight ≤ 256) × ((q : ℕ) → q < weight → getD (now map) (from * 256 + q) 0 < 256) ⌝ }
+    requires { ⌜ (mapSize ≤ length (now map)) × (to ≤ 25) × (from ≤ 25) × (from ≡ to → ⊥) × (weight ≤ 256) × ((q : ℕ) → q < weight → getD (now map) (from * 256 + q) 0 < 256) ⌝ }
     ensures { λ r. ⌜ RowSet (now (map .entry)) (now (map .exit)) to weight (λ q. getD (now (table .entry)) (getD (now (map .entry)) (from * 256 + q) 0) 0) ⌝ }
 {
     let mut q = 0;
@@ -51,7 +50,7 @@ fn look_up(map: &mut [u16], to: usize, from: usize, table: &[u16; DEMANDS], weig
 
 // A row of a map behind another one: its demands after one more cell.
 fn map_row(map: &mut [u16], to: usize, from: usize, d: Digits, line: usize, n: usize)
-    requires { ⌜ (6656 ≤ length (now map)) × (to ≤ 25) × (from ≤ 25) × (from ≡ to → ⊥) × Usable d × (d .weight ≤ 256) × (line ≤ 8) × ((q : ℕ) → q < d .weight → getD (now map) (from * 256 + q) 0 < d .weight) ⌝ }
+    requires { ⌜ (mapSize ≤ length (now map)) × (to ≤ 25) × (from ≤ 25) × (from ≡ to → ⊥) × Usable d × (d .weight ≤ 256) × (line ≤ 8) × ((q : ℕ) → q < d .weight → getD (now map) (from * 256 + q) 0 < d .weight) ⌝ }
     ensures { λ r. ⌜ RowSet (now (map .entry)) (now (map .exit)) to (d .weight) (λ q. lessLine d line n (getD (now (map .entry)) (from * 256 + q) 0)) ⌝ }
 {
     let weight = d.weight;
@@ -63,31 +62,28 @@ fn map_row(map: &mut [u16], to: usize, from: usize, d: Digits, line: usize, n: u
     }
 }
 
-// The rows of a map by the cell that the front part of an action reaches.
-fn fill_fronts(map: &mut [u16], job: JobValue, shelf: Shelf, d: Digits, j: usize)
-    requires { ⌜ (6656 ≤ length (now map)) × MapsAsked job shelf d j ⌝ }
-    ensures { λ r. ⌜ FrontsTo (jobOf job) j (job .layout .cells + 1) (now (map .exit)) × (length (now (map .exit)) ≡ length (now (map .entry))) ⌝ }
+// The height at which n cells are reached from the front, or from the back.
+fn height_at(back: bool, cells: usize, n: usize) -> usize
+    requires { ⌜ (cells ≤ 24) × (n ≤ suc cells) ⌝ }
+    ensures { λ r. ⌜ r ≡ heightAt back cells n ⌝ }
 {
-    plain_row(map, 0, d.weight);
-    let mut h = 0;
-    while h < job.layout.cells {
-        let at = (j - 1) * 24 + h;
-        map_row(map, h + 1, h, d, shelf.line[at], shelf.quantity[at]);
-        h += 1;
-    }
+    if back { cells + 1 - n } else { n }
 }
 
-// The rows of a map by the cell that the back part of an action reaches.
-fn fill_backs(map: &mut [u16], job: JobValue, shelf: Shelf, d: Digits, j: usize)
-    requires { ⌜ (6656 ≤ length (now map)) × MapsAsked job shelf d j ⌝ }
-    ensures { λ r. ⌜ BacksFrom (jobOf job) j 0 (now (map .exit)) × (length (now (map .exit)) ≡ length (now (map .entry))) ⌝ }
+// The map by the front part of an action, or by its back part: the rows of the cells that it reaches, one after the other.
+fn fill_map(map: &mut [u16], shelf: Shelf, d: Digits, cells: usize, j: usize, back: bool)
+    requires { ⌜ (mapSize ≤ length (now map)) × ((job : Job) × MapsAsked job shelf d cells j) ⌝ }
+    ensures { λ r. ⌜ ((job : Job) → MapsAsked job shelf d cells j → RowsTo job cells j back (suc cells) (now (map .exit))) × (length (now (map .exit)) ≡ length (now (map .entry))) ⌝ }
 {
-    plain_row(map, job.layout.cells + 1, d.weight);
+    let weight = d.weight;
+    let first = height_at(back, cells, 0);
+    plain_row(map, first, weight);
     let mut n = 0;
-    while n < job.layout.cells {
-        let i = job.layout.cells - n;
-        let at = (j - 1) * 24 + (i - 1);
-        map_row(map, i, i + 1, d, shelf.line[at], shelf.quantity[at]);
+    while n < cells {
+        let from = height_at(back, cells, n);
+        let to = height_at(back, cells, n + 1);
+        let at = (j - 1) * 24 + (to - 1);
+        map_row(map, to, from, d, shelf.line[at], shelf.quantity[at]);
         n += 1;
     }
 }
@@ -96,14 +92,14 @@ fn fill_backs(map: &mut [u16], job: JobValue, shelf: Shelf, d: Digits, j: usize)
 pub fn fill_maps(
     fronts: &mut [u16],
     backs: &mut [u16],
-    job: JobValue,
     shelf: Shelf,
     d: Digits,
+    cells: usize,
     j: usize,
 )
-    requires { ⌜ (6656 ≤ length (now fronts)) × (6656 ≤ length (now backs)) × MapsAsked job shelf d j ⌝ }
-    ensures { λ r. ⌜ MapsReady (jobOf job) j (now (fronts .exit)) (now (backs .exit)) × (length (now (fronts .exit)) ≡ length (now (fronts .entry))) × (length (now (backs .exit)) ≡ length (now (backs .entry))) ⌝ }
+    requires { ⌜ (mapSize ≤ length (now fronts)) × (mapSize ≤ length (now backs)) × ((job : Job) × MapsAsked job shelf d cells j) ⌝ }
+    ensures { λ r. ⌜ ((job : Job) → MapsAsked job shelf d cells j → MapsReady job j (now (fronts .exit)) (now (backs .exit))) × (length (now (fronts .exit)) ≡ length (now (fronts .entry))) × (length (now (backs .exit)) ≡ length (now (backs .entry))) ⌝ }
 {
-    fill_fronts(fronts, job, shelf, d, j);
-    fill_backs(backs, job, shelf, d, j);
+    fill_map(fronts, shelf, d, cells, j, false);
+    fill_map(backs, shelf, d, cells, j, true);
 }

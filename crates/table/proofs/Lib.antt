@@ -11,3 +11,4 @@ pub mod Parting
 pub mod StepLaws
 pub mod TableValues
 pub mod TableFills
+pub mod WorkRows

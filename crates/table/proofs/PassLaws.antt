@@ -35,8 +35,8 @@ use Rattle.table.proofs.ActionRows.{candidate-parts, way-is, way-dead, 
 pub sweep-ready : (x : Aisle) (row perm fronts backs : List ℕ) (top : ℕ) → AisleReady x fronts backs → 2048 ≤ length row → 2048 ≤ length perm
     → top ≡ x .layout .cells + 1 → SweepReady row perm fronts backs top (x .weight)
 sweep-ready x row perm fronts backs top ready row-long perm-long top-is =
-    let w = within (x .layout) (ready .bounds) in
-    let light = ready .small in
+    let w = within (x .layout) (ready .aisle .bounds) in
+    let light = ready .aisle .small in
     record {
       small = light;
       top-fits = omega (arith, w .cells .1);

@@ -9,7 +9,6 @@ use borrow.Author.Tests.{lt-ltb}
 use mathlib.Core.Logic.{⊎-elim}
 use lib.ListN.{length, getD, take}
 use lib.Seq.{getD-take, length-take-le}
-use Rattle.rules.specs.declared.Policy.{Policy}
 use Rattle.rules.specs.declared.Passage.{Passage}
 use Rattle.rules.specs.declared.Passage.the-variants.{P00, P02, P11, P20, P22}
 use Rattle.rules.specs.Plans.{backTreads, frontTreads}
@@ -19,10 +18,11 @@ use Rattle.rules.specs.Policies.{passageNamed}
 use Rattle.optimum.specs.Least.{sumUpTo}
 use Rattle.optimum.specs.Routing.{noTour, sat, leastOf}
 use Rattle.optimum.proofs.Choice.{least-take}
-use Rattle.table.specs.declared.passages.Crossing.{Crossing}
 use Rattle.machine.specs.States.{stateCode, stateOf}
 use Rattle.machine.specs.Steps.{policyOf, passageOf, crossOf}
-use Rattle.table.specs.Rows.{tab, nextAt, throughPassage, crossCode, Permuted, RelaxedRow, PassageTried, AfterFilled}
+use Rattle.table.specs.declared.layers.Aisle.{Aisle}
+use Rattle.table.specs.Rows.{tab, nextAt, Permuted, RelaxedRow}
+use Rattle.table.specs.Crossings.{crossCode, throughPassage, leastOver, leastAfter, PassageTried, AfterFilled}
 use Rattle.demand.proofs.Filling.{below}
 
 -- the passages between 00 and 22 tread the cross-aisles twice
@@ -55,31 +55,31 @@ state-small split = omega arith
 state-small ending = omega arith
 state-small dead = omega arith
 
-module _ (next : List ℕ) (policy : Policy) (side width s q : ℕ) where
+module _ (x : Aisle) (next : List ℕ) (s q : ℕ) where
   abbrev to : Passage → ℕ
-  to p = stateCode (crossOf policy p side (stateOf s))
+  to p = stateCode (crossOf (policyOf (x .policy)) p (x .side) (stateOf s))
 
-  pub through-dead : (p : Passage) → to p ≡ 8 → throughPassage next policy side width s q p ≡ 65535
+  -- no way on over a passage that leads to the dead state
+  pub through-dead : (p : Passage) → to p ≡ 8 → throughPassage x next s q p ≡ 65535
   unfolding throughPassage nextAt sumUpTo
   through-dead p e = rw e (omega arith)
 
-  pub through-alive : (p : Passage) (n : ℕ) → to p ≡ n → n < 8 → throughPassage next policy side width s q p ≡ min ((backTreads p + frontTreads p) * width + tab next n q) 65535
+  -- the way on over any other
+  pub through-alive : (p : Passage) (n : ℕ) → to p ≡ n → n < 8 → throughPassage x next s q p ≡ min ((backTreads p + frontTreads p) * x .layout .width + tab next n q) 65535
   unfolding throughPassage nextAt sumUpTo
   through-alive p n e h = rw (e, lt-ltb n 8 h) refl
 
   -- one more passage is tried
-  pub least-tried : (p : ℕ) → p < 5
-      → leastOf (throughPassage next policy side width s q) (take (p + 1) passagesInOrder) ≡ min (leastOf (throughPassage next policy side width s q) (take p passagesInOrder)) (throughPassage next policy side width s q (passageOf p))
+  pub least-tried : (p : ℕ) → p < 5 → leastOver x next s q (p + 1) ≡ min (leastOver x next s q p) (throughPassage x next s q (passageOf p))
   unfolding passagesInOrder throughPassage sumUpTo
-  least-tried p h =
-      least-take noTour (throughPassage next policy side width s q) passagesInOrder p P00 h ∙ rw (passage-at p h) (omega arith)
+  least-tried p h = least-take noTour (throughPassage x next s q) passagesInOrder p P00 h ∙ rw (passage-at p h) (omega arith)
 
 -- from the dead state there is no way on
-dead-ways : (next : List ℕ) (policy : Policy) (side width q : ℕ) (p : Passage) → throughPassage next policy side width 8 q p ≡ 65535
+dead-ways : (x : Aisle) (next : List ℕ) (q : ℕ) (p : Passage) → throughPassage x next 8 q p ≡ 65535
 unfolding crossOf
-dead-ways next policy side width q p = through-dead next policy side width 8 q p (ap stateCode (go (passageNamed policy p) p))
+dead-ways x next q p = through-dead x next 8 q p (ap stateCode (go (passageNamed (policyOf (x .policy)) p) p))
   where
-    go : (b : Bool) (p : Passage) → cond b (crossStep 1 side p dead) dead ≡ dead
+    go : (b : Bool) (p : Passage) → cond b (crossStep 1 (x .side) p dead) dead ≡ dead
     go true P00 = refl
     go true P02 = refl
     go true P11 = refl
@@ -87,27 +87,22 @@ dead-ways next policy side width q p = through-dead next policy side width 8 q p
     go true P22 = refl
     go false p = refl
 
-least-dead : (next : List ℕ) (policy : Policy) (side width q : ℕ) (ps : List Passage) → leastOf (throughPassage next policy side width 8 q) ps ≡ 65535
-least-dead next policy side width q [] = refl
-least-dead next policy side width q (p ∷ ps) = omega (arith, dead-ways next policy side width q p, least-dead next policy side width q ps)
-
--- the eight states of the row behind the actions hold the least over the first n passages
-abbrev pub AfterTried : List ℕ → List ℕ → Policy → ℕ → ℕ → ℕ → ℕ → Type 0
-AfterTried after next policy side width weight n =
-    (s q : ℕ) → s < 8 → q < weight → tab after s q ≡ leastOf (throughPassage next policy side width s q) (take n passagesInOrder)
+least-dead : (x : Aisle) (next : List ℕ) (q : ℕ) (ps : List Passage) → leastOf (throughPassage x next 8 q) ps ≡ 65535
+least-dead x next q [] = refl
+least-dead x next q (p ∷ ps) = omega (arith, dead-ways x next q p, least-dead x next q ps)
 
 -- the plain map at a demand
 pub plain-at : (plain : List ℕ) (q : ℕ) → q < 256 → ((k : ℕ) → k < 256 → getD plain k 0 ≡ k) → getD plain (0 + q) 0 ≡ q
 plain-at plain q h same = let e : 0 + q ≡ q = omega arith in ap (λ n. getD plain n 0) e ∙ same q h
 
-module _ (after next steps : List ℕ) (x : Crossing) (steps-are : (s : ℕ) → s < 8 → getD steps s 0 ≡ crossCode (x .policy) (x .side) (x .passage) s) where
-  abbrev way : ℕ → ℕ → ℕ
-  way s q = throughPassage next (policyOf (x .policy)) (x .side) (x .width) s q (passageOf (x .passage))
+module _ (x : Aisle) (after next steps : List ℕ) (p : ℕ) (steps-are : (s : ℕ) → s < 8 → getD steps s 0 ≡ crossCode x p s) where
+  -- what the passage costs
+  abbrev cost-of : ℕ
+  cost-of = (backTreads (passageOf p) + frontTreads (passageOf p)) * x .layout .width
 
   -- the row behind a passage, its states put in order, then relaxed
-  pub passage-relaxed : (after′ perm perm′ plain : List ℕ) (cost : ℕ) → x .weight ≤ 256
-      → cost ≡ (backTreads (passageOf (x .passage)) + frontTreads (passageOf (x .passage))) * x .width → ((q : ℕ) → q < 256 → getD plain q 0 ≡ q)
-      → Permuted perm perm′ next steps (x .weight) 8 → RelaxedRow after after′ perm′ plain 0 cost (x .weight) → PassageTried after after′ next x
+  pub passage-relaxed : (after′ perm perm′ plain : List ℕ) (cost : ℕ) → x .weight ≤ 256 → cost ≡ cost-of → ((q : ℕ) → q < 256 → getD plain q 0 ≡ q)
+      → Permuted perm perm′ next steps (x .weight) 8 → RelaxedRow after after′ perm′ plain 0 cost (x .weight) → PassageTried x after after′ next p
   unfolding throughPassage crossCode
   passage-relaxed after′ perm perm′ plain cost light cost-is plain-is permuted relaxed =
       record {
@@ -116,7 +111,7 @@ module _ (after next steps : List ℕ) (x : Crossing) (steps-are : (s : ℕ) →
         rest = relaxed .rest;
       }
     where
-      over : (s q : ℕ) → s < 8 → q < x .weight → sat cost (tab perm′ s (getD plain (0 + q) 0)) ≡ way s q
+      over : (s q : ℕ) → s < 8 → q < x .weight → sat cost (tab perm′ s (getD plain (0 + q) 0)) ≡ throughPassage x next s q (passageOf p)
       over s q l h =
           ap₂ sat cost-is
           (ap (λ n. tab perm′ s n) (plain-at plain q (omega arith) plain-is)
@@ -124,42 +119,44 @@ module _ (after next steps : List ℕ) (x : Crossing) (steps-are : (s : ℕ) →
           ∙ ap (λ t. nextAt next t q) (steps-are s l))
 
   -- a passage that leads on from no state is passed over
-  pub passage-skipped : ((s : ℕ) → s < 8 → 8 ≤ getD steps s 0) → ((k : ℕ) → getD after k 0 < 65536) → PassageTried after after next x
+  pub passage-skipped : ((s : ℕ) → s < 8 → 8 ≤ getD steps s 0) → ((k : ℕ) → getD after k 0 < 65536) → PassageTried x after after next p
   unfolding crossCode
   passage-skipped none fits = record { kept = refl; done = done; rest = λ k h. refl }
     where
-      to : ℕ → State
-      to s = crossOf (policyOf (x .policy)) (passageOf (x .passage)) (x .side) (stateOf s)
+      end : ℕ → State
+      end s = crossOf (policyOf (x .policy)) (passageOf p) (x .side) (stateOf s)
 
-      done : (s q : ℕ) → s < 8 → q < x .weight → tab after s q ≡ min (tab after s q) (way s q)
+      done : (s q : ℕ) → s < 8 → q < x .weight → tab after s q ≡ min (tab after s q) (throughPassage x next s q (passageOf p))
       done s q l h =
-          let to-dead : stateCode (to s) ≡ 8 = omega (arith, state-small (to s), none s l, steps-are s l) in
-          omega (arith, fits (q * 8 + s), through-dead next (policyOf (x .policy)) (x .side) (x .width) s q (passageOf (x .passage)) to-dead)
+          let to-dead : stateCode (end s) ≡ 8 = omega (arith, state-small (end s), none s l, steps-are s l) in
+          omega (arith, fits (q * 8 + s), through-dead x next s q (passageOf p) to-dead)
 
-module _ (next : List ℕ) (policy side width weight : ℕ) where
+-- the eight states of the row behind the actions hold the least over the first n passages
+abbrev pub AfterTried : Aisle → List ℕ → List ℕ → ℕ → Type 0
+AfterTried x after next n = (s q : ℕ) → s < 8 → q < x .weight → tab after s q ≡ leastOver x next s q n
+
+module _ (x : Aisle) (next : List ℕ) where
   -- no passage yet
-  pub after-none : (after : List ℕ) → ((k : ℕ) → k < weight * 8 → getD after k 0 ≡ 65535) → AfterTried after next (policyOf policy) side width weight 0
+  pub after-none : (after : List ℕ) → ((k : ℕ) → k < x .weight * 8 → getD after k 0 ≡ 65535) → AfterTried x after next 0
   after-none after none s q l h = none (q * 8 + s) (omega arith)
 
   -- one more passage
-  pub after-one : (after after′ : List ℕ) (p : ℕ) → p < 5 → AfterTried after next (policyOf policy) side width weight p
-      → PassageTried after after′ next (record { policy = policy; side = side; width = width; passage = p; weight = weight })
-      → AfterTried after′ next (policyOf policy) side width weight (p + 1)
+  pub after-one : (after after′ : List ℕ) (p : ℕ) → p < 5 → AfterTried x after next p → PassageTried x after after′ next p → AfterTried x after′ next (p + 1)
   after-one after after′ p small tried relaxed s q l h =
       relaxed .done s q l h
-      ∙ ap (λ n. min n (throughPassage next (policyOf policy) side width s q (passageOf p))) (tried s q l h)
-      ∙ sym (least-tried next (policyOf policy) side width s q p small)
+      ∙ ap (λ n. min n (throughPassage x next s q (passageOf p))) (tried s q l h)
+      ∙ sym (least-tried x next s q p small)
 
   -- with the dead state the row is filled
-  pub after-all : (after : List ℕ) (tried : ℕ) → AfterTried after next (policyOf policy) side width weight tried → AfterFilled after next tried (policyOf policy) side width weight
-  unfolding nextAt
-  after-all after tried filled s q l h = ⊎-elim here dead-here (below s 8 l)
+  pub after-all : (after : List ℕ) → AfterTried x after next (x .tried) → AfterFilled x after next
+  unfolding nextAt leastAfter
+  after-all after filled s q l h = ⊎-elim here dead-here (below s 8 l)
     where
-      here : s < 8 → nextAt after s q ≡ leastOf (throughPassage next (policyOf policy) side width s q) (take tried passagesInOrder)
+      here : s < 8 → nextAt after s q ≡ leastAfter x next s q
       here m = rw (lt-ltb s 8 m) (filled s q m h)
 
-      dead-here : s ≡ 8 → nextAt after s q ≡ leastOf (throughPassage next (policyOf policy) side width s q) (take tried passagesInOrder)
-      dead-here e = rw e (sym (least-dead next (policyOf policy) side width q (take tried passagesInOrder)))
+      dead-here : s ≡ 8 → nextAt after s q ≡ leastAfter x next s q
+      dead-here e = rw e (sym (least-dead x next q (take (x .tried) passagesInOrder)))
 
 -- the passages that are tried
 pub passage-tried : (tried p : ℕ) → p < tried → tried ≤ 5 → getD (take tried passagesInOrder) p P00 ≡ passageOf p

@@ -10,8 +10,7 @@ use lib.Seq.{getD-set-same, getD-set-other}
 use Rattle.optimum.specs.Least.{sumUpTo}
 use Rattle.optimum.specs.Routing.{noTour, sat}
 use Rattle.demand.proofs.Filling.{below}
-use Rattle.table.specs.Rows.{tab, Shorter, RelaxedRow, nextAt, StateSet, Permuted}
-use Rattle.table.specs.Stored.{StoredTo}
+use Rattle.table.specs.Rows.{tab, Shorter, StoredTo, RelaxedRow, nextAt, StateSet, Permuted}
 
 -- at first no demand is relaxed
 pub row-none : (row perm map : List ℕ) (base cost : ℕ) → RelaxedRow row row perm map base cost 0

@@ -1,32 +1,33 @@
 -- The rows of the table, from the one behind the last aisle to the first.
 use Prim.Native.Nat.{ℕ, zero, suc, _+_, _*_, _-_, _≤_, _<_}
 use native.Mathlib.Omega.{arith}
-use native.Mathlib.Nat.{eq-or-lt-of-le}
 use mathlib.Core.Path.{_≡_, refl, sym, _∙_, ap, ap₂, subst}
-use mathlib.Core.Logic.{_⊎_, inl, inr, ⊎-elim}
 use mathlib.Core.List.{List}
 use mathlib.Core.Bool.{Bool, true, false, cond, _&&_}
 use lib.Dec.{eqb}
 use borrow.Author.Tests.{eqb-true, eqb-false, eq-eqb, ne-eqb}
-use lib.ListN.{length, getD}
+use lib.ListN.{length, getD, set, replicate, length-set, length-replicate, getD-replicate}
+use lib.Seq.{getD-set-same, getD-set-other}
+use Rattle.rules.specs.declared.Layout.{Layout}
 use Rattle.rules.specs.declared.Action.the-variants.{Bottom, Top}
 use Rattle.rules.specs.Jobs.{Job, holdsListed}
 use Rattle.rules.specs.Refusals.{weight, Admitted}
-use Rattle.rules.specs.BestPlan.{actionsOf}
 use Rattle.rules.specs.Machine.{isClosed}
-use Rattle.optimum.specs.Demand.{radices, demandOf, met}
+use Rattle.optimum.specs.Routing.{noTour}
 use Rattle.machine.specs.States.{stateOf}
-use Rattle.machine.specs.Steps.{bit, policyOf, policyCode}
-use Rattle.table.specs.Rows.{AfterFilled}
-use Rattle.table.specs.Stored.{StoredTo}
-use Rattle.table.specs.TableHolds.{sideOf, aisleOf, flagOf, triedAt, RowHolds, TableFrom, endEntry}
-use Rattle.table.proofs.TableValues.{values, below-weight, after-value, row-value}
-use Rattle.table.specs.Layers.{AisleReady, RowFilled}
-use Rattle.table.specs.declared.layers.Aisle.{Aisle}
-use Rattle.demand.specs.Maps.{MapsReady}
+use Rattle.machine.specs.Steps.{bit, policyCode}
 use Rattle.machine.proofs.StepLaws.{policy-code-below}
-use Rattle.table.proofs.StepLaws.{flag-below}
+use Rattle.demand.specs.Maps.{mapSize, MapsAsked, MapsReady}
 use Rattle.demand.proofs.Composition.{met-zero}
+use Rattle.table.specs.declared.filling.Order.{Order}
+use Rattle.table.specs.declared.layers.Aisle.{Aisle}
+use Rattle.table.specs.Rows.{numbers}
+use Rattle.table.specs.Crossings.{InRange, AfterFilled}
+use Rattle.table.specs.Layers.{AisleReady, RowFilled}
+use Rattle.table.specs.TableHolds.{sideOf, flagOf, triedAt, OrderOf, aisleOf, RowHolds, AfterHolds, endRow}
+use Rattle.table.proofs.Geometry.{within}
+use Rattle.table.proofs.StepLaws.{flag-below, side-below}
+use Rattle.table.proofs.TableValues.{below-weight, after-value, row-value}
 
 -- the only closed state has the number 1
 closed-code : (s : ℕ) → isClosed (stateOf s) ≡ eqb s 1
@@ -49,41 +50,27 @@ end-place s q l = go (eqb s 1) refl (eqb q 0) refl
     go true e false f = ne-eqb (q * 8 + s) 1 (λ p. eqb-false q 0 f (omega (arith, eqb-true s 1 e)))
     go false e b f = ne-eqb (q * 8 + s) 1 (λ p. eqb-false s 1 e (omega arith))
 
-module _ (job : Job) (small : weight (job .lines) ≤ 256) where
-  -- behind the last aisle
-  pub end-holds : (j : ℕ) (next : List ℕ) → ((k : ℕ) → k < 2048 → getD next k 0 ≡ endEntry k) → RowHolds job 0 j next
-  unfolding endEntry
-  end-holds j next filled s q l h =
-      filled (q * 8 + s) (omega arith)
-      ∙ ap (λ b. cond b 0 65535) (end-place s q l ∙ ap₂ _&&_ (sym (closed-code s)) (sym (met-zero job q h)))
+-- the row behind the last aisle
+pub end-length : length endRow ≡ numbers
+unfolding endRow
+end-length = length-set (replicate numbers noTour) 1 0 ∙ length-replicate numbers noTour
 
-  -- a copy of a row
-  pub row-copied : (n j : ℕ) (row next : List ℕ) → RowHolds job n j row → ((k : ℕ) → k < 2048 → getD next k 0 ≡ getD row k 0) → RowHolds job n j next
-  row-copied n j row next holds same s q l h = same (q * 8 + s) (omega arith) ∙ holds s q l h
+end-at : (k : ℕ) → k < numbers → getD endRow k 0 ≡ cond (eqb k 1) 0 noTour
+unfolding endRow
+end-at k h = go (eqb k 1) refl
+  where
+    none : List ℕ
+    none = replicate numbers noTour
 
-  -- what the table holds for aisle i
-  abbrev Entry : List ℕ → ℕ → ℕ → ℕ → Type 0
-  Entry work i s q = getD work ((i - 1) * 2048 + (q * 8 + s)) 0 ≡ values job (suc (job .layout .aisles) - i) i (stateOf s) (demandOf (radices job) q)
+    go : (b : Bool) → eqb k 1 ≡ b → getD (set none 1 0) k 0 ≡ cond b 0 noTour
+    go true e = ap (λ n. getD (set none 1 0) n 0) (eqb-true k 1 e) ∙ getD-set-same none 1 0 0 (omega (arith, length-replicate numbers noTour))
+    go false e = getD-set-other none 1 k 0 0 (eqb-false k 1 e) ∙ getD-replicate numbers k noTour 0 h
 
-  -- one more row of the table
-  pub table-more : (j : ℕ) (work work′ row : List ℕ) → 1 ≤ j → j ≤ job .layout .aisles → TableFrom job (suc j) work → StoredTo work work′ row ((j - 1) * 2048) 2048 → RowHolds job (suc (job .layout .aisles - j)) j row → TableFrom job j work′
-  table-more j work work′ row low high table stored holds i s q l m t h = ⊎-elim here later (eq-or-lt-of-le l)
-    where
-      left-is : suc (job .layout .aisles) - j ≡ suc (job .layout .aisles - j)
-      left-is = omega arith
-
-      at-j : Entry work′ j s q
-      at-j = stored .done (q * 8 + s) (omega arith) ∙ holds s q t h ∙ ap (λ n. values job n j (stateOf s) (demandOf (radices job) q)) (sym left-is)
-
-      here : j ≡ i → Entry work′ i s q
-      here e = subst (λ k. Entry work′ k s q) e at-j
-
-      later : j < i → Entry work′ i s q
-      later k = stored .rest ((i - 1) * 2048 + (q * 8 + s)) (inr (omega arith)) ∙ table i s q k m t h
-
-  -- a row of the table that is loaded
-  pub row-loaded : (j : ℕ) (work next : List ℕ) → TableFrom job 1 work → 1 ≤ j → j ≤ job .layout .aisles → ((k : ℕ) → k < 2048 → getD next k 0 ≡ getD work ((j - 1) * 2048 + k) 0) → RowHolds job (suc (job .layout .aisles) - j) j next
-  row-loaded j work next table low high same s q l h = same (q * 8 + s) (omega arith) ∙ table j s q low high l h
+-- it holds the table's values with no aisle left
+pub end-holds : (job : Job) → weight (job .lines) ≤ 256 → (j : ℕ) → RowHolds job 0 j endRow
+end-holds job small j s q l h =
+    end-at (q * 8 + s) (omega arith)
+    ∙ ap (λ b. cond b 0 noTour) (end-place s q l ∙ ap₂ _&&_ (sym (closed-code s)) (sym (met-zero job q h)))
 
 -- a flag is the number of its test
 pub flag-is : (r : ℕ) (b : Bool) → bit r ≡ b → r < 2 → r ≡ flagOf b
@@ -104,67 +91,96 @@ pub tried-five : (n : ℕ) → triedAt n ≤ 5
 tried-five zero = omega arith
 tried-five (suc n) = omega arith
 
--- an aisle whose maps are filled is ready
-pub aisle-ready : (job : Job) → Admitted job → (j : ℕ) (fronts backs : List ℕ) → MapsReady job j fronts backs → 6656 ≤ length fronts → 6656 ≤ length backs → AisleReady (aisleOf job j) fronts backs
+-- an aisle by its numbers
+abbrev aisle-with : Layout → ℕ → ℕ → ℕ → ℕ → ℕ → Aisle
+aisle-with z p h w side tried = record { layout = z; policy = p; holds = h; weight = w; side = side; tried = tried }
+
+-- the numbers of an aisle of an admitted job are in range
+pub aisle-range : (job : Job) → Admitted job → (j : ℕ) → InRange (aisleOf job j)
 unfolding aisleOf
-aisle-ready job ok j fronts backs maps fl bl =
+aisle-range job ok j =
     record {
       bounds = ok .layout;
       policy-below = policy-code-below (job .policy);
       holds-below = flag-below (holdsListed job j);
       small = ok .light;
-      fronts-long = fl;
-      backs-long = bl;
+      side-below = side-below (job .layout .depot) j;
+      few = tried-five (job .layout .aisles - j);
+    }
+
+-- an aisle whose maps are filled is ready
+pub aisle-ready : (job : Job) → Admitted job → (j : ℕ) (fronts backs : List ℕ) → MapsReady job j fronts backs
+    → mapSize ≤ length fronts → mapSize ≤ length backs → AisleReady (aisleOf job j) fronts backs
+unfolding aisleOf
+aisle-ready job ok j fronts backs maps fronts-long backs-long =
+    record {
+      aisle = aisle-range job ok j;
+      fronts-long = fronts-long;
+      backs-long = backs-long;
       front-below = λ h q l w. subst (λ n. n < weight (job .lines)) (sym (maps .front h q l w)) (below-weight job j (Bottom h) q);
       back-below = λ i q l m w. subst (λ n. n < weight (job .lines)) (sym (maps .back i q l m w)) (below-weight job j (Top i) q);
     }
 
--- one aisle of the table, from what each part of the code gives
-pub layer-holds : (job : Job) → Admitted job → (n j : ℕ) (next fronts backs after row next′ : List ℕ) (x : Aisle) (tried side w : ℕ) → x ≡ aisleOf job j → tried ≡ triedAt n → side ≡ sideOf (job .layout .depot) j → w ≡ weight (job .lines) → RowHolds job n (suc j) next → MapsReady job j fronts backs → AfterFilled after next tried (policyOf (x .policy)) side (job .layout .width) w → RowFilled x row after fronts backs → ((k : ℕ) → k < 2048 → getD next′ k 0 ≡ getD row k 0) → RowHolds job (suc n) j next′
-unfolding aisleOf
-layer-holds job ok n j next fronts backs after row next′ x tried side w x-is tried-is side-is w-is holds maps filled rows copied =
-    row-copied job (ok .light) (suc n) j row next′
-    (row-value job (ok .stock) n j after fronts backs row maps (after-value job n j next holds after filled′) rows′)
-    copied
-  where
-    filled′ : AfterFilled after next (triedAt n) (policyOf (policyCode (job .policy))) (sideOf (job .layout .depot) j) (job .layout .width) (weight (job .lines))
-    filled′ =
-        subst (λ t. AfterFilled after next t (policyOf (policyCode (job .policy))) (sideOf (job .layout .depot) j) (job .layout .width) (weight (job .lines))) tried-is
-        (subst (λ t. AfterFilled after next tried (policyOf (policyCode (job .policy))) t (job .layout .width) (weight (job .lines))) side-is
-        (subst (λ t. AfterFilled after next tried (policyOf (policyCode (job .policy))) side (job .layout .width) t) w-is
-        (subst (λ (y : Aisle). AfterFilled after next tried (policyOf (y .policy)) side (job .layout .width) w) x-is filled)))
+module _ (job : Job) (o : Order) (of : OrderOf job o) where
+  -- the order's aisles are the job's
+  pub order-aisles : o .layout .aisles ≡ job .layout .aisles
+  order-aisles = ap (λ (z : Layout). z .aisles) (of .layout)
 
-    rows′ : RowFilled (aisleOf job j) row after fronts backs
-    rows′ = subst (λ (y : Aisle). RowFilled y row after fronts backs) x-is rows
+  pub order-few : o .layout .aisles ≤ 16
+  order-few = omega (arith, order-aisles, within (job .layout) (of .admitted .layout) .aisles .1)
 
--- the table while it is filled: the rows behind aisle j are there, and so is a copy of the last of them
-pub record Filling (job : Job) (j : ℕ) (work₀ work next : List ℕ) : Type 0 where
-  pub seen : j ≤ job .layout .aisles
-  pub kept : length work ≡ length work₀
-  pub long : length next ≡ 2048
-  pub table : TableFrom job (suc j) work
-  pub row : RowHolds job (job .layout .aisles - j) (suc j) next
+  module _ (j : ℕ) (low : 1 ≤ j) (high : j ≤ o .layout .aisles) where
+    -- what the maps of an aisle are made from
+    pub maps-asked : MapsAsked job (o .shelf) (o .digits) (o .layout .cells) j
+    maps-asked =
+        record {
+          admitted = of .admitted;
+          shelf-of = of .shelf;
+          digits-of = of .digits;
+          cells-are = ap (λ (z : Layout). z .cells) (of .layout);
+          aisle = (low, omega (arith, order-aisles));
+        }
 
-module _ (job : Job) (small : weight (job .lines) ≤ 256) where
-  pub filling-start : (work next : List ℕ) → length next ≡ 2048 → ((k : ℕ) → k < 2048 → getD next k 0 ≡ endEntry k) → Filling job (job .layout .aisles) work work next
-  filling-start work next long entries =
-      let none-left : 0 ≡ job .layout .aisles - job .layout .aisles = omega arith in
-      record {
-        seen = omega arith;
-        kept = refl;
-        long = long;
-        table = λ i s q l m t h. absurd (omega arith);
-        row = subst (λ n. RowHolds job n (suc (job .layout .aisles)) next) none-left (end-holds job small (suc (job .layout .aisles)) next entries);
-      }
+  -- the numbers of an aisle, one by one
+  pub aisle-is : (j h side tried : ℕ) → bit h ≡ holdsListed job j → h < 2 → side ≡ sideOf (o .layout .depot) j → tried ≡ triedAt (o .layout .aisles - j)
+      → aisle-with (o .layout) (o .policy) h (o .digits .weight) side tried ≡ aisleOf job j
+  unfolding aisleOf
+  aisle-is j h side tried listed flag side-is tried-is =
+      ap (λ (z : Layout). aisle-with z (o .policy) h (o .digits .weight) side tried) (of .layout)
+      ∙ ap₂ (λ p n. aisle-with (job .layout) p n (o .digits .weight) side tried) (of .policy) (flag-is h (holdsListed job j) listed flag)
+      ∙ ap₂ (λ w n. aisle-with (job .layout) (policyCode (job .policy)) (flagOf (holdsListed job j)) w n tried) (of .digits .counted) (side-is ∙ ap (λ (z : Layout). sideOf (z .depot) j) (of .layout))
+      ∙ ap (aisle-with (job .layout) (policyCode (job .policy)) (flagOf (holdsListed job j)) (weight (job .lines)) (sideOf (job .layout .depot) j))
+      (tried-is ∙ ap (λ n. triedAt (n - j)) order-aisles)
 
-  pub filling-next : (j : ℕ) (work₀ work work′ next next′ : List ℕ) → 0 < j → Filling job j work₀ work next → length next′ ≡ length next → RowHolds job (suc (job .layout .aisles - j)) j next′ → StoredTo work work′ next′ ((j - 1) * 2048) 2048 → Filling job (j - 1) work₀ work′ next′
-  filling-next j work₀ work work′ next next′ low f len row stored =
-      let back : suc (j - 1) ≡ j = omega arith in
-      let left : job .layout .aisles - (j - 1) ≡ suc (job .layout .aisles - j) = omega (arith, f .seen) in
-      record {
-        seen = omega (arith, f .seen);
-        kept = stored .kept ∙ f .kept;
-        long = len ∙ f .long;
-        table = subst (λ k. TableFrom job k work′) (sym back) (table-more job small j work work′ next′ low (f .seen) (f .table) stored row);
-        row = subst (λ k. RowHolds job (job .layout .aisles - (j - 1)) k next′) (sym back) (subst (λ n. RowHolds job n j next′) (sym left) row);
-      }
+-- an aisle of a job, given as such
+module _ (job : Job) (j : ℕ) (x : Aisle) (x-is : x ≡ aisleOf job j) where
+  abbrev right : ℕ
+  right = job .layout .aisles - j
+
+  pub same-aisles : x .layout .aisles ≡ job .layout .aisles
+  unfolding aisleOf
+  same-aisles = ap (λ (y : Aisle). y .layout .aisles) x-is
+
+  pub same-weight : x .weight ≡ weight (job .lines)
+  unfolding aisleOf
+  same-weight = ap (λ (y : Aisle). y .weight) x-is
+
+  -- the row behind the actions, out of the row of the next aisle
+  pub behind-holds : (after next : List ℕ) → RowHolds job right (suc j) next → AfterFilled x after next → AfterHolds job right j after
+  behind-holds after next holds filled =
+      after-value job right j next holds refl after (subst (λ (y : Aisle). AfterFilled y after next) x-is filled)
+
+  module _ (ok : Admitted job) where
+    pub in-range : InRange x
+    in-range = subst InRange (sym x-is) (aisle-range job ok j)
+
+    -- with its maps the aisle is ready
+    pub ready : (fronts backs : List ℕ) → MapsReady job j fronts backs → mapSize ≤ length fronts → mapSize ≤ length backs → AisleReady x fronts backs
+    ready fronts backs maps fronts-long backs-long =
+        subst (λ y. AisleReady y fronts backs) (sym x-is) (aisle-ready job ok j fronts backs maps fronts-long backs-long)
+
+    -- the row of the aisle, out of the row behind its actions
+    pub layer-holds : (after fronts backs row : List ℕ) → MapsReady job j fronts backs → AfterHolds job right j after → RowFilled x row after fronts backs
+        → RowHolds job (suc right) j row
+    layer-holds after fronts backs row maps holds filled =
+        row-value job (ok .stock) right j after fronts backs row maps holds (subst (λ (y : Aisle). RowFilled y row after fronts backs) x-is filled)

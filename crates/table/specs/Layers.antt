@@ -8,7 +8,6 @@ use lib.Dec.{eqb}
 use lib.ListN.{length, getD}
 use Rattle.rules.specs.declared.Layout.{Layout}
 use Rattle.rules.specs.declared.Action.{Action}
-use Rattle.rules.specs.Store.{layoutInBounds}
 use Rattle.rules.specs.Plans.{Fits}
 use Rattle.rules.specs.BestPlan.{actionsOf}
 use Rattle.optimum.specs.Routing.{sat, leastOf}
@@ -18,6 +17,7 @@ use Rattle.machine.specs.States.{stateCode, stateOf}
 use Rattle.machine.specs.Steps.{policyOf, sampleAction, bit, stepOf}
 use Rattle.table.specs.Candidates.{candidateOf, candidateLength, candidateHalves}
 use Rattle.table.specs.Rows.{tab, nextAt}
+use Rattle.table.specs.Crossings.{InRange}
 
 -- the number of the state after a kind of action, with the answer of the half rule given
 unfoldable pub stepWith : Aisle → ℕ → Bool → ℕ → ℕ
@@ -43,10 +43,7 @@ throughAction x after fronts backs s q a = throughCandidate x after fronts backs
 
 -- an aisle's numbers are in range, and its maps lead to demands below the weight
 pub record AisleReady (x : Aisle) (fronts backs : List ℕ) : Type 0 where
-  pub bounds : layoutInBounds (x .layout) ≡ true
-  pub policy-below : x .policy < 5
-  pub holds-below : x .holds < 2
-  pub small : x .weight ≤ 256
+  pub aisle : InRange x
   pub fronts-long : 6656 ≤ length fronts
   pub backs-long : 6656 ≤ length backs
   pub front-below : (h q : ℕ) → h ≤ x .layout .cells → q < x .weight → getD fronts (h * 256 + q) 0 < x .weight

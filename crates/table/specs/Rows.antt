@@ -2,17 +2,19 @@
 use Prim.Native.Nat.{ℕ, _+_, _*_, _≤_, _<_, min}
 use mathlib.Core.Path.{_≡_}
 use mathlib.Core.List.{List}
+use mathlib.Core.Logic.{_⊎_}
 use mathlib.Core.Bool.{Bool, true, false, cond}
 use lib.Dec.{ltb}
-use lib.ListN.{length, getD, take}
-use Rattle.rules.specs.declared.Policy.{Policy}
-use Rattle.rules.specs.declared.Passage.{Passage}
-use Rattle.rules.specs.Plans.{backTreads, frontTreads}
-use Rattle.rules.specs.BestPlan.{passagesInOrder}
-use Rattle.optimum.specs.Routing.{noTour, sat, leastOf}
-use Rattle.table.specs.declared.passages.Crossing.{Crossing}
-use Rattle.machine.specs.States.{stateCode, stateOf}
-use Rattle.machine.specs.Steps.{policyOf, passageOf, crossOf}
+use lib.ListN.{length, getD}
+use Rattle.optimum.specs.Routing.{noTour, sat}
+
+-- the numbers of a row: eight states for each of 256 demands
+abbrev pub numbers : ℕ
+numbers = 2048
+
+-- the numbers of the work area: sixteen rows
+abbrev pub workArea : ℕ
+workArea = 32768
 
 -- what a row of the table holds for a state and a demand
 abbrev pub tab : List ℕ → ℕ → ℕ → ℕ
@@ -22,6 +24,12 @@ tab row s q = getD row (q * 8 + s) 0
 abbrev pub Shorter : List ℕ → ℕ → List ℕ → ℕ → ℕ → List ℕ → ℕ → Type 0
 Shorter row at perm from cost out n =
     (s : ℕ) → s < n → getD out s 0 ≡ min (getD row (at + s) 0) (sat cost (getD perm (from + s) 0))
+
+-- the first n of some numbers stand in a row from a place on; nothing else changes
+pub record StoredTo (row row′ some : List ℕ) (at n : ℕ) : Type 0 where
+  pub kept : length row′ ≡ length row
+  pub done : (k : ℕ) → k < n → getD row′ (at + k) 0 ≡ getD some k 0
+  pub rest : (k : ℕ) → (k < at) ⊎ (at + n ≤ k) → getD row′ k 0 ≡ getD row k 0
 
 -- what relaxing a row needs: lists that are long enough, demands that stay below the weight
 pub record RelaxReady (row perm map : List ℕ) (base weight : ℕ) : Type 0 where
@@ -56,46 +64,3 @@ pub record Permuted (perm perm′ after steps : List ℕ) (weight n : ℕ) : Typ
 abbrev pub LivesAs : List ℕ → Bool → Type 0
 LivesAs steps true = (s : ℕ) × (s < 8) × (getD steps s 0 < 8)
 LivesAs steps false = (s : ℕ) → s < 8 → 8 ≤ getD steps s 0
-
--- the number of the state after a passage
-unfoldable pub crossCode : ℕ → ℕ → ℕ → ℕ → ℕ
-crossCode policy side passage s = stateCode (crossOf (policyOf policy) (passageOf passage) side (stateOf s))
-
--- the way on over a passage
-unfoldable pub throughPassage : List ℕ → Policy → ℕ → ℕ → ℕ → ℕ → Passage → ℕ
-throughPassage next policy side width s q p =
-    sat ((backTreads p + frontTreads p) * width) (nextAt next (stateCode (crossOf policy p side (stateOf s))) q)
-
--- what the ways on need: a next row that is long enough, numbers in range
-pub record NextReady (next : List ℕ) (policy side width s q : ℕ) : Type 0 where
-  pub long : q * 8 + 8 ≤ length next
-  pub demand : q < 256
-  pub policy-below : policy < 5
-  pub side-below : side < 3
-  pub state-below : s < 9
-  pub width-fits : width ≤ 400
-
--- what one passage needs: rows that are long enough, numbers in range
-pub record CrossingReady (after next : List ℕ) (x : Crossing) : Type 0 where
-  pub after-long : x .weight * 8 ≤ length after
-  pub next-long : x .weight * 8 ≤ length next
-  pub small : x .weight ≤ 256
-  pub policy-below : x .policy < 5
-  pub side-below : x .side < 3
-  pub passage-below : x .passage < 5
-  pub width-fits : x .width ≤ 400
-
--- each number of a row is the lesser of what it was and the way on over a passage; nothing else changes
-pub record PassageTried (after after′ next : List ℕ) (x : Crossing) : Type 0 where
-  pub kept : length after′ ≡ length after
-  pub done : (s q : ℕ) → s < 8 → q < x .weight → tab after′ s q ≡ min (tab after s q) (throughPassage next (policyOf (x .policy)) (x .side) (x .width) s q (passageOf (x .passage)))
-  pub rest : (k : ℕ) → x .weight * 8 ≤ k → getD after′ k 0 ≡ getD after k 0
-
--- the row behind the actions holds the least over the first `tried` passages
-abbrev pub AfterFilled : List ℕ → List ℕ → ℕ → Policy → ℕ → ℕ → ℕ → Type 0
-AfterFilled after next tried policy side width weight =
-    (s q : ℕ) → s < 9 → q < weight → nextAt after s q ≡ leastOf (throughPassage next policy side width s q) (take tried passagesInOrder)
-
--- the least over the passages from a state and a demand behind the actions
-unfoldable pub leastAfter : List ℕ → ℕ → Policy → ℕ → ℕ → ℕ → ℕ → ℕ
-leastAfter next tried policy side width s q = leastOf (throughPassage next policy side width s q) (take tried passagesInOrder)

@@ -4,16 +4,21 @@ use mathlib.Core.Path.{_≡_}
 use mathlib.Core.List.{List}
 use mathlib.Core.Bool.{Bool, cond}
 use lib.Dec.{ltb, eqb}
-use lib.ListN.{getD}
+use lib.ListN.{length, getD, set, replicate}
 use Rattle.rules.specs.Jobs.{Job, holdsListed}
-use Rattle.rules.specs.Refusals.{weight}
-use Rattle.optimum.specs.Table.{value}
+use Rattle.rules.specs.Machine.{State}
+use Rattle.rules.specs.Refusals.{Admitted, weight}
+use Rattle.optimum.specs.Table.{afterAction, value}
 use Rattle.optimum.specs.Demand.{radices, demandOf}
-use Rattle.optimum.specs.Routing.{routing, allActions}
-use Rattle.table.specs.declared.layers.Aisle.{Aisle}
+use Rattle.optimum.specs.Routing.{noTour, routing, allActions}
 use Rattle.machine.specs.States.{stateOf}
 use Rattle.machine.specs.Steps.{policyCode}
-use Rattle.table.specs.Rows.{tab}
+use Rattle.values.specs.Shelves.{ShelfOf}
+use Rattle.demand.specs.Digits.{DigitsOf}
+use Rattle.table.specs.declared.filling.Order.{Order}
+use Rattle.table.specs.declared.layers.Aisle.{Aisle}
+use Rattle.table.specs.Rows.{numbers, workArea, tab, nextAt}
+use Rattle.table.specs.Crossings.{InRange}
 
 -- where aisle j lies: left of the depot (0), at it (1) or right of it (2)
 unfoldable pub sideOf : ℕ → ℕ → ℕ
@@ -23,27 +28,78 @@ sideOf d j = cond (ltb j d) 0 (cond (eqb j d) 1 2)
 abbrev pub flagOf : Bool → ℕ
 flagOf b = cond b 1 0
 
--- the numbers of aisle j
-unfoldable pub aisleOf : Job → ℕ → Aisle
-aisleOf job j =
-    record { layout = job .layout; policy = policyCode (job .policy); holds = flagOf (holdsListed job j); weight = weight (job .lines) }
-
 -- how many passages are tried with n aisles to the right: 00 alone behind the last aisle, all elsewhere
 abbrev pub triedAt : ℕ → ℕ
 triedAt zero = 1
 triedAt (suc n) = 5
 
+-- what an order tells of a job that is admitted
+pub record OrderOf (job : Job) (o : Order) : Type 0 where
+  pub admitted : Admitted job
+  pub layout : o .layout ≡ job .layout
+  pub policy : o .policy ≡ policyCode (job .policy)
+  pub shelf : ShelfOf job (o .shelf)
+  pub digits : DigitsOf job (o .digits)
+
+-- what the rows need of aisle j
+unfoldable pub aisleOf : Job → ℕ → Aisle
+aisleOf job j =
+    record {
+      layout = job .layout;
+      policy = policyCode (job .policy);
+      holds = flagOf (holdsListed job j);
+      weight = weight (job .lines);
+      side = sideOf (job .layout .depot) j;
+      tried = triedAt (job .layout .aisles - j);
+    }
+
+-- the table's values with n aisles left from aisle j on, and behind the actions of aisle j with n aisles to the right
+abbrev pub values : Job → ℕ → ℕ → State → List ℕ → ℕ
+values job = value (routing job (allActions job))
+
+abbrev pub behind : Job → ℕ → ℕ → State → List ℕ → ℕ
+behind job n j = afterAction (routing job (allActions job)) (values job n (suc j)) n j
+
 -- a row holds the table's values with n aisles left from aisle j on
 abbrev pub RowHolds : Job → ℕ → ℕ → List ℕ → Type 0
 RowHolds job n j row =
-    (s q : ℕ) → s < 8 → q < weight (job .lines) → tab row s q ≡ value (routing job (allActions job)) n j (stateOf s) (demandOf (radices job) q)
+    (s q : ℕ) → s < 8 → q < weight (job .lines) → tab row s q ≡ values job n j (stateOf s) (demandOf (radices job) q)
+
+-- a row holds the values behind the actions of aisle j, the dead state's too
+abbrev pub AfterHolds : Job → ℕ → ℕ → List ℕ → Type 0
+AfterHolds job n j after =
+    (s q : ℕ) → s < 9 → q < weight (job .lines) → nextAt after s q ≡ behind job n j (stateOf s) (demandOf (radices job) q)
 
 -- the rows of the aisles from j to m, 2,048 numbers each, hold the table's values
 abbrev pub TableFrom : Job → ℕ → List ℕ → Type 0
 TableFrom job j work =
     (i s q : ℕ) → j ≤ i → i ≤ job .layout .aisles → s < 8 → q < weight (job .lines)
-    → getD work ((i - 1) * 2048 + (q * 8 + s)) 0 ≡ value (routing job (allActions job)) (suc (job .layout .aisles) - i) i (stateOf s) (demandOf (radices job) q)
+    → getD work ((i - 1) * numbers + (q * 8 + s)) 0 ≡ values job (suc (job .layout .aisles) - i) i (stateOf s) (demandOf (radices job) q)
 
--- the row behind the last aisle: length 0 in the closed state with nothing lacking, else 'none'
-unfoldable pub endEntry : ℕ → ℕ
-endEntry i = cond (eqb i 1) 0 65535
+-- the row behind the last aisle: length 0 in the closed state, 1, with demand 0, and else 'none'
+unfoldable pub endRow : List ℕ
+endRow = set (replicate numbers noTour) 1 0
+
+-- what the row behind the actions of aisle j is made from
+pub record BehindAsked (x : Aisle) (j : ℕ) (after work : List ℕ) : Type 0 where
+  pub aisle : InRange x
+  pub few : x .layout .aisles ≤ 16
+  pub after-long : numbers ≤ length after
+  pub work-long : workArea ≤ length work
+
+-- with the rows behind aisle j filled, the row behind its actions holds the table's values
+pub record BehindFilled (x : Aisle) (j : ℕ) (after after′ work : List ℕ) : Type 0 where
+  pub kept : length after′ ≡ length after
+  pub filled : (job : Job) → x ≡ aisleOf job j → TableFrom job (suc j) work → AfterHolds job (job .layout .aisles - j) j after′
+
+-- what the row of aisle j is made from
+pub record LayerAsked (o : Order) (j : ℕ) (work : List ℕ) : Type 0 where
+  pub order : (job : Job) × OrderOf job o
+  pub here : (1 ≤ j) × (j ≤ o .layout .aisles)
+  pub few : o .layout .aisles ≤ 16
+  pub work-long : workArea ≤ length work
+
+-- with the rows behind aisle j filled, its own is filled too
+pub record LayerFilled (o : Order) (j : ℕ) (work work′ : List ℕ) : Type 0 where
+  pub kept : length work′ ≡ length work
+  pub filled : (job : Job) → OrderOf job o → TableFrom job (suc j) work → TableFrom job j work′

@@ -3,7 +3,9 @@ use crate::candidates::aisle_length;
 use crate::candidates::back_half;
 use crate::candidates::front_half;
 use crate::candidates::position_of;
+use crate::rows::NONE;
 use crate::rows::NUMBERS;
+use crate::rows::STATES;
 use crate::rows::fill_none;
 use crate::rows::lives;
 use crate::rows::permute;
@@ -13,20 +15,24 @@ use machine::action_step;
 use rules::Layout;
 ghost use Prim.Native.Nat.{_*_, _+_, _<_, _≤_, ℕ};
 ghost use Rattle.machine.specs.Steps.{bit};
+ghost use Rattle.table.specs.Crossings.{InRange};
 ghost use Rattle.table.specs.Layers.{AisleReady, PassDone, RowFilled, passHalves, passKind, passesOf, stepWith};
-ghost use Rattle.table.specs.Rows.{RelaxReady, RelaxedRow};
+ghost use Rattle.table.specs.Rows.{RelaxReady, RelaxedRow, numbers};
 ghost use Rattle.table.specs.Turns.{SweepReady, SweptTo, TurnsOf, backAt, backTurn, frontAt, frontCost, frontTurn};
 ghost use Rattle.rules.specs.Store.{layoutInBounds};
 ghost use lib.ListN.{getD, length};
 ghost use mathlib.Core.Bool.{true};
 ghost use mathlib.Core.Path.{_≡_};
 
-// What the table needs of an aisle: the layout, the policy, whether it holds a listed article (0 or 1), and the weight.
+// What the table needs of an aisle: the layout, the policy, whether it holds a listed article (0 or 1), the weight, where it
+// lies (left of the depot 0, at it 1, right of it 2), and how many passages are tried behind it.
 pub struct Aisle {
     pub layout: Layout,
     pub policy: usize,
     pub holds: usize,
     pub weight: usize,
+    pub side: usize,
+    pub tried: usize,
 }
 
 // What the turns of a kind of action cost, by the cell that the front and the back part reach: 65,535 where it has none.
@@ -38,15 +44,15 @@ pub struct Turns {
 }
 
 // The state after a kind of action, for each of eight states.
-fn steps_of(x: Aisle, kind: usize, halves: usize) -> [usize; 8]
-    requires { ⌜ (x .policy < 5) × (x .holds < 2) × (kind < 6) × (halves < 2) ⌝ }
+fn steps_of(x: Aisle, kind: usize, halves: usize) -> [usize; STATES]
+    requires { ⌜ InRange x × (kind < 6) × (halves < 2) ⌝ }
     ensures { λ r. ⌜ ((s : ℕ) → s < 8 → getD r s 0 ≡ stepWith x kind (bit halves) s) ⌝ }
 {
     let policy = x.policy;
     let holds = x.holds;
-    let mut out = [0usize; 8];
+    let mut out = [0usize; STATES];
     let mut s = 0;
-    while s < 8 {
+    while s < STATES {
         out[s] = action_step(policy, kind, holds, halves, s);
         s += 1;
     }
@@ -101,7 +107,7 @@ fn front_turn(z: Layout, kind: usize, halves: usize, h: usize) -> u16
     if front_at(z.cells, kind, h) & ((halves == 0) | front_half(z, h)) {
         return front_cost(z, kind, h) as u16;
     }
-    65535
+    NONE
 }
 
 // The back turn of a kind at height i; with halves = 1 in the back half alone.
@@ -112,7 +118,7 @@ fn back_turn(z: Layout, kind: usize, halves: usize, i: usize) -> u16
     if back_at(z.cells + 1, kind, i) & ((halves == 0) | back_half(z, i)) {
         return (2 * (aisle_length(z) - position_of(z, i))) as u16;
     }
-    65535
+    NONE
 }
 
 // The turns of a kind.
@@ -120,8 +126,8 @@ fn turns_of(z: Layout, kind: usize, halves: usize) -> Turns
     requires { ⌜ (layoutInBounds z ≡ true) × (halves < 2) ⌝ }
     ensures { λ r. ⌜ TurnsOf z kind (bit halves) r ⌝ }
 {
-    let mut front = [65535u16; 26];
-    let mut back = [65535u16; 26];
+    let mut front = [NONE; 26];
+    let mut back = [NONE; 26];
     let top = z.cells + 1;
     let mut h = 0;
     while h <= top {
@@ -144,7 +150,7 @@ fn relax_turn<'a>(
     requires { ⌜ (h ≤ 25) × RelaxReady (now row) (now perm) (now map) (h * 256) weight ⌝ }
     ensures { λ r. ⌜ RelaxedRow (now (row .entry)) (now (row .exit)) (now (perm .entry)) (now (map .entry)) (h * 256) cost weight ⌝ }
 {
-    if cost < 65535 {
+    if cost < NONE {
         relax_row(row, perm, map, h * DEMANDS, cost, weight);
     }
 }
@@ -162,7 +168,7 @@ fn sweep<'a>(
     requires { ⌜ SweepReady (now row) (now perm) (now fronts) (now backs) (t .top) weight ⌝ }
     ensures { λ r. ⌜ SweptTo (now (row .entry)) (now (row .exit)) (now (perm .entry)) (now (fronts .entry)) (now (backs .entry)) (t .front) (t .back) (t .top) weight 0 ⌝ }
 {
-    let mut acc = [65535u16; NUMBERS];
+    let mut acc = [NONE; NUMBERS];
     let mut h = t.top;
     while 0 < h {
         let back = t.back[h];
@@ -183,7 +189,7 @@ fn relax_pass<'a>(
     x: Aisle,
     pass: usize,
 )
-    requires { ⌜ AisleReady x (now fronts) (now backs) × (2048 ≤ length (now row)) × (2048 ≤ length (now after)) × (pass < 9) ⌝ }
+    requires { ⌜ AisleReady x (now fronts) (now backs) × (numbers ≤ length (now row)) × (numbers ≤ length (now after)) × (pass < 9) ⌝ }
     ensures { λ r. ⌜ PassDone x (now (row .entry)) (now (row .exit)) (now (after .entry)) (now (fronts .entry)) (now (backs .entry)) (passKind pass) (passHalves pass) ⌝ }
 {
     let halves = pass / 6;
@@ -207,12 +213,12 @@ fn passes_of(policy: usize) -> usize
 
 // The row of an aisle: for each demand and state the least over all actions.
 pub fn fill_row<'a>(row: &mut [u16], after: &[u16], fronts: &'a [u16], backs: &'a [u16], x: Aisle)
-    requires { ⌜ AisleReady x (now fronts) (now backs) × (2048 ≤ length (now row)) × (2048 ≤ length (now after)) ⌝ }
+    requires { ⌜ AisleReady x (now fronts) (now backs) × (numbers ≤ length (now row)) × (numbers ≤ length (now after)) ⌝ }
     ensures { λ r. ⌜ RowFilled x (now (row .exit)) (now (after .entry)) (now (fronts .entry)) (now (backs .entry)) × (length (now (row .exit)) ≡ length (now (row .entry))) ⌝ }
 {
     let passes = passes_of(x.policy);
     let weight = x.weight;
-    fill_none(row, weight * 8);
+    fill_none(row, weight * STATES);
     let mut pass = 0;
     while pass < passes {
         relax_pass(row, after, fronts, backs, x, pass);

@@ -8,4 +8,3 @@ pub mod filling;
 pub mod layers;
 pub mod passages;
 pub mod rows;
-pub mod stored;

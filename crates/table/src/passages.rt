@@ -1,5 +1,7 @@
 // The row behind the actions of an aisle: the ways on over each passage.
+use crate::layers::Aisle;
 use crate::rows::NUMBERS;
+use crate::rows::STATES;
 use crate::rows::fill_none;
 use crate::rows::lives;
 use crate::rows::permute;
@@ -7,8 +9,8 @@ use crate::rows::relax_row;
 use demand::digits::DEMANDS;
 use machine::passage_step;
 ghost use Prim.Native.Nat.{_*_, _+_, _<_, _≤_, ℕ};
-ghost use Rattle.machine.specs.Steps.{passageOf, policyOf};
-ghost use Rattle.table.specs.Rows.{AfterFilled, CrossingReady, PassageTried, crossCode};
+ghost use Rattle.machine.specs.Steps.{passageOf};
+ghost use Rattle.table.specs.Crossings.{AfterFilled, CrossingReady, InRange, PassageTried, crossCode};
 ghost use Rattle.rules.specs.Plans.{backTreads, frontTreads};
 ghost use lib.ListN.{getD, length};
 ghost use mathlib.Core.Path.{_≡_};
@@ -27,14 +29,16 @@ pub fn passage_length(passage: usize, width: usize) -> usize
     2 * width
 }
 
-// The state after a passage, for each of eight states.
-fn passage_steps(policy: usize, side: usize, passage: usize) -> [usize; 8]
-    requires { ⌜ (policy < 5) × (side < 3) × (passage < 5) ⌝ }
-    ensures { λ r. ⌜ ((s : ℕ) → s < 8 → getD r s 0 ≡ crossCode policy side passage s) ⌝ }
+// The state after a passage behind an aisle, for each of eight states.
+fn passage_steps(x: Aisle, passage: usize) -> [usize; STATES]
+    requires { ⌜ InRange x × (passage < 5) ⌝ }
+    ensures { λ r. ⌜ ((s : ℕ) → s < 8 → getD r s 0 ≡ crossCode x passage s) ⌝ }
 {
-    let mut out = [0usize; 8];
+    let policy = x.policy;
+    let side = x.side;
+    let mut out = [0usize; STATES];
     let mut s = 0;
-    while s < 8 {
+    while s < STATES {
         out[s] = passage_step(policy, passage, side, s);
         s += 1;
     }
@@ -54,56 +58,33 @@ fn plain_map() -> [u16; DEMANDS]
     out
 }
 
-// A passage and where it lies, with the numbers that its row needs.
-pub struct Crossing {
-    pub policy: usize,
-    pub side: usize,
-    pub width: usize,
-    pub passage: usize,
-    pub weight: usize,
-}
-
-// The ways over one passage, for each demand and state.
-fn relax_passage(after: &mut [u16], next: &[u16], x: Crossing)
-    requires { ⌜ CrossingReady (now after) (now next) x ⌝ }
-    ensures { λ r. ⌜ PassageTried (now (after .entry)) (now (after .exit)) (now (next .entry)) x ⌝ }
+// The ways over one passage behind an aisle, for each demand and state.
+fn relax_passage(after: &mut [u16], next: &[u16], x: Aisle, passage: usize)
+    requires { ⌜ CrossingReady x (now after) (now next) × (passage < 5) ⌝ }
+    ensures { λ r. ⌜ PassageTried x (now (after .entry)) (now (after .exit)) (now (next .entry)) passage ⌝ }
 {
-    let passage = x.passage;
     let weight = x.weight;
-    let steps = passage_steps(x.policy, x.side, passage);
+    let steps = passage_steps(x, passage);
     if lives(steps) {
         let plain = plain_map();
         let mut perm = [0u16; NUMBERS];
         permute(&mut perm, next, steps, weight);
-        let cost = passage_length(passage, x.width) as u16;
+        let cost = passage_length(passage, x.layout.width) as u16;
         relax_row(after, &perm, &plain, 0, cost, weight);
     }
 }
 
-// The row behind the actions: for each demand and state the least over the passages.
-pub fn fill_after(
-    after: &mut [u16],
-    next: &[u16],
-    tried: usize,
-    policy: usize,
-    side: usize,
-    width: usize,
-    weight: usize,
-)
-    requires { ⌜ (weight * 8 ≤ length (now after)) × (weight * 8 ≤ length (now next)) × (weight ≤ 256) × (tried ≤ 5) × (policy < 5) × (side < 3) × (width ≤ 400) ⌝ }
-    ensures { λ r. ⌜ AfterFilled (now (after .exit)) (now (next .entry)) tried (policyOf policy) side width weight × (length (now (after .exit)) ≡ length (now (after .entry))) ⌝ }
+// The row behind the actions of an aisle: for each demand and state the least over the passages that are tried.
+pub fn fill_after(after: &mut [u16], next: &[u16], x: Aisle)
+    requires { ⌜ CrossingReady x (now after) (now next) ⌝ }
+    ensures { λ r. ⌜ AfterFilled x (now (after .exit)) (now (next .entry)) × (length (now (after .exit)) ≡ length (now (after .entry))) ⌝ }
 {
-    fill_none(after, weight * 8);
+    let tried = x.tried;
+    let weight = x.weight;
+    fill_none(after, weight * STATES);
     let mut p = 0;
     while p < tried {
-        let x = Crossing {
-            policy,
-            side,
-            width,
-            passage: p,
-            weight,
-        };
-        relax_passage(after, next, x);
+        relax_passage(after, next, x, p);
         p += 1;
     }
 }

@@ -4,21 +4,25 @@
 use demand::digits::wide;
 ghost use Prim.Native.Nat.{_*_, _+_, _<_, _≤_, min, ℕ};
 ghost use Rattle.optimum.specs.Routing.{sat};
-ghost use Rattle.table.specs.Rows.{LivesAs, Permuted, RelaxReady, RelaxedRow, Shorter, StateSet, nextAt};
-ghost use Rattle.table.specs.Stored.{StoredTo};
+ghost use Rattle.table.specs.Rows.{LivesAs, Permuted, RelaxReady, RelaxedRow, Shorter, StateSet, StoredTo, nextAt};
 ghost use lib.ListN.{getD, length};
 ghost use mathlib.Core.Path.{_≡_};
 
+// The states that a row has places for, the numbers of a row, and the number that stands for no tour.
+pub const STATES: usize = 8;
+
 pub const NUMBERS: usize = 2048;
+
+pub const NONE: u16 = 65535;
 
 // The sum, at most 65,535.
 fn plus(cost: u16, rest: u16) -> u16
     ensures { λ r. ⌜ r ≡ sat cost rest ⌝ }
 {
-    if rest < 65535 - cost {
+    if rest < NONE - cost {
         cost + rest
     } else {
-        65535
+        NONE
     }
 }
 
@@ -31,13 +35,13 @@ fn lesser(a: u16, b: u16) -> u16
 
 // For each of eight states the shorter of its value and the way of that cost. All are read before any is written:
 // the compiler then takes the eight at once.
-fn shorter<'a>(row: &'a [u16], at: usize, perm: &'a [u16], from: usize, cost: u16) -> [u16; 8]
+fn shorter<'a>(row: &'a [u16], at: usize, perm: &'a [u16], from: usize, cost: u16) -> [u16; STATES]
     requires { ⌜ (at + 8 ≤ length (now row)) × (from + 8 ≤ length (now perm)) ⌝ }
     ensures { λ r. ⌜ Shorter (now (row .entry)) at (now (perm .entry)) from cost r 8 ⌝ }
 {
-    let mut out = [0u16; 8];
+    let mut out = [0u16; STATES];
     let mut s = 0;
-    while s < 8 {
+    while s < STATES {
         out[s] = lesser(row[at + s], plus(cost, perm[from + s]));
         s += 1;
     }
@@ -45,12 +49,12 @@ fn shorter<'a>(row: &'a [u16], at: usize, perm: &'a [u16], from: usize, cost: u1
 }
 
 // Eight numbers into a row.
-fn put(row: &mut [u16], at: usize, v: [u16; 8])
+fn put(row: &mut [u16], at: usize, v: [u16; STATES])
     requires { ⌜ at + 8 ≤ length (now row) ⌝ }
     ensures { λ r. ⌜ StoredTo (now (row .entry)) (now (row .exit)) v at 8 ⌝ }
 {
     let mut s = 0;
-    while s < 8 {
+    while s < STATES {
         row[at + s] = v[s];
         s += 1;
     }
@@ -70,9 +74,9 @@ pub fn relax_row<'a>(
 {
     let mut q = 0;
     while q < weight {
-        let from = wide(map[base + q]) * 8;
-        let v = shorter(row, q * 8, perm, from, cost);
-        put(row, q * 8, v);
+        let from = wide(map[base + q]) * STATES;
+        let v = shorter(row, q * STATES, perm, from, cost);
+        put(row, q * STATES, v);
         q += 1;
     }
 }
@@ -84,7 +88,7 @@ pub fn fill_none(row: &mut [u16], n: usize)
 {
     let mut i = 0;
     while i < n {
-        row[i] = 65535;
+        row[i] = NONE;
         i += 1;
     }
 }
@@ -94,10 +98,10 @@ fn step_value(after: &[u16], to: usize, q: usize) -> u16
     requires { ⌜ (q < 256) × (q * 8 + 8 ≤ length (now after)) ⌝ }
     ensures { λ r. ⌜ r ≡ nextAt (now (after .entry)) to q ⌝ }
 {
-    if to < 8 {
-        return after[q * 8 + to];
+    if to < STATES {
+        return after[q * STATES + to];
     }
-    65535
+    NONE
 }
 
 // One state of a row: the values of the state that a step leads to.
@@ -107,30 +111,30 @@ fn permute_state(perm: &mut [u16], after: &[u16], s: usize, to: usize, weight: u
 {
     let mut q = 0;
     while q < weight {
-        perm[q * 8 + s] = step_value(after, to, q);
+        perm[q * STATES + s] = step_value(after, to, q);
         q += 1;
     }
 }
 
 // A row as a step sees it: for each state the value of the state that it leads to.
-pub fn permute(perm: &mut [u16], after: &[u16], steps: [usize; 8], weight: usize)
+pub fn permute(perm: &mut [u16], after: &[u16], steps: [usize; STATES], weight: usize)
     requires { ⌜ (weight ≤ 256) × (weight * 8 ≤ length (now perm)) × (weight * 8 ≤ length (now after)) ⌝ }
     ensures { λ r. ⌜ Permuted (now (perm .entry)) (now (perm .exit)) (now (after .entry)) steps weight 8 ⌝ }
 {
     let mut s = 0;
-    while s < 8 {
+    while s < STATES {
         permute_state(perm, after, s, steps[s], weight);
         s += 1;
     }
 }
 
 // Whether a step leads on from any state.
-pub fn lives(steps: [usize; 8]) -> bool
+pub fn lives(steps: [usize; STATES]) -> bool
     ensures { λ r. ⌜ LivesAs steps r ⌝ }
 {
     let mut s = 0;
-    while s < 8 {
-        if steps[s] < 8 {
+    while s < STATES {
+        if steps[s] < STATES {
             return true;
         }
         s += 1;

@@ -4,7 +4,7 @@ use Prim.Native.Nat.{_+_, _-_, _≤_}
 use mathlib.Core.Path.{ap}
 use lib.ListN.{getD}
 use Rattle.values.specs.Values.{jobOf}
-use Rattle.demand.specs.Shelves.{noLine}
+use Rattle.demand.specs.Digits.{noLine}
 use Rattle.demand.proofs.DigitLaws.{DigitsTo, digits-none, digits-fit, digits-one, digits-all, line-read, lines-count}
 use Rattle.demand.proofs.digits.digits_of.Statement.{statement}
 use Rattle.demand.proofs.digits.digits_of.Tie as tie

@@ -4,7 +4,7 @@ use Prim.Native.Nat.{ℕ, _+_, _*_, _-_, _≤_, _<_}
 use mathlib.Core.Path.{_≡_, refl, _∙_}
 use lib.ListN.{length, getD, length-set}
 use borrow.Author.Needs.{needs}
-use Rattle.demand.specs.Shelves.{PlaceOf, lessDigit}
+use Rattle.demand.specs.Digits.{PlaceOf, lessDigit}
 use Rattle.demand.proofs.Filling.{filled-one}
 use Rattle.demand.proofs.DigitLaws.{place-zero, place-below, taken-within}
 use Rattle.demand.proofs.digits.less_table.Statement.{statement}

@@ -4,7 +4,7 @@ use Prim.Native.Nat.{_+_, _*_, _-_, _≤_}
 use mathlib.Core.Path.{_≡_, _∙_, ap, subst}
 use lib.ListN.{getD}
 use borrow.Author.Needs.{needs}
-use Rattle.demand.specs.Shelves.{RowSet}
+use Rattle.demand.specs.Maps.{RowSet}
 use Rattle.demand.proofs.DemandMaps.{set-none, set-one, other-row}
 use Rattle.demand.proofs.maps.look_up.Statement.{statement}
 use Rattle.demand.proofs.maps.look_up.Tie as tie

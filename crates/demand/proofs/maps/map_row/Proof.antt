@@ -4,7 +4,7 @@ use Prim.Native.Nat.{ℕ, _+_, _*_, _-_, _≤_, _<_}
 use mathlib.Core.Path.{_≡_, sym, _∙_, ap}
 use lib.ListN.{getD}
 use borrow.Author.Needs.{needs}
-use Rattle.demand.specs.Shelves.{lessLine}
+use Rattle.demand.specs.Digits.{lessLine}
 use Rattle.demand.proofs.DigitLaws.{line-less}
 use Rattle.demand.proofs.DemandMaps.{row-of}
 use Rattle.demand.proofs.maps.map_row.Statement.{statement}

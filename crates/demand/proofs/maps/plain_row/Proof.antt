@@ -2,7 +2,7 @@
 use native.Mathlib.Omega.{arith}
 use Prim.Native.Nat.{_-_, _≤_}
 use mathlib.Core.Path.{_≡_, refl, subst}
-use Rattle.demand.specs.Shelves.{RowSet}
+use Rattle.demand.specs.Maps.{RowSet}
 use Rattle.demand.proofs.DemandMaps.{set-none, set-one}
 use Rattle.demand.proofs.maps.plain_row.Statement.{statement}
 use Rattle.demand.proofs.maps.plain_row.Tie as tie

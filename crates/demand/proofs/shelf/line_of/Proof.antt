@@ -1,24 +1,29 @@
--- `demand::shelf::line_of` meets its contract.
+-- `demand::shelf::line_of` meets its contract: the line is the first one from l on.
 use native.Mathlib.Omega.{arith}
-use Prim.Native.Nat.{_-_, _≤_}
+use Prim.Native.Nat.{_+_, _-_, _≤_, _<_}
 use mathlib.Core.Path.{_≡_, refl, sym, _∙_, ap}
-use lib.ListN.{getD, take, length-take}
+use mathlib.Core.List.{List, []}
+use lib.ListN.{length, take, drop, length-take, drop-of-length-le}
 use lib.Seq.{getD-take}
-use mathlib.Core.Bool.{false}
-use lib.Dec.{eqb}
-use borrow.Author.Tests.{ne-eqb}
 use Rattle.rules.specs.declared.OrderLine.{OrderLine}
-use Rattle.rules.specs.Lists.{anyOf}
-use Rattle.demand.specs.Shelves.{noLine}
-use Rattle.demand.proofs.Shelving.{none-more, line-found, line-none}
+use Rattle.values.specs.Shelves.{lineFrom}
+use Rattle.demand.specs.Digits.{noLine}
+use Rattle.demand.proofs.Shelving.{line-here, line-behind}
 use Rattle.demand.proofs.shelf.line_of.Statement.{statement}
 use Rattle.demand.proofs.shelf.line_of.Tie as tie
 
 abbrev Inv-loop : tie.InvT-loop
-Inv-loop orders article lines l₀ l = (l ≤ orders) × (anyOf (λ (k : OrderLine). eqb (k .article) article) (take l (take orders lines)) ≡ false)
+Inv-loop orders article lines l₀ l =
+    (l ≤ orders) × (lineFrom 0 (take orders lines) article ≡ lineFrom l (drop l (take orders lines)) article)
 
 abbrev μ-loop : tie.MeasureT-loop
 μ-loop orders article lines l₀ l = orders - l
+
+-- there are so many lines to look at
+lines-long : (c : tie.Start Inv-loop μ-loop) → length (take (c .args .orders) (c .args .t1)) ≡ c .args .orders
+lines-long c =
+    let whole : length (c .args .t1) ≡ 8 = c .good .0 .1 .0 .1 in
+    omega (arith, length-take (c .args .orders) (c .args .t1), c .pre)
 
 loop-holds : tie.Need-loop-holds Inv-loop μ-loop
 loop-holds c = (omega arith, refl)
@@ -33,7 +38,13 @@ add-result : tie.Need-add-result Inv-loop μ-loop
 add-result c = omega arith
 
 returns : tie.Need-returns Inv-loop μ-loop
-returns c = line-found (take ((c .before .before .before .before .before) .args .orders) ((c .before .before .before .before .before) .args .t1)) ((c .before .before .before .before .before) .args .article) ((c .before .before .before .before .loop) .l) ((c .before .before .before .before .before) .pre .1) (ap (λ (k : OrderLine). k .article) (getD-take ((c .before .before .before .before .before) .args .orders) ((c .before .before .before .before .before) .args .t1) ((c .before .before .before .before .loop) .l) noLine (omega arith)) ∙ (c .if1) .taken)
+returns c =
+    let start = c .before .before .before .before .before in
+    let x = start .args in
+    let l = c .before .before .before .before .loop .l in
+    let lines = take (x .orders) (x .t1) in
+    let read = getD-take (x .orders) (x .t1) l noLine (omega arith) in
+    sym (c .before .before .before .before .loop .inv .1 ∙ line-here lines l (x .article) (omega (arith, lines-long start)) (ap (λ (k : OrderLine). k .article) read ∙ c .if1 .taken))
 
 add-l : tie.Need-add-l Inv-loop μ-loop
 add-l c = omega arith
@@ -42,10 +53,21 @@ loop-less : tie.Need-loop-less Inv-loop μ-loop
 loop-less c = omega arith
 
 loop-again : tie.Need-loop-again Inv-loop μ-loop
-loop-again c = (omega arith, none-more noLine (λ (k : OrderLine). eqb (k .article) ((c .before .before .before .before .before) .args .article)) (take ((c .before .before .before .before .before) .args .orders) ((c .before .before .before .before .before) .args .t1)) ((c .before .before .before .before .loop) .l) ((c .before .before .before .before .loop) .inv .1) (ne-eqb (getD (take ((c .before .before .before .before .before) .args .orders) ((c .before .before .before .before .before) .args .t1)) ((c .before .before .before .before .loop) .l) noLine .article) ((c .before .before .before .before .before) .args .article) (λ e. (c .if1) .left (sym (ap (λ (k : OrderLine). k .article) (getD-take ((c .before .before .before .before .before) .args .orders) ((c .before .before .before .before .before) .args .t1) ((c .before .before .before .before .loop) .l) noLine (omega arith))) ∙ e))))
+loop-again c =
+    let start = c .before .before .before .before .before in
+    let x = start .args in
+    let l = c .before .before .before .before .loop .l in
+    let lines = take (x .orders) (x .t1) in
+    let read = getD-take (x .orders) (x .t1) l noLine (omega arith) in
+    (omega arith, c .before .before .before .before .loop .inv .1 ∙ line-behind lines l (x .article) (omega (arith, lines-long start)) (λ e. c .if1 .left (sym (ap (λ (k : OrderLine). k .article) read) ∙ e)))
 
 returns-2 : tie.Need-returns-2 Inv-loop μ-loop
-returns-2 c = line-none (take ((c .before .before) .args .orders) ((c .before .before) .args .t1)) ((c .before .before) .args .article) ((c .before .loop) .l) (omega (arith, length-take ((c .before .before) .args .orders) ((c .before .before) .args .t1))) ((c .before .loop) .inv .1)
+returns-2 c =
+    let start = c .before .before in
+    let x = start .args in
+    let o = c .before .loop in
+    let none-left : drop (o .l) (take (x .orders) (x .t1)) ≡ [] = drop-of-length-le (take (x .orders) (x .t1)) {i = o .l} (omega (arith, lines-long start)) in
+    sym (o .inv .1 ∙ ap (λ (ls : List OrderLine). lineFrom (o .l) ls (x .article)) none-left)
 
 pub line-of-spec : {M : Type 1} → statement M
 line-of-spec =

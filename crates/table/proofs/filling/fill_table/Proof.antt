@@ -1,45 +1,36 @@
--- `table::filling::fill_table` meets its contract.
+-- `table::filling::fill_table` meets its contract: the rows behind aisle j are filled.
 use native.Mathlib.Omega.{arith}
-use Prim.Native.Nat.{suc, _+_, _*_, _≤_, _<_}
-use mathlib.Core.Path.{_≡_, _∙_}
-use Rattle.table.proofs.TableFills.{Filling, filling-start, filling-next}
-use Rattle.table.proofs.Geometry.{within}
-use Rattle.values.specs.Values.{jobOf}
-use Rattle.table.specs.TableHolds.{TableFrom}
-use mathlib.Core.Path.{subst}
-use borrow.Author.Needs.{needs}
+use Prim.Native.Nat.{suc, _-_, _≤_}
+use mathlib.Core.Path.{_≡_, refl, sym, _∙_, subst}
+use lib.ListN.{length}
+use Rattle.rules.specs.Jobs.{Job}
+use Rattle.table.specs.TableHolds.{OrderOf, TableFrom}
+use Rattle.table.proofs.TableFills.{order-aisles, order-few}
 use Rattle.table.proofs.filling.fill_table.Statement.{statement}
 use Rattle.table.proofs.filling.fill_table.Tie as tie
 
 abbrev Inv-loop : tie.InvT-loop
-Inv-loop work₀ job shelf d next₀ j₀ work next j = Filling (jobOf job) j work₀ work next
+Inv-loop work₀ o j₀ work j = (j ≤ o .layout .aisles) × (length work ≡ length work₀) × ((job : Job) → OrderOf job o → TableFrom job (suc j) work)
 
 abbrev μ-loop : tie.MeasureT-loop
-μ-loop work₀ job shelf d next₀ j₀ work next j = j
-
-slice-aggregate-end-row : tie.Need-slice-aggregate-end-row Inv-loop μ-loop
-slice-aggregate-end-row c = search needs
-
-end-row-requires : tie.Need-end-row-requires Inv-loop μ-loop
-end-row-requires c κs = search needs
+μ-loop work₀ o j₀ work j = j
 
 loop-holds : tie.Need-loop-holds Inv-loop μ-loop
-unfolding jobOf
-loop-holds c = filling-start (jobOf ((c .before .before .before .before) .args .job)) (((c .before .before .before .before) .pre .0 .admitted) .light) ((c .before .before .before .before) .args .work .now) ((c .before .end-row) .last .0) ((c .before .end-row) .ensures .1) ((c .before .end-row) .ensures .0)
-
-slice-aggregate-fill-layer : tie.Need-slice-aggregate-fill-layer Inv-loop μ-loop
-slice-aggregate-fill-layer c = omega (arith, (c .before .before .loop) .inv .long)
+loop-holds c =
+    let p = c .before .args in
+    (omega arith, refl, λ job of i s q l m t h. absurd (omega (arith, order-aisles job (p .o) of)))
 
 fill-layer-requires : tie.Need-fill-layer-requires Inv-loop μ-loop
-unfolding jobOf
-fill-layer-requires c κs = (record { sound = (c .before .before .before .before .before .before .before) .pre .0; shelf-of = (c .before .before .before .before .before .before .before) .pre .1; digits-of = (c .before .before .before .before .before .before .before) .pre .2; aisle = (omega arith, (c .before .before .loop) .inv .seen) }, omega (arith, (c .before .before .loop) .inv .long), (c .before .before .loop) .inv .row)
-
-slice-aggregate-store-row : tie.Need-slice-aggregate-store-row Inv-loop μ-loop
-slice-aggregate-store-row c = omega (arith, (c .before .before .before .before .before .before .loop) .inv .long, (c .before .before .before .fill-layer) .ensures .1)
-
-store-row-requires : tie.Need-store-row-requires Inv-loop μ-loop
-unfolding jobOf
-store-row-requires c κs = let w = within ((c .before .before .before .before .before .before .before .before .before .before .before) .args .job .layout) (((c .before .before .before .before .before .before .before .before .before .before .before) .pre .0 .admitted) .layout) in (omega arith, omega (arith, (c .before .before .before .before .before .before .loop) .inv .seen), omega (arith, (c .before .before .before .before .before .before .before .before .before .before .before) .pre .3, (c .before .before .before .before .before .before .loop) .inv .kept), omega (arith, (c .before .before .before .fill-layer) .ensures .1, (c .before .before .before .before .before .before .loop) .inv .long))
+fill-layer-requires c κs =
+    let at-loop = c .before .before in
+    let p = at-loop .before .before .args in
+    let r = at-loop .before .before .pre in
+    record {
+      order = r .0;
+      here = (omega arith, at-loop .loop .inv .0);
+      few = order-few (r .0 .0) (p .o) (r .0 .1);
+      work-long = omega (arith, r .1, at-loop .loop .inv .1);
+    }
 
 sub-j : tie.Need-sub-j Inv-loop μ-loop
 sub-j c = omega arith
@@ -48,14 +39,23 @@ loop-less : tie.Need-loop-less Inv-loop μ-loop
 loop-less c = omega arith
 
 loop-again : tie.Need-loop-again Inv-loop μ-loop
-unfolding jobOf
-loop-again c = filling-next (jobOf ((c .before .before .before .before .before .before .before .before .before .before .before .before .before .before) .args .job)) (((c .before .before .before .before .before .before .before .before .before .before .before .before .before .before) .pre .0 .admitted) .light) ((c .before .before .before .before .before .before .before .before .before .loop) .j) ((c .before .before .before .before .before .before .before .before .before .before .before .before .before .before) .args .work .now) ((c .before .before .before .before .before .before .before .before .before .loop) .work) ((c .before .before .store-row) .last .0) ((c .before .before .before .before .before .before .before .before .before .loop) .next) ((c .before .before .before .before .before .before .fill-layer) .last .0) (omega arith) ((c .before .before .before .before .before .before .before .before .before .loop) .inv) ((c .before .before .before .before .before .before .fill-layer) .ensures .1) ((c .before .before .before .before .before .before .fill-layer) .ensures .0) ((c .before .before .store-row) .ensures)
+loop-again c =
+    let layer = c .before .before .fill-layer in
+    let o = c .before .before .before .before .before .loop in
+    let up : o .j ≡ suc (o .j - 1) = omega arith in (
+      omega (arith, o .inv .0),
+      layer .ensures .kept ∙ o .inv .1,
+      λ job of. subst (λ k. TableFrom job k (layer .last .0)) up (layer .ensures .filled job of (o .inv .2 job of)),
+    )
 
 same-length : tie.Need-same-length Inv-loop μ-loop
-same-length c = (c .before .loop) .inv .kept
+same-length c = c .before .loop .inv .1
 
 returns : tie.Need-returns Inv-loop μ-loop
-returns c = let e : (c .before .loop) .j ≡ 0 = omega arith in (subst (λ n. TableFrom (jobOf ((c .before .before .before .before .before .before) .args .job)) (suc n) ((c .before .loop) .work)) e ((c .before .loop) .inv .table), (c .before .loop) .inv .kept)
+returns c =
+    let o = c .before .loop in
+    let none : o .j ≡ 0 = omega arith in
+    (λ job of. subst (λ k. TableFrom job (suc k) (o .work)) none (o .inv .2 job of), o .inv .1)
 
 pub fill-table-spec : {M : Type 1} → statement M
 fill-table-spec =
@@ -63,13 +63,8 @@ fill-table-spec =
     (tie.spec
     Inv-loop
     μ-loop
-    slice-aggregate-end-row
-    end-row-requires
     loop-holds
-    slice-aggregate-fill-layer
     fill-layer-requires
-    slice-aggregate-store-row
-    store-row-requires
     sub-j
     loop-less
     loop-again

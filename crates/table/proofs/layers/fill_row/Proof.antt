@@ -19,10 +19,10 @@ passes-of-requires : tie.Need-passes-of-requires Inv-loop μ-loop
 passes-of-requires c κs = search needs
 
 mul-fill-none : tie.Need-mul-fill-none Inv-loop μ-loop
-mul-fill-none c = let at-start = c .before .before .before .before .before .before in omega (arith, at-start .pre .0 .small)
+mul-fill-none c = let at-start = c .before .before .before .before .before .before in omega (arith, at-start .pre .0 .aisle .small)
 
 fill-none-requires : tie.Need-fill-none-requires Inv-loop μ-loop
-fill-none-requires c κs = let at-start = c .before .before .before .before .before .before in omega (arith, at-start .pre .0 .small, at-start .pre .1)
+fill-none-requires c κs = let at-start = c .before .before .before .before .before .before in omega (arith, at-start .pre .0 .aisle .small, at-start .pre .1)
 
 loop-holds : tie.Need-loop-holds Inv-loop μ-loop
 loop-holds c =

@@ -21,7 +21,7 @@ loop-holds : tie.Need-loop-holds Inv-loop μ-loop
 loop-holds c = (omega arith, refl, λ k h. absurd (omega arith))
 
 action-step-requires : tie.Need-action-step-requires Inv-loop μ-loop
-action-step-requires c κs = let r = c .before .before .pre in (r .0, r .2, r .1, r .3, omega arith)
+action-step-requires c κs = let r = c .before .before .pre in (r .0 .policy-below, r .1, r .0 .holds-below, r .2, omega arith)
 
 mul-out : tie.Need-mul-out Inv-loop μ-loop
 mul-out c = omega arith

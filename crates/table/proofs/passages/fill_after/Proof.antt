@@ -1,48 +1,47 @@
--- `table::passages::fill_after` meets its contract: the least over the first p passages.
+-- `table::passages::fill_after` meets its contract: the row holds the least over the first p passages.
 use native.Mathlib.Omega.{arith}
-use Prim.Native.Nat.{ℕ, _+_, _*_, _-_, _≤_, _<_}
+use Prim.Native.Nat.{_-_, _≤_}
 use mathlib.Core.Path.{_≡_, refl, _∙_, subst}
 use lib.ListN.{length}
-use Rattle.machine.specs.Steps.{policyOf}
 use Rattle.table.proofs.PassageLaws.{AfterTried, after-none, after-one, after-all}
 use Rattle.table.proofs.passages.fill_after.Statement.{statement}
 use Rattle.table.proofs.passages.fill_after.Tie as tie
 
 abbrev Inv-loop : tie.InvT-loop
-Inv-loop after₀ next tried policy side width weight p₀ after p = (p ≤ tried) × (length after ≡ length after₀) × AfterTried after next (policyOf policy) side width weight p
+Inv-loop after₀ next x tried weight p₀ after p = (p ≤ x .tried) × (length after ≡ length after₀) × AfterTried x after next p
 
 abbrev μ-loop : tie.MeasureT-loop
-μ-loop after₀ next tried policy side width weight p₀ after p = tried - p
+μ-loop after₀ next x tried weight p₀ after p = tried - p
 
 mul-fill-none : tie.Need-mul-fill-none Inv-loop μ-loop
-mul-fill-none c = omega (arith, c .before .before .before .pre .2)
+mul-fill-none c = omega (arith, c .before .before .before .pre .aisle .small)
 
 fill-none-requires : tie.Need-fill-none-requires Inv-loop μ-loop
-fill-none-requires c κs = c .before .before .before .pre .0
+fill-none-requires c κs = c .before .before .before .pre .after-long
 
 loop-holds : tie.Need-loop-holds Inv-loop μ-loop
 loop-holds c =
-    let at-fill = c .before .before in
-    let p = at-fill .before .before .before .before .args in
-    (omega arith, refl, after-none (p .next .now) (p .policy) (p .side) (p .width) (p .weight) (at-fill .fill-none .last .0) (at-fill .fill-none .ensures .0))
+    let at-none = c .before .before in
+    let p = at-none .before .before .before .before .args in
+    (omega arith, refl, after-none (p .x) (p .next .now) (at-none .fill-none .last .0) (at-none .fill-none .ensures .0))
 
 relax-passage-requires : tie.Need-relax-passage-requires Inv-loop μ-loop
 relax-passage-requires c κs =
     let at-loop = c .before .before in
-    let at-fill = at-loop .before .before .before in
-    let r = at-fill .before .before .before .before .pre in
-    record {
-      after-long = omega (arith, r .0, at-loop .loop .inv .1, at-fill .fill-none .ensures .1);
-      next-long = r .1;
-      small = r .2;
-      policy-below = r .4;
-      side-below = r .5;
-      passage-below = omega (arith, r .3);
-      width-fits = r .6;
-    }
+    let at-none = at-loop .before .before .before in
+    let r = at-none .before .before .before .before .pre in (
+      record {
+        aisle = r .aisle;
+        after-long = omega (arith, r .after-long, at-loop .loop .inv .1, at-none .fill-none .ensures .1);
+        next-long = r .next-long;
+      },
+      omega (arith, r .aisle .few),
+    )
 
 add-p : tie.Need-add-p Inv-loop μ-loop
-add-p c = omega (arith, c .before .before .before .before .before .before .before .before .before .before .before .before .pre .3)
+add-p c =
+    let at-loop = c .before .before .before .before .before in
+    omega (arith, at-loop .before .before .before .before .before .before .before .pre .aisle .few)
 
 loop-less : tie.Need-loop-less Inv-loop μ-loop
 loop-less c = omega arith
@@ -57,7 +56,7 @@ loop-again c =
     let tried = at-passage .relax-passage in (
       omega arith,
       tried .ensures .kept ∙ o .inv .1,
-      after-one (p .next .now) (p .policy) (p .side) (p .width) (p .weight) (o .after) (tried .last .0) (o .p) (omega (arith, at-start .pre .3)) (o .inv .2) (tried .ensures),
+      after-one (p .x) (p .next .now) (o .after) (tried .last .0) (o .p) (omega (arith, at-start .pre .aisle .few)) (o .inv .2) (tried .ensures),
     )
 
 same-length : tie.Need-same-length Inv-loop μ-loop
@@ -65,13 +64,12 @@ same-length c = c .before .loop .inv .1 ∙ c .before .before .before .before .f
 
 returns : tie.Need-returns Inv-loop μ-loop
 returns c =
-    let at-fill = c .before .before .before .before in
-    let p = at-fill .before .before .before .before .args in
+    let at-none = c .before .before .before .before in
+    let p = at-none .before .before .before .before .args in
     let o = c .before .loop in
-    let e : o .p ≡ p .tried = omega (arith, o .inv .0) in (
-      after-all (p .next .now) (p .policy) (p .side) (p .width) (p .weight) (o .after) (p .tried)
-          (subst (λ n. AfterTried (o .after) (p .next .now) (policyOf (p .policy)) (p .side) (p .width) (p .weight) n) e (o .inv .2)),
-      o .inv .1 ∙ at-fill .fill-none .ensures .1,
+    let all : o .p ≡ p .x .tried = omega (arith, o .inv .0) in (
+      after-all (p .x) (p .next .now) (o .after) (subst (λ n. AfterTried (p .x) (o .after) (p .next .now) n) all (o .inv .2)),
+      o .inv .1 ∙ at-none .fill-none .ensures .1,
     )
 
 pub fill-after-spec : {M : Type 1} → statement M

@@ -1,26 +1,30 @@
 -- `table::passages::passage_steps` meets its contract: the states before s are looked up.
 use native.Mathlib.Omega.{arith}
-use Prim.Native.Nat.{ℕ, _+_, _*_, _-_, _≤_, _<_}
+use Prim.Native.Nat.{ℕ, _-_, _≤_, _<_}
 use mathlib.Core.Path.{_≡_, refl, _∙_}
 use lib.ListN.{length, getD, length-set}
 use Rattle.demand.proofs.Filling.{filled-one}
 use Rattle.machine.specs.Steps.{policyOf, passageOf, crossOf}
 use Rattle.machine.specs.States.{stateCode, stateOf}
-use Rattle.table.specs.Rows.{crossCode}
+use Rattle.table.specs.Crossings.{crossCode}
 use Rattle.table.proofs.passages.passage_steps.Statement.{statement}
 use Rattle.table.proofs.passages.passage_steps.Tie as tie
 
+-- the state after a passage, by the numbers that the loop keeps
+abbrev after : ℕ → ℕ → ℕ → ℕ → ℕ
+after policy side passage s = stateCode (crossOf (policyOf policy) (passageOf passage) side (stateOf s))
+
 abbrev Inv-loop : tie.InvT-loop
-Inv-loop policy side passage out₀ s₀ out s = (s ≤ 8) × (length out ≡ 8) × ((k : ℕ) → k < s → getD out k 0 ≡ stateCode (crossOf (policyOf policy) (passageOf passage) side (stateOf k)))
+Inv-loop passage policy side out₀ s₀ out s = (s ≤ 8) × (length out ≡ 8) × ((k : ℕ) → k < s → getD out k 0 ≡ after policy side passage k)
 
 abbrev μ-loop : tie.MeasureT-loop
-μ-loop policy side passage out₀ s₀ out s = 8 - s
+μ-loop passage policy side out₀ s₀ out s = 8 - s
 
 loop-holds : tie.Need-loop-holds Inv-loop μ-loop
 loop-holds c = (omega arith, refl, λ k h. absurd (omega arith))
 
 passage-step-requires : tie.Need-passage-step-requires Inv-loop μ-loop
-passage-step-requires c κs = let r = c .before .before .pre in (r .0, r .2, r .1, omega arith)
+passage-step-requires c κs = let r = c .before .before .pre in (r .0 .policy-below, r .1, r .0 .side-below, omega arith)
 
 mul-out : tie.Need-mul-out Inv-loop μ-loop
 mul-out c = omega arith
@@ -41,7 +45,7 @@ loop-again c =
     let step = c .passage-step in (
       omega arith,
       length-set (o .out) (o .s) (step .result) ∙ o .inv .1,
-      filled-one (λ k. stateCode (crossOf (policyOf (p .policy)) (passageOf (p .passage)) (p .side) (stateOf k))) (o .out) (o .s) (step .result) (omega (arith, o .inv .1)) (o .inv .2) (step .ensures),
+      filled-one (after (p .x .policy) (p .x .side) (p .passage)) (o .out) (o .s) (step .result) (omega (arith, o .inv .1)) (o .inv .2) (step .ensures),
     )
 
 returns : tie.Need-returns Inv-loop μ-loop

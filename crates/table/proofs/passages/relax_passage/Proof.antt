@@ -1,10 +1,11 @@
 -- `table::passages::relax_passage` meets its contract: relaxed over the row whose states are put in order, or nothing for a passage that leads nowhere.
 use native.Mathlib.Omega.{arith}
-use Prim.Native.Nat.{ℕ, _+_, _*_, _<_}
-use mathlib.Core.Path.{_≡_, sym, subst}
+use Prim.Native.Nat.{_<_}
+use mathlib.Core.Path.{sym, subst}
 use lib.ListN.{replicate}
 use borrow.Author.Needs.{needs}
 use Rattle.table.specs.Rows.{LivesAs}
+use Rattle.table.proofs.Geometry.{within}
 use Rattle.table.proofs.PassageLaws.{plain-at, passage-relaxed, passage-skipped}
 use Rattle.table.proofs.passages.relax_passage.Statement.{statement}
 use Rattle.table.proofs.passages.relax_passage.Tie as tie
@@ -25,7 +26,10 @@ permute-requires : tie.Need-permute-requires
 permute-requires c κs = search needs
 
 passage-length-requires : tie.Need-passage-length-requires
-passage-length-requires c κs = search needs
+passage-length-requires c κs =
+    let at-lives = c .before .before .before .before .before in
+    let at-start = at-lives .before .before .before .before in
+    (at-start .pre .1, within (at-start .args .x .layout) (at-start .pre .0 .aisle .bounds) .width .1)
 
 cast-cost : tie.Need-cast-cost
 cast-cost c = search needs
@@ -41,14 +45,15 @@ relax-row-requires c κs =
     let at-permute = c .before .before .before .before .before in
     let at-plain = at-permute .before .before in
     let at-start = at-plain .before .before .before .before .before .before in
-    let r = at-start .pre in
-    let weight = at-start .args .x .weight in
+    let r = at-start .pre .0 in
+    let light = r .aisle .small in
+    let plain = at-plain .plain-map in
     record {
-      small = r .small;
+      small = light;
       row-long = r .after-long;
-      perm-long = omega (arith, r .small, at-permute .permute .ensures .kept);
-      map-long = omega (arith, r .small);
-      below = λ q l. subst (λ n. n < weight) (sym (plain-at (at-plain .plain-map .result) q (omega (arith, r .small)) (at-plain .plain-map .ensures))) l;
+      perm-long = omega (arith, at-permute .permute .ensures .kept);
+      map-long = omega arith;
+      below = λ q l. subst (λ n. n < at-start .args .x .weight) (sym (plain-at (plain .result) q (omega arith) (plain .ensures))) l;
     }
 
 same-length : tie.Need-same-length
@@ -64,9 +69,13 @@ returns c =
     let at-start = at-steps .before .before .before in
     let p = at-start .args in
     let steps = at-steps .passage-steps in
-    passage-relaxed (p .after .now) (p .next .now) (steps .result) (p .x) (steps .ensures)
-    (at-relax .relax-row .last .0) (replicate 2048 0) (at-permute .permute .last .0) (at-plain .plain-map .result) (at-length .passage-length .result)
-    (at-start .pre .small) (at-length .passage-length .ensures .0) (at-plain .plain-map .ensures) (at-permute .permute .ensures) (at-relax .relax-row .ensures)
+    let plain = at-plain .plain-map in
+    let permuted = at-permute .permute in
+    let cost = at-length .passage-length in
+    let relaxed = at-relax .relax-row in
+    passage-relaxed (p .x) (p .after .now) (p .next .now) (steps .result) (p .passage) (steps .ensures)
+    (relaxed .last .0) (replicate 2048 0) (permuted .last .0) (plain .result) (cost .result)
+    (at-start .pre .0 .aisle .small) (cost .ensures .0) (plain .ensures) (permuted .ensures) (relaxed .ensures)
 
 returns-2 : tie.Need-returns-2
 returns-2 c =
@@ -75,8 +84,8 @@ returns-2 c =
     let at-row = at-steps .before .before in
     let p = at-row .before .args in
     let steps = at-steps .passage-steps in
-    passage-skipped (p .after .now) (p .next .now) (steps .result) (p .x) (steps .ensures)
-    (subst (λ b. LivesAs (steps .result) b) (c .if1 .left) (at-lives .lives .ensures)) (λ k. omega (arith, at-row .slice-known .given k))
+    let none = subst (λ b. LivesAs (steps .result) b) (c .if1 .left) (at-lives .lives .ensures) in
+    passage-skipped (p .x) (p .after .now) (p .next .now) (steps .result) (p .passage) (steps .ensures) none (λ k. omega (arith, at-row .slice-known .given k))
 
 pub relax-passage-spec : {M : Type 1} → statement M
 relax-passage-spec =

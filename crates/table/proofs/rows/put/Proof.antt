@@ -2,7 +2,7 @@
 use native.Mathlib.Omega.{arith}
 use Prim.Native.Nat.{_+_, _*_, _-_, _≤_, _<_}
 use mathlib.Core.Path.{_≡_, subst}
-use Rattle.table.specs.Stored.{StoredTo}
+use Rattle.table.specs.Rows.{StoredTo}
 use Rattle.table.proofs.Relaxing.{stored-none, stored-one}
 use Rattle.table.proofs.rows.put.Statement.{statement}
 use Rattle.table.proofs.rows.put.Tie as tie
