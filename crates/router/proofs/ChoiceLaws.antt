@@ -17,7 +17,7 @@ use Rattle.machine.specs.Steps.{passageOf}
 use Rattle.table.specs.declared.candidates.Candidate.{Candidate}
 use Rattle.table.specs.declared.layers.Aisle.{Aisle}
 use Rattle.table.specs.Candidates.{candidateOf, candidateLength, actionOf}
-use Rattle.table.specs.Rows.{throughPassage}
+use Rattle.table.specs.Crossings.{throughPassage}
 use Rattle.table.specs.Layers.{AisleReady, leftCode, throughCandidate, throughAction}
 use Rattle.table.proofs.Geometry.{action-of-candidate}
 use Rattle.table.proofs.ActionRows.{ranked-fits, candidate-parts, step-small}
@@ -78,23 +78,23 @@ module _ (x : Aisle) (after fronts backs : List ℕ) (at : At) where
         rest = rest-is;
       }
 
-module _ (x : Aisle) (side : ℕ) (next : List ℕ) (at : At) where
+module _ (x : Aisle) (next : List ℕ) (at : At) where
   -- the way on over a passage is its length and what follows
-  pub way-on : (p : Passage) (to : At) (len rest r : ℕ) → to ≡ crossTo x side at p
-      → len ≡ (backTreads p + frontTreads p) * x .layout .width → rest ≡ valueAt next to → r ≡ sat len rest → r ≡ wayOn x side next at p
+  pub way-on : (p : Passage) (to : At) (len rest r : ℕ) → to ≡ crossTo x at p
+      → len ≡ (backTreads p + frontTreads p) * x .layout .width → rest ≡ valueAt next to → r ≡ sat len rest → r ≡ wayOn x next at p
   unfolding throughPassage
   way-on p to len rest r to-is len-is rest-is r-is = r-is ∙ ap₂ sat len-is (rest-is ∙ ap (valueAt next) to-is)
 
   -- the passage of the first rank is the first passage
-  module _ (tried value p : ℕ) (five : tried ≤ 5) (rank : FirstRank (wayOn x side next at) value (take tried passagesInOrder) P00 p) (found : (y : Passage) × (firstAt (wayOn x side next at) value (take tried passagesInOrder) ≡ some y)) where
-    pub passage-below : p < tried
+  module _ (value p : ℕ) (five : x .tried ≤ 5) (rank : FirstRank (wayOn x next at) value (take (x .tried) passagesInOrder) P00 p) (found : (y : Passage) × (firstAt (wayOn x next at) value (take (x .tried) passagesInOrder) ≡ some y)) where
+    pub passage-below : p < x .tried
     passage-below =
-        omega (arith, rank-within _ value P00 (take tried passagesInOrder) p rank found .0, tried-length tried five)
+        omega (arith, rank-within _ value P00 (take (x .tried) passagesInOrder) p rank found .0, tried-length (x .tried) five)
 
-    pub passage-taken : (r : Crossed) → r .passage ≡ passageOf p → r .at ≡ crossTo x side at (passageOf p) → PassageTaken x side tried next at value r
+    pub passage-taken : (r : Crossed) → r .passage ≡ passageOf p → r .at ≡ crossTo x at (passageOf p) → PassageTaken x next at value r
     passage-taken r passage-is at-is =
-        let passage : getD (take tried passagesInOrder) p P00 ≡ r .passage = passage-tried tried p passage-below five ∙ sym passage-is in
+        let passage : getD (take (x .tried) passagesInOrder) p P00 ≡ r .passage = passage-tried (x .tried) p passage-below five ∙ sym passage-is in
         record {
-          first = rank-within _ value P00 (take tried passagesInOrder) p rank found .1 ∙ ap some passage;
-          leads = at-is ∙ ap (crossTo x side at) (sym passage-is);
+          first = rank-within _ value P00 (take (x .tried) passagesInOrder) p rank found .1 ∙ ap some passage;
+          leads = at-is ∙ ap (crossTo x at) (sym passage-is);
         }

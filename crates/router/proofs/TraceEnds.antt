@@ -104,10 +104,10 @@ abbrev second : Action × Passage → Passage
 second x = x .1
 
 -- the plan of the stages is the best plan
-pub trace-end : (job : Job) → Admitted job → (t : Trace) → Traced job (job .layout .aisles) t
+stages-plan : (job : Job) → Admitted job → (t : Trace) → Traced job (job .layout .aisles) t
     → planOf (record { aisles = job .layout .aisles; stages = t .stages }) ≡ bestPlan job
 unfolding planOf stagesRest restOf
-trace-end job ok t traced =
+stages-plan job ok t traced =
     let m = job .layout .aisles in
     let stages = t .stages in
     let best = bestPlan job in
@@ -127,3 +127,8 @@ trace-end job ok t traced =
     ∙ ap (map second) few
     ∙ passages-back (best .actions) (best .passages) (omega (arith, well .passages, well .aisles)) in
     ap₂ (λ x y. record { actions = x; passages = y }) actions passages
+
+pub trace-end : (job : Job) → Admitted job → (n : ℕ) (t : Trace) → n ≡ job .layout .aisles → Traced job n t
+    → planOf (record { aisles = n; stages = t .stages }) ≡ bestPlan job
+trace-end job ok n t all =
+    subst (λ k. Traced job k t → planOf (record { aisles = k; stages = t .stages }) ≡ bestPlan job) (sym all) (stages-plan job ok t)

@@ -24,13 +24,13 @@ use Rattle.optimum.proofs.Choice.{first-agree, first-at-cong, first-at-holds}
 use Rattle.optimum.proofs.Radix.{radices-positive, gains-length, less-code}
 use Rattle.values.specs.declared.Stage.{Stage}
 use Rattle.machine.specs.States.{stateCode, stateOf}
-use Rattle.machine.specs.Steps.{policyOf, policyCode}
 use Rattle.machine.proofs.StepLaws.{state-of-code}
 use Rattle.demand.specs.Maps.{MapsReady}
 use Rattle.table.specs.declared.layers.Aisle.{Aisle}
 use Rattle.table.specs.Candidates.{candidateOf}
-use Rattle.table.specs.Rows.{nextAt, AfterFilled}
-use Rattle.table.specs.TableHolds.{sideOf, aisleOf, triedAt, RowHolds}
+use Rattle.table.specs.Rows.{nextAt}
+use Rattle.table.specs.Crossings.{AfterFilled}
+use Rattle.table.specs.TableHolds.{aisleOf, triedAt, values, AfterHolds}
 use Rattle.table.proofs.Geometry.{within}
 use Rattle.table.proofs.StepLaws.{cross-of, step-code}
 use Rattle.table.proofs.PassageLaws.{state-small}
@@ -57,7 +57,7 @@ unfolding sumUpTo
 part-below c v w e h = omega arith
 
 -- a state from which there is a way on is not dead
-alive : (job : Job) (n j : ℕ) (t : State) (q : List ℕ) → value (routing job (allActions job)) n j t q < noTour → stateCode t < 8
+alive : (job : Job) (n j : ℕ) (t : State) (q : List ℕ) → values job n j t q < noTour → stateCode t < 8
 alive job n j nothing q h = omega arith
 alive job n j closed q h = omega arith
 alive job n j atFront q h = omega arith
@@ -98,10 +98,6 @@ module _ (job : Job) (n : ℕ) where
 
   abbrev on : At → Passage → ℕ
   on at = overPassage table later (suc n) (stateAt at) (demandAt job at)
-
-  -- where the next aisle lies
-  abbrev place : ℕ
-  place = sideOf (job .layout .depot) (suc n)
 
   -- the state and the demand behind an action by their numbers
   record Behind (at : At) (a : Action) (to : At) : Type 0 where
@@ -145,18 +141,15 @@ module _ (job : Job) (n : ℕ) where
         }
 
 -- what the code has for the next aisle: its numbers, its maps, and the row behind its actions, filled out of the next row
-pub record Aisled (job : Job) (n : ℕ) (x : Aisle) (side tried : ℕ) (next after fronts backs : List ℕ) : Type 0 where
+pub record Aisled (job : Job) (n : ℕ) (x : Aisle) (next after fronts backs : List ℕ) : Type 0 where
   pub ok : Admitted job
   pub numbers : x ≡ aisleOf job (suc n)
-  pub place : side ≡ sideOf (job .layout .depot) (suc n)
-  pub passages : tried ≡ triedAt (job .layout .aisles - suc n)
   pub maps : MapsReady job (suc n) fronts backs
-  pub filled : AfterFilled after next tried (policyOf (x .policy)) side (x .layout .width) (x .weight)
+  pub filled : AfterFilled x after next
 
 -- the same in the job's words
 abbrev Here : Job → ℕ → List ℕ → List ℕ → List ℕ → List ℕ → Type 0
-Here job n next after fronts backs =
-    Aisled job n (aisleOf job (suc n)) (sideOf (job .layout .depot) (suc n)) (triedAt (job .layout .aisles - suc n)) next after fronts backs
+Here job n = Aisled job n (aisleOf job (suc n))
 
 module _ {job : Job} {n here : ℕ} {t : Trace} {next after fronts backs : List ℕ} (h : Here job n next after fronts backs) (asked : TraceAsked job n t next here) where
   abbrev aisle : Aisle
@@ -172,10 +165,8 @@ module _ {job : Job} {n here : ℕ} {t : Trace} {next after fronts backs : List 
   few = let m = asked .more in let w = within (job .layout) (h .ok .layout) in omega arith
 
   -- the row behind the actions holds the table's values there
-  after-holds : (s q : ℕ) → s < 9 → q < weight (job .lines)
-      → nextAt after s q ≡ afterAction (table job n) (later job n) (left job n) (suc n) (stateOf s) (demandOf (radices job) q)
-  unfolding aisleOf
-  after-holds = after-value job (left job n) (suc n) next (asked .row) after (h .filled)
+  after-holds : AfterHolds job (left job n) (suc n) after
+  after-holds = after-value job (left job n) (suc n) next (asked .row) refl after (h .filled)
 
   -- the ways over actions are the table's, and so are the ways on over passages
   actions-agree : (v : ℕ) → firstAt (wayOver aisle after fronts backs (t .at)) v (actionsOf cells) ≡ firstAt (over job n (t .at)) v (actionsOf cells)
@@ -185,7 +176,7 @@ module _ {job : Job} {n here : ℕ} {t : Trace} {next after fronts backs : List 
       first-agree _ _ v (actionsOf cells) (λ a m. at-here a (actions-sound cells a m))
 
   passages-agree : (to : At) (v : ℕ) → to .demand < weight (job .lines)
-      → firstAt (wayOn aisle (place job n) next to) v (take (triedAt (left job n)) passagesInOrder) ≡ firstAt (on job n to) v (passagesBehind passagesInOrder (left job n))
+      → firstAt (wayOn aisle next to) v (take (aisle .tried) passagesInOrder) ≡ firstAt (on job n to) v (passagesBehind passagesInOrder (left job n))
   unfolding aisleOf
   passages-agree to v low =
       first-at-cong _ _ (passage-value job (left job n) (suc n) next (asked .row) (to .state) (to .demand) low) v _
@@ -230,7 +221,7 @@ module _ {job : Job} {n here : ℕ} {t : Trace} {next after fronts backs : List 
         subst (λ a. Behind job n (t .at) a (r .at)) same-action (behind-action (r .action) (r .at) fits (taken .leads))
 
     -- its passage is the first that attains what follows
-    first-passage : firstAt (wayOn aisle (place job n) next (r .at)) (r .rest) (take (triedAt (left job n)) passagesInOrder) ≡ some (led-here .passage)
+    first-passage : firstAt (wayOn aisle next (r .at)) (r .rest) (take (aisle .tried) passagesInOrder) ≡ some (led-here .passage)
     first-passage =
         let b = behind-taken in
         passages-agree (r .at) (r .rest) (b .demand-low)
@@ -238,7 +229,7 @@ module _ {job : Job} {n here : ℕ} {t : Trace} {next after fronts backs : List 
         ∙ ap₂ (firstPassage (table job n) (left job n) (suc n)) (b .state-is) (b .demand-is)
         ∙ led-here .passage-first
 
-    module _ {p : Crossed} (crossed : PassageTaken aisle (place job n) (triedAt (left job n)) next (r .at) (r .rest) p) where
+    module _ {p : Crossed} (crossed : PassageTaken aisle next (r .at) (r .rest) p) where
       same-passage : p .passage ≡ led-here .passage
       same-passage = some-same (sym (crossed .first) ∙ first-passage)
 
@@ -292,10 +283,10 @@ module _ {job : Job} {n here : ℕ} {t : Trace} {next after fronts backs : List 
             whole = rest-whole ∙ asked .traced .whole;
           }
 
-module _ {job : Job} {n side tried here : ℕ} {x : Aisle} {t : Trace} {next after fronts backs : List ℕ} (h : Aisled job n x side tried next after fronts backs) (asked : TraceAsked job n t next here) where
+module _ {job : Job} {n here : ℕ} {x : Aisle} {t : Trace} {next after fronts backs : List ℕ} (h : Aisled job n x next after fronts backs) (asked : TraceAsked job n t next here) where
   -- in the job's words
   in-words : Here job n next after fronts backs
-  in-words = rw (h .numbers, h .place, h .passages) at h
+  in-words = rw (h .numbers) at h
 
   -- some action attains the value here
   pub action-there : (a : Action) × (firstAt (wayOver x after fronts backs (t .at)) here (actionsOf (x .layout .cells)) ≡ some a)
@@ -305,15 +296,15 @@ module _ {job : Job} {n side tried here : ℕ} {x : Aisle} {t : Trace} {next aft
     taken-here : ActionTaken (aisleOf job (suc n)) after fronts backs (t .at) here r
     taken-here = rw (h .numbers) at taken
 
-    -- its place is one of the table's
+    -- it leads to a state and a demand of the job
     pub taken-lands : (r .at .state < 9) × (r .at .demand < weight (job .lines))
     taken-lands = let b = behind-taken in-words asked taken-here in (b .state-low, b .demand-low)
 
     -- some passage attains what follows
-    pub passage-there : (p : Passage) × (firstAt (wayOn x side next (r .at)) (r .rest) (take tried passagesInOrder) ≡ some p)
-    passage-there = rw (h .numbers, h .place, h .passages) (led-here in-words asked .passage, first-passage in-words asked taken-here)
+    pub passage-there : (p : Passage) × (firstAt (wayOn x next (r .at)) (r .rest) (take (x .tried) passagesInOrder) ≡ some p)
+    passage-there = rw (h .numbers) (led-here in-words asked .passage, first-passage in-words asked taken-here)
 
     -- the trace goes on
-    pub trace-next : {p : Crossed} → PassageTaken x side tried next (r .at) (r .rest) p
+    pub trace-next : {p : Crossed} → PassageTaken x next (r .at) (r .rest) p
         → Traced job (suc n) (record { stages = set (t .stages) n (record { action = r .action; passage = p .passage }); at = p .at })
-    trace-next crossed = trace-further in-words asked taken-here (rw (h .numbers, h .place, h .passages) at crossed)
+    trace-next crossed = trace-further in-words asked taken-here (rw (h .numbers) at crossed)

@@ -13,7 +13,8 @@ use Rattle.machine.specs.Steps.{policyOf, crossOf}
 use Rattle.table.specs.declared.candidates.Candidate.{Candidate}
 use Rattle.table.specs.declared.layers.Aisle.{Aisle}
 use Rattle.table.specs.Candidates.{candidateOf}
-use Rattle.table.specs.Rows.{nextAt, throughPassage}
+use Rattle.table.specs.Rows.{numbers, nextAt}
+use Rattle.table.specs.Crossings.{throughPassage}
 use Rattle.table.specs.Layers.{AisleReady, stepCode, leftCode, throughAction}
 use Rattle.router.specs.declared.choices.At.{At}
 use Rattle.router.specs.declared.choices.Taken.{Taken}
@@ -33,15 +34,15 @@ valueAt row at = nextAt row (at .state) (at .demand)
 abbrev pub stepTo : Aisle → List ℕ → List ℕ → At → Candidate → At
 stepTo x fronts backs at c = record { state = stepCode x c (at .state); demand = leftCode fronts backs c (at .demand) }
 
-abbrev pub crossTo : Aisle → ℕ → At → Passage → At
-crossTo x side at p = record { state = stateCode (crossOf (policyOf (x .policy)) p side (stateOf (at .state))); demand = at .demand }
+abbrev pub crossTo : Aisle → At → Passage → At
+crossTo x at p = record { state = stateCode (crossOf (policyOf (x .policy)) p (x .side) (stateOf (at .state))); demand = at .demand }
 
 -- the way over an action, by the row behind the actions, and the way on over a passage, by the next row
 abbrev pub wayOver : Aisle → List ℕ → List ℕ → List ℕ → At → Action → ℕ
 wayOver x after fronts backs at = throughAction x (nextAt after) fronts backs (at .state) (at .demand)
 
-abbrev pub wayOn : Aisle → ℕ → List ℕ → At → Passage → ℕ
-wayOn x side next at = throughPassage next (policyOf (x .policy)) side (x .layout .width) (at .state) (at .demand)
+abbrev pub wayOn : Aisle → List ℕ → At → Passage → ℕ
+wayOn x next at = throughPassage x next (at .state) (at .demand)
 
 -- a candidate of the aisle: a kind of action that there is, and cells that the aisle has
 pub record OfAisle (x : Aisle) (c : Candidate) : Type 0 where
@@ -53,7 +54,7 @@ pub record OfAisle (x : Aisle) (c : Candidate) : Type 0 where
 -- what choosing an action needs: an aisle with its maps, the row behind the actions, a state and a demand of the job
 pub record ActionAsked (x : Aisle) (after fronts backs : List ℕ) (at : At) : Type 0 where
   pub ready : AisleReady x fronts backs
-  pub long : 2048 ≤ length after
+  pub long : numbers ≤ length after
   pub state-below : at .state < 9
   pub demand-below : at .demand < x .weight
 
@@ -64,6 +65,6 @@ pub record ActionTaken (x : Aisle) (after fronts backs : List ℕ) (at : At) (va
   pub rest : r .rest ≡ valueAt after (r .at)
 
 -- the first passage that attains a value, and where it leads
-pub record PassageTaken (x : Aisle) (side tried : ℕ) (next : List ℕ) (at : At) (value : ℕ) (r : Crossed) : Type 0 where
-  pub first : firstAt (wayOn x side next at) value (take tried passagesInOrder) ≡ some (r .passage)
-  pub leads : r .at ≡ crossTo x side at (r .passage)
+pub record PassageTaken (x : Aisle) (next : List ℕ) (at : At) (value : ℕ) (r : Crossed) : Type 0 where
+  pub first : firstAt (wayOn x next at) value (take (x .tried) passagesInOrder) ≡ some (r .passage)
+  pub leads : r .at ≡ crossTo x at (r .passage)

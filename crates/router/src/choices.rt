@@ -14,7 +14,7 @@ use table::candidates::keeps_halves;
 use table::layers::Aisle;
 use table::passages::passage_length;
 ghost use Prim.Native.Nat.{_*_, _+_, _<_, _≤_};
-ghost use Rattle.machine.specs.Steps.{passageOf, policyOf};
+ghost use Rattle.machine.specs.Steps.{passageOf};
 ghost use Rattle.optimum.specs.Least.{firstAt};
 ghost use Rattle.optimum.specs.Routing.{sat};
 ghost use Rattle.router.specs.Choosing.{ActionAsked, ActionTaken, FirstRank, OfAisle, PassageTaken, crossTo, stepTo, valueAt, wayOn, wayOver};
@@ -24,7 +24,7 @@ ghost use Rattle.rules.specs.declared.Action.{Action};
 ghost use Rattle.rules.specs.declared.Passage.the-variants.{P00};
 ghost use Rattle.rules.specs.declared.Passage.{Passage};
 ghost use Rattle.table.specs.Layers.{AisleReady};
-ghost use Rattle.table.specs.Rows.{NextReady};
+ghost use Rattle.table.specs.Crossings.{InRange, NextReady};
 ghost use lib.ListN.{getD, length, take};
 ghost use mathlib.Core.Option.{some};
 ghost use mathlib.Core.Path.{_≡_};
@@ -58,7 +58,7 @@ fn plus(length: usize, rest: usize) -> usize
 }
 
 // What a row holds for a state and a demand; no tour for the dead state, 8.
-fn value_at(row: &[u16], at: At) -> usize
+pub fn value_at(row: &[u16], at: At) -> usize
     requires { ⌜ (at .demand < 256) × (at .demand * 8 + 8 ≤ length (now row)) ⌝ }
     ensures { λ r. ⌜ (r ≡ valueAt (now (row .entry)) at) × (r ≤ 65535) ⌝ }
 {
@@ -146,32 +146,33 @@ pub fn take_action<'a>(
 }
 
 // Where a passage leads.
-fn cross_to(x: Aisle, side: usize, at: At, p: usize) -> At
-    requires { ⌜ (x .policy < 5) × (side < 3) × (at .state < 9) × (p < 5) ⌝ }
-    ensures { λ r. ⌜ r ≡ crossTo x side at (passageOf p) ⌝ }
+fn cross_to(x: Aisle, at: At, p: usize) -> At
+    requires { ⌜ InRange x × (at .state < 9) × (p < 5) ⌝ }
+    ensures { λ r. ⌜ r ≡ crossTo x at (passageOf p) ⌝ }
 {
-    let state = passage_step(x.policy, p, side, at.state);
+    let state = passage_step(x.policy, p, x.side, at.state);
     let demand = at.demand;
     At { state, demand }
 }
 
 // The way on over the passage of a number.
-fn through(next: &[u16], x: Aisle, side: usize, at: At, p: usize) -> usize
-    requires { ⌜ NextReady (now next) (x .policy) side (x .layout .width) (at .state) (at .demand) × (p < 5) ⌝ }
-    ensures { λ r. ⌜ r ≡ wayOn x side (now (next .entry)) at (passageOf p) ⌝ }
+fn through(next: &[u16], x: Aisle, at: At, p: usize) -> usize
+    requires { ⌜ NextReady x (now next) (at .state) (at .demand) × (p < 5) ⌝ }
+    ensures { λ r. ⌜ r ≡ wayOn x (now (next .entry)) at (passageOf p) ⌝ }
 {
-    let to = cross_to(x, side, at, p);
+    let to = cross_to(x, at, p);
     plus(passage_length(p, x.layout.width), value_at(next, to))
 }
 
 // The number of the first passage over which the way on has that value.
-fn choose_passage(next: &[u16], x: Aisle, side: usize, tried: usize, at: At, value: usize) -> usize
-    requires { ⌜ NextReady (now next) (x .policy) side (x .layout .width) (at .state) (at .demand) × (tried ≤ 5) ⌝ }
-    ensures { λ r. ⌜ FirstRank (wayOn x side (now (next .entry)) at) value (take tried passagesInOrder) P00 r ⌝ }
+fn choose_passage(next: &[u16], x: Aisle, at: At, value: usize) -> usize
+    requires { ⌜ NextReady x (now next) (at .state) (at .demand) ⌝ }
+    ensures { λ r. ⌜ FirstRank (wayOn x (now (next .entry)) at) value (take (x .tried) passagesInOrder) P00 r ⌝ }
 {
+    let tried = x.tried;
     let mut p = 0;
     while p < tried {
-        if through(next, x, side, at, p) == value {
+        if through(next, x, at, p) == value {
             return p;
         }
         p += 1;
@@ -180,19 +181,12 @@ fn choose_passage(next: &[u16], x: Aisle, side: usize, tried: usize, at: At, val
 }
 
 // The first passage over which the way on has that value, which some passage has.
-pub fn take_passage(
-    next: &[u16],
-    x: Aisle,
-    side: usize,
-    tried: usize,
-    at: At,
-    value: usize,
-) -> Crossed
-    requires { ⌜ NextReady (now next) (x .policy) side (x .layout .width) (at .state) (at .demand) × (tried ≤ 5) × ((p : Passage) × (firstAt (wayOn x side (now next) at) value (take tried passagesInOrder) ≡ some p)) ⌝ }
-    ensures { λ r. ⌜ PassageTaken x side tried (now (next .entry)) at value r ⌝ }
+pub fn take_passage(next: &[u16], x: Aisle, at: At, value: usize) -> Crossed
+    requires { ⌜ NextReady x (now next) (at .state) (at .demand) × ((p : Passage) × (firstAt (wayOn x (now next) at) value (take (x .tried) passagesInOrder) ≡ some p)) ⌝ }
+    ensures { λ r. ⌜ PassageTaken x (now (next .entry)) at value r ⌝ }
 {
-    let p = choose_passage(next, x, side, tried, at, value);
-    let to = cross_to(x, side, at, p);
+    let p = choose_passage(next, x, at, value);
+    let to = cross_to(x, at, p);
     let passage = passage_of(p);
     Crossed { passage, at: to }
 }

@@ -23,7 +23,7 @@ abbrev μ-loop : tie.MeasureT-loop
 action-count-requires : tie.Need-action-count-requires Inv-loop μ-loop
 action-count-requires c κs =
     let start = c .before .before .before in
-    let w = within (start .args .x .layout) (start .pre .ready .bounds) in omega arith
+    let w = within (start .args .x .layout) (start .pre .ready .aisle .bounds) in omega arith
 
 loop-holds : tie.Need-loop-holds Inv-loop μ-loop
 loop-holds c = (omega arith, λ i l. absurd (omega arith))

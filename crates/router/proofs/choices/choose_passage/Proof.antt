@@ -14,32 +14,32 @@ use Rattle.router.proofs.choices.choose_passage.Statement.{statement}
 use Rattle.router.proofs.choices.choose_passage.Tie as tie
 
 abbrev Inv-loop : tie.InvT-loop
-Inv-loop next x side tried at value p₀ p = (p ≤ tried) × NoneBefore (wayOn x side next at) value (take tried passagesInOrder) P00 p
+Inv-loop next x at value tried p₀ p = (p ≤ tried) × NoneBefore (wayOn x next at) value (take (x .tried) passagesInOrder) P00 p
 
 abbrev μ-loop : tie.MeasureT-loop
-μ-loop next x side tried at value p₀ p = tried - p
+μ-loop next x at value tried p₀ p = tried - p
 
 -- the way on that is compared is that of the passage of the number
 way-read : (c : tie.After-through Inv-loop μ-loop) →
     let x = c .before .before .before .before .args in
-    c .through .result ≡ wayOn (x .x) (x .side) (now (x .next)) (x .at) (getD (take (x .tried) passagesInOrder) (c .before .before .loop .p) P00)
+    c .through .result ≡ wayOn (x .x) (now (x .next)) (x .at) (getD (take (x .x .tried) passagesInOrder) (c .before .before .loop .p) P00)
 way-read c =
     let start = c .before .before .before .before in
     let x = start .args in
     let p = c .before .before .loop .p in
-    c .through .ensures ∙ ap (wayOn (x .x) (x .side) (now (x .next)) (x .at)) (sym (passage-tried (x .tried) p (omega arith) (start .pre .1)))
+    c .through .ensures ∙ ap (wayOn (x .x) (now (x .next)) (x .at)) (sym (passage-tried (x .x .tried) p (omega arith) (start .pre .aisle .few)))
 
 loop-holds : tie.Need-loop-holds Inv-loop μ-loop
 loop-holds c = (omega arith, λ i l. absurd (omega arith))
 
 through-requires : tie.Need-through-requires Inv-loop μ-loop
-through-requires c κs = let start = c .before .before .before in (start .pre .0, omega (arith, start .pre .1))
+through-requires c κs = let start = c .before .before .before in (start .pre, omega (arith, start .pre .aisle .few))
 
 returns : tie.Need-returns Inv-loop μ-loop
 returns c =
     let start = c .before .before .before .before .before in
     let loop = c .before .before .before .loop in
-    rank-found _ _ _ _ (loop .p) (loop .inv .1) (omega (arith, tried-length (start .args .tried) (start .pre .1))) (sym (way-read (c .before)) ∙ c .if1 .taken)
+    rank-found _ _ _ _ (loop .p) (loop .inv .1) (omega (arith, tried-length (start .args .x .tried) (start .pre .aisle .few))) (sym (way-read (c .before)) ∙ c .if1 .taken)
 
 add-p : tie.Need-add-p Inv-loop μ-loop
 add-p c = omega arith
@@ -56,7 +56,7 @@ returns-2 : tie.Need-returns-2 Inv-loop μ-loop
 returns-2 c =
     let start = c .before .before .before in
     let loop = c .before .loop in
-    rank-none _ _ _ _ (start .args .tried) (λ i l. loop .inv .1 i (omega (arith, loop .inv .0))) (sym (tried-length (start .args .tried) (start .pre .1)))
+    rank-none _ _ _ _ (start .args .x .tried) (λ i l. loop .inv .1 i (omega (arith, loop .inv .0))) (sym (tried-length (start .args .x .tried) (start .pre .aisle .few)))
 
 pub choose-passage-spec : {M : Type 1} → statement M
 choose-passage-spec =

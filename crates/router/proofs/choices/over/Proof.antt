@@ -27,7 +27,7 @@ lands c =
 action-at-requires : tie.Need-action-at-requires
 action-at-requires c κs =
     let start = c .before .before .before .before in
-    let w = within (start .args .x .layout) (start .pre .0 .ready .bounds) in (omega arith, start .pre .1)
+    let w = within (start .args .x .layout) (start .pre .0 .ready .aisle .bounds) in (omega arith, start .pre .1)
 
 step-to-requires : tie.Need-step-to-requires
 step-to-requires c κs =
@@ -36,12 +36,12 @@ step-to-requires c κs =
 
 action-length-requires : tie.Need-action-length-requires
 action-length-requires c κs =
-    let asked = c .before .before .before .before .before .before .pre .0 in (asked .ready .bounds, of-aisle (c .before) .kind-below)
+    let asked = c .before .before .before .before .before .before .pre .0 in (asked .ready .aisle .bounds, of-aisle (c .before) .kind-below)
 
 value-at-requires : tie.Need-value-at-requires
 value-at-requires c κs =
     let asked = c .before .before .before .before .before .before .before .pre .0 in
-    let to = lands (c .before) in (omega (arith, asked .ready .small), omega (arith, asked .ready .small, asked .long))
+    let to = lands (c .before) in (omega (arith, asked .ready .aisle .small), omega (arith, asked .ready .aisle .small, asked .long))
 
 plus-requires : tie.Need-plus-requires
 plus-requires c κs = search needs

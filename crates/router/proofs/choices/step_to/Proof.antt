@@ -20,10 +20,10 @@ in-maps : (c : tie.Start) → let x = c .args in
 in-maps c =
     let x = c .args in
     let ready = c .pre .0 in
-    let w = within (x .x .layout) (ready .bounds) in
+    let w = within (x .x .layout) (ready .aisle .bounds) in
     let of = c .pre .1 in
     let low = ready .front-below (x .c .front) (x .at .demand) (of .front-within) (c .pre .3) in
-    (omega arith, omega arith, omega (arith, ready .small), omega (arith, low, ready .small))
+    (omega arith, omega arith, omega (arith, ready .aisle .small), omega (arith, low, ready .aisle .small))
 
 keeps-halves-requires : tie.Need-keeps-halves-requires
 keeps-halves-requires c κs = search needs

@@ -29,7 +29,7 @@ choose-action-requires c κs = search needs
 action-at-requires : tie.Need-action-at-requires
 action-at-requires c κs =
     let start = c .before .before .before .before in
-    let w = within (start .args .x .layout) (start .pre .0 .ready .bounds) in (omega arith, rank-in c)
+    let w = within (start .args .x .layout) (start .pre .0 .ready .aisle .bounds) in (omega arith, rank-in c)
 
 step-to-requires : tie.Need-step-to-requires
 step-to-requires c κs =
@@ -43,7 +43,7 @@ value-at-requires c κs =
     let asked = start .pre .0 in
     let to =
     step-lands (x .x) (now (x .after)) (now (x .fronts)) (now (x .backs)) (x .at) _ _ (asked .ready) (of-aisle (c .before)) (asked .demand-below) (c .step-to .ensures) in
-    (omega (arith, asked .ready .small), omega (arith, asked .ready .small, asked .long))
+    (omega (arith, asked .ready .aisle .small), omega (arith, asked .ready .aisle .small, asked .long))
 
 action-of-requires : tie.Need-action-of-requires
 action-of-requires c κs = search needs

@@ -15,8 +15,8 @@ cross-to-requires c κs =
     let start = c .before .before in
     let x = start .args in
     let next = start .pre .0 in
-    let low = passage-below (x .x) (x .side) (now (x .next)) (x .at) (x .tried) (x .value) (c .choose-passage .result) (start .pre .1) (c .choose-passage .ensures) (start .pre .2) in
-    (next .policy-below, next .side-below, next .state-below, omega (arith, start .pre .1))
+    let low = passage-below (x .x) (now (x .next)) (x .at) (x .value) (c .choose-passage .result) (next .aisle .few) (c .choose-passage .ensures) (start .pre .1) in
+    (next .aisle, next .state-below, omega (arith, next .aisle .few))
 
 passage-of-requires : tie.Need-passage-of-requires
 passage-of-requires c κs = search needs
@@ -26,7 +26,7 @@ returns c =
     let start = c .before .before .before .before in
     let x = start .args in
     let number = c .before .before .choose-passage in
-    passage-taken (x .x) (x .side) (now (x .next)) (x .at) (x .tried) (x .value) (number .result) (start .pre .1) (number .ensures) (start .pre .2) _
+    passage-taken (x .x) (now (x .next)) (x .at) (x .value) (number .result) (start .pre .0 .aisle .few) (number .ensures) (start .pre .1) _
     (c .passage-of .ensures) (c .before .cross-to .ensures)
 
 pub take-passage-spec : {M : Type 1} → statement M

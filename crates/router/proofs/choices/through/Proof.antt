@@ -4,6 +4,7 @@ use native.Mathlib.Omega.{arith}
 use mathlib.Core.Path.{ap}
 use denote.Ref.{now}
 use Rattle.machine.specs.Steps.{passageOf}
+use Rattle.table.proofs.Geometry.{within}
 use Rattle.router.specs.declared.choices.At.{At}
 use Rattle.router.proofs.ChoiceLaws.{way-on}
 use Rattle.router.proofs.choices.through.Statement.{statement}
@@ -13,7 +14,9 @@ cross-to-requires : tie.Need-cross-to-requires
 cross-to-requires c κs = search needs
 
 passage-length-requires : tie.Need-passage-length-requires
-passage-length-requires c κs = search needs
+passage-length-requires c κs =
+    let start = c .before .before in
+    let w = within (start .args .x .layout) (start .pre .0 .aisle .bounds) in (start .pre .1, w .width .1)
 
 value-at-requires : tie.Need-value-at-requires
 value-at-requires c κs =
@@ -27,7 +30,7 @@ plus-requires c κs = search needs
 returns : tie.Need-returns
 returns c =
     let x = c .before .before .before .before .before .args in
-    way-on (x .x) (x .side) (now (x .next)) (x .at) (passageOf (x .p)) _ _ _ _
+    way-on (x .x) (now (x .next)) (x .at) (passageOf (x .p)) _ _ _ _
     (c .before .before .before .cross-to .ensures) (c .before .before .passage-length .ensures .0) (c .before .value-at .ensures .0) (c .plus .ensures)
 
 pub through-spec : {M : Type 1} → statement M

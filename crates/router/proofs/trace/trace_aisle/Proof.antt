@@ -1,71 +1,54 @@
--- `router::trace::trace_aisle` meets its contract: its parts make what the trace's laws ask for, and `trace-next` takes it on.
+-- `router::trace::trace_aisle` meets its contract: its parts make what the trace's laws ask for, and `trace-next` takes the trace on.
 use borrow.Author.Needs.{needs}
-use Prim.Native.Nat.{ℕ, suc, _+_, _-_, _≤_, _<_}
+use Prim.Native.Nat.{suc, _+_, _≤_, _<_}
 use native.Mathlib.Omega.{arith}
 use native.Mathlib.Numerals.{add-one}
-use mathlib.Core.Path.{_≡_, sym, _∙_, ap, subst, subst₂}
-use lib.ListN.{length}
+use mathlib.Core.Path.{_≡_, _∙_, ap, subst}
 use denote.Ref.{now}
-use Rattle.rules.specs.Refusals.{Admitted, weight}
-use Rattle.values.specs.Values.{jobOf}
-use Rattle.machine.specs.Steps.{policyOf}
-use Rattle.demand.specs.Maps.{MapsReady}
-use Rattle.demand.specs.Shelves.{MapsAsked}
-use Rattle.table.specs.declared.layers.Aisle.{Aisle}
-use Rattle.table.specs.Layers.{AisleReady}
-use Rattle.table.specs.Rows.{AfterFilled}
-use Rattle.table.specs.TableHolds.{aisleOf, sideOf, triedAt}
-use Rattle.table.proofs.Geometry.{within}
-use Rattle.table.proofs.StepLaws.{side-below}
-use Rattle.table.proofs.TableFills.{aisle-ready}
+use Rattle.rules.specs.Jobs.{Job}
+use Rattle.demand.specs.Maps.{MapsAsked, MapsReady}
+use Rattle.table.specs.Crossings.{InRange}
+use Rattle.table.specs.TableHolds.{OrderOf, aisleOf}
+use Rattle.table.proofs.TableFills.{order-aisles, order-few, maps-asked, same-weight, in-range, ready}
+use Rattle.router.specs.Tracing.{TraceAsked}
 use Rattle.router.proofs.TraceLaws.{Aisled, action-there, taken-lands, passage-there, trace-next}
 use Rattle.router.proofs.trace.trace_aisle.Statement.{statement}
 use Rattle.router.proofs.trace.trace_aisle.Tie as tie
 
--- the next aisle's number is small
+-- the next aisle is one of the order's
+in-order : (c : tie.Start) → (job : Job) → OrderOf job (c .args .o) → TraceAsked job (c .args .n) (c .args .t) (now (c .args .next)) (c .args .here)
+    → (1 ≤ c .args .n + 1) × (c .args .n + 1 ≤ c .args .o .layout .aisles)
+in-order c job of asked = (omega arith, omega (arith, asked .more, order-aisles job (c .args .o) of))
+
 few : (c : tie.Start) → c .args .n < 16
-unfolding jobOf
-few c = let w = within (c .args .job .layout) (c .pre .0 .sound .admitted .layout) in omega (arith, c .pre .0 .aisle .1)
+few c =
+    let r = c .pre .0 in
+    let l = in-order c (r .0) (r .1) (r .2) in omega (arith, order-few (r .0) (c .args .o) (r .1))
 
--- the numbers of the aisle
-numbers : (c : tie.After-numbers-of) →
-    let x = c .before .before .before .before .before .before .before .before .args in c .numbers-of .result ≡ aisleOf (jobOf (x .job)) (suc (x .n))
-numbers c =
-    let x = c .before .before .before .before .before .before .before .before .args in
-    c .numbers-of .ensures ∙ ap (aisleOf (jobOf (x .job))) (add-one (x .n))
+-- the numbers of the aisle are those of any job of the order
+numbers-are : (c : tie.After-aisle-of) → (job : Job) → OrderOf job (c .before .before .before .before .before .before .before .args .o)
+    → c .aisle-of .result ≡ aisleOf job (suc (c .before .before .before .before .before .before .before .args .n))
+numbers-are c job of =
+    c .aisle-of .ensures job of ∙ ap (aisleOf job) (add-one (c .before .before .before .before .before .before .before .args .n))
 
--- the numbers are in range, and the maps are filled
-ready : (c : tie.After-numbers-of) →
-    let maps = c .before .before .before .before .fill-maps in AisleReady (c .numbers-of .result) (maps .last .0) (maps .last .1 .0)
-ready c =
-    let start = c .before .before .before .before .before .before .before .before in
-    let maps = c .before .before .before .before .fill-maps in
-    let filled =
-    subst (λ k. MapsReady (jobOf (start .args .job)) k (maps .last .0) (maps .last .1 .0)) (add-one (start .args .n)) (maps .ensures .0) in
-    subst (λ (y : Aisle). AisleReady y (maps .last .0) (maps .last .1 .0)) (sym (numbers c))
-    (aisle-ready (jobOf (start .args .job)) (start .pre .0 .sound .admitted) (suc (start .args .n)) _ _ filled (omega (arith, maps .ensures .1)) (omega (arith, maps .ensures .2)))
-
--- what the trace's laws ask for
+-- what the laws ask for, of any job of the order
 aisled : (c : tie.After-fill-after) →
-    let x = c .before .before .before .before .before .before .before .before .before .before .before .before .args in
-    let maps = c .before .before .before .before .before .before .before .before .fill-maps in
-    Aisled (jobOf (x .job)) (x .n) (c .before .before .before .before .numbers-of .result) (c .before .before .before .side-of .result) (c .before .before .tried-of .result) (now (x .next)) (c .fill-after .last .0) (maps .last .0) (maps .last .1 .0)
-unfolding jobOf aisleOf
-aisled c =
-    let start = c .before .before .before .before .before .before .before .before .before .before .before .before in
+    let start = c .before .before .before .before .before .before .before .before .before in
     let x = start .args in
-    let job = jobOf (x .job) in
-    let maps = c .before .before .before .before .before .before .before .before .fill-maps in
-    let is = numbers (c .before .before .before .before) in
+    let maps = c .before .before .before .before .before .fill-maps in
+    (job : Job) → OrderOf job (x .o) → TraceAsked job (x .n) (x .t) (now (x .next)) (x .here)
+    → Aisled job (x .n) (c .before .before .aisle-of .result) (now (x .next)) (c .fill-after .last .0) (maps .last .0) (maps .last .1 .0)
+aisled c job of asked =
+    let start = c .before .before .before .before .before .before .before .before .before in
+    let x = start .args in
+    let maps = c .before .before .before .before .before .fill-maps in
+    let l = in-order start job of asked in
+    let filled = maps .ensures .0 job (maps-asked job (x .o) of (x .n + 1) (l .0) (l .1)) in
     record {
-      ok = start .pre .0 .sound .admitted;
-      numbers = is;
-      place = c .before .before .before .side-of .ensures ∙ ap (sideOf (x .job .layout .depot)) (add-one (x .n));
-      passages = c .before .before .tried-of .ensures .0 ∙ ap (λ k. triedAt (x .job .layout .aisles - k)) (add-one (x .n));
-      maps = subst (λ k. MapsReady job k (maps .last .0) (maps .last .1 .0)) (add-one (x .n)) (maps .ensures .0);
-      filled =
-          subst₂ (AfterFilled (c .fill-after .last .0) (now (x .next)) (c .before .before .tried-of .result) (policyOf (c .before .before .before .before .numbers-of .result .policy)) (c .before .before .before .side-of .result))
-          (ap (λ (y : Aisle). y .layout .width) (sym is)) (start .pre .0 .digits-of .counted ∙ ap (λ (y : Aisle). y .weight) (sym is)) (c .fill-after .ensures .0);
+      ok = of .admitted;
+      numbers = numbers-are (c .before .before) job of;
+      maps = subst (λ k. MapsReady job k (maps .last .0) (maps .last .1 .0)) (add-one (x .n)) filled;
+      filled = c .fill-after .ensures .0;
     }
 
 add-j : tie.Need-add-j
@@ -80,37 +63,27 @@ slice-aggregate-fill-maps-2 c = search needs
 fill-maps-requires : tie.Need-fill-maps-requires
 fill-maps-requires c κs =
     let start = c .before .before .before in
-    let x = start .args in
-    (omega arith, omega arith, subst (MapsAsked (x .job) (x .shelf) (x .d)) (sym (add-one (x .n))) (start .pre .0))
+    let r = start .pre .0 in
+    let l = in-order start (r .0) (r .1) (r .2) in
+    (omega arith, omega arith, (r .0, maps-asked (r .0) (start .args .o) (r .1) (start .args .n + 1) (l .0) (l .1)))
 
-numbers-of-requires : tie.Need-numbers-of-requires
-numbers-of-requires c κs = search needs
-
-side-of-requires : tie.Need-side-of-requires
-side-of-requires c κs = search needs
-
-tried-of-requires : tie.Need-tried-of-requires
-tried-of-requires c κs = search needs
+aisle-of-requires : tie.Need-aisle-of-requires
+aisle-of-requires c κs =
+    let start = c .before .before .before .before .before .before in
+    let r = start .pre .0 in
+    let l = in-order start (r .0) (r .1) (r .2) in ((r .0, r .1), l .0, l .1)
 
 slice-aggregate-fill-after : tie.Need-slice-aggregate-fill-after
 slice-aggregate-fill-after c = search needs
 
 fill-after-requires : tie.Need-fill-after-requires
-unfolding jobOf
 fill-after-requires c κs =
-    let start = c .before .before .before .before .before .before .before .before .before .before .before in
-    let w = within (start .args .job .layout) (start .pre .0 .sound .admitted .layout) in
-    let small = start .pre .0 .digits-of .small .1 in
-    let side = c .before .before .side-of .ensures in
-    let x = ready (c .before .before .before) in (
-      omega arith,
-      omega (arith, start .pre .1),
-      small,
-      c .before .tried-of .ensures .1,
-      x .policy-below,
-      omega (arith, side, side-below (start .args .job .layout .depot) (start .args .n + 1)),
-      w .width .1,
-    )
+    let at-aisle = c .before in
+    let start = at-aisle .before .before .before .before .before .before .before in
+    let r = start .pre .0 in
+    let range = in-range (r .0) _ (at-aisle .aisle-of .result) (numbers-are at-aisle (r .0) (r .1)) (r .1 .admitted) in
+    let small = range .small in
+    record { aisle = range; after-long = omega arith; next-long = omega (arith, start .pre .1) }
 
 slice-aggregate-take-action : tie.Need-slice-aggregate-take-action
 slice-aggregate-take-action c = search needs
@@ -122,55 +95,58 @@ slice-aggregate-take-action-3 : tie.Need-slice-aggregate-take-action-3
 slice-aggregate-take-action-3 c = search needs
 
 take-action-requires : tie.Need-take-action-requires
-unfolding jobOf aisleOf
 take-action-requires c κs =
-    let filled = c .before .before .before .before .before in
-    let start = filled .before .before .before .before .before .before .before .before .before .before .before .before in
-    let traced = start .pre .2 .traced in
-    let weight-is = ap (λ (y : Aisle). y .weight) (numbers (filled .before .before .before .before)) in (
+    let at-after = c .before .before .before .before .before in
+    let at-aisle = at-after .before .before in
+    let maps = at-aisle .before .before .before .fill-maps in
+    let start = at-aisle .before .before .before .before .before .before .before in
+    let r = start .pre .0 in
+    let h = aisled at-after (r .0) (r .1) (r .2) in
+    let x = at-aisle .aisle-of .result in
+    let traced = r .2 .traced in (
       record {
-        ready = ready (filled .before .before .before .before);
-        long = omega (arith, filled .fill-after .ensures .1);
+        ready = ready (r .0) _ x (h .numbers) (r .1 .admitted) _ _ (h .maps) (omega (arith, maps .ensures .1)) (omega (arith, maps .ensures .2));
+        long = omega (arith, at-after .fill-after .ensures .1);
         state-below = omega (arith, traced .state-below);
-        demand-below = omega (arith, weight-is, traced .demand-below);
+        demand-below = omega (arith, same-weight (r .0) _ x (h .numbers), traced .demand-below);
       },
-      action-there (aisled filled) (start .pre .2),
+      action-there h (r .2),
     )
 
 take-passage-requires : tie.Need-take-passage-requires
-unfolding jobOf aisleOf
 take-passage-requires c κs =
-    let filled = c .before .before .before .before .before .before .before in
-    let start = filled .before .before .before .before .before .before .before .before .before .before .before .before in
-    let x = ready (filled .before .before .before .before) in
-    let w = within (start .args .job .layout) (start .pre .0 .sound .admitted .layout) in
-    let is = numbers (filled .before .before .before .before) in
-    let to = taken-lands (aisled filled) (start .pre .2) (c .before .take-action .ensures) in
-    let light = start .pre .0 .sound .admitted .light in (
+    let at-action = c .before in
+    let at-after = at-action .before .before .before .before .before .before in
+    let at-aisle = at-after .before .before in
+    let start = at-aisle .before .before .before .before .before .before .before in
+    let r = start .pre .0 in
+    let h = aisled at-after (r .0) (r .1) (r .2) in
+    let to = taken-lands h (r .2) (at-action .take-action .ensures) in
+    let light = r .1 .admitted .light in (
       record {
+        aisle = in-range (r .0) _ (at-aisle .aisle-of .result) (h .numbers) (r .1 .admitted);
         long = omega (arith, start .pre .1);
         demand = omega arith;
-        policy-below = x .policy-below;
-        side-below = omega (arith, filled .before .before .before .side-of .ensures, side-below (start .args .job .layout .depot) (start .args .n + 1));
         state-below = to .0;
-        width-fits = omega (arith, ap (λ (y : Aisle). y .layout .width) is);
       },
-      filled .before .before .tried-of .ensures .1,
-      passage-there (aisled filled) (start .pre .2) (c .before .take-action .ensures),
+      passage-there h (r .2) (at-action .take-action .ensures),
     )
 
 mul-stages : tie.Need-mul-stages
-mul-stages c = let l = few (c .before .before .before .before .before .before .before .before .before .before .before .before .before .before .before .before .before .before .before .before .before) in omega arith
+mul-stages c =
+    let at-after = c .before .before .before .before .before .before .before .before .before in
+    let l = few (at-after .before .before .before .before .before .before .before .before .before) in omega arith
 
 array-set-from-stages : tie.Need-array-set-from-stages
-array-set-from-stages c = few (c .before .before .before .before .before .before .before .before .before .before .before .before .before .before .before .before .before .before .before .before .before)
+array-set-from-stages c =
+    let at-after = c .before .before .before .before .before .before .before .before .before in
+    few (at-after .before .before .before .before .before .before .before .before .before)
 
 returns : tie.Need-returns
 returns c =
-    let taken = c .before .before .before .before in
-    let filled = taken .before .before .before .before .before .before in
-    let start = filled .before .before .before .before .before .before .before .before .before .before .before .before in
-    trace-next (aisled filled) (start .pre .2) (taken .take-action .ensures) (c .before .before .take-passage .ensures)
+    let at-action = c .before .before .before .before in
+    let at-after = at-action .before .before .before .before .before .before in
+    λ job of asked. trace-next (aisled at-after job of asked) asked (at-action .take-action .ensures) (c .before .before .take-passage .ensures)
 
 pub trace-aisle-spec : {M : Type 1} → statement M
 trace-aisle-spec =
@@ -180,9 +156,7 @@ trace-aisle-spec =
     slice-aggregate-fill-maps
     slice-aggregate-fill-maps-2
     fill-maps-requires
-    numbers-of-requires
-    side-of-requires
-    tried-of-requires
+    aisle-of-requires
     slice-aggregate-fill-after
     fill-after-requires
     slice-aggregate-take-action
