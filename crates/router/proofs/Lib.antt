@@ -1,5 +1,7 @@
 pub mod FirstRanks
+pub mod ChoiceLaws
 pub mod TraceLaws
+pub mod TraceRows
 pub mod TraceEnds
 pub mod RankLaws
 pub mod Numbers

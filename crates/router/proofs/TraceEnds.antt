@@ -28,6 +28,7 @@ use Rattle.optimum.proofs.Radix.{demand-of-code, whole-within}
 use Rattle.values.specs.declared.Stage.{Stage}
 use Rattle.values.specs.declared.PlanValue.{PlanValue}
 use Rattle.values.specs.Values.{planOf}
+use Rattle.router.specs.declared.trace.Trace.{Trace}
 use Rattle.router.specs.Tracing.{stagesRest, Traced}
 use Rattle.demand.proofs.Composition.{whole-code}
 
@@ -43,13 +44,16 @@ module _ (job : Job) (ok : Admitted job) where
       best-allowed job (ok .layout) (x .0) (serving-plans job (x .0) .1 (x .1, x .2, x .3)) .0
 
   -- the table's value at the start is the length of the best plan
-  pub start-length : value (routing job (allActions job)) (job .layout .aisles) 1 nothing (demandOf (radices job) (weight (job .lines) - 1)) ≡ planLength (job .layout) (bestPlan job)
+  pub start-length : value (routing job (allActions job)) (job .layout .aisles) 1 nothing (demandOf (radices job) (weight (job .lines) - 1))
+      ≡ planLength (job .layout) (bestPlan job)
   unfolding tableValue
   start-length =
       let x = serving-exists job ok in
       rw start-demand (table-length job (ok .layout) (x .0) (serving-plans job (x .0) .1 (x .1, x .2, x .3)))
 
-  pub trace-start : (stages : List Stage) → length stages ≡ 16 → Traced job stages 0 0 (weight (job .lines) - 1)
+  -- the trace starts in the state in which nothing is trodden, with the whole list
+  pub trace-start : (stages : List Stage) → length stages ≡ 16
+      → Traced job 0 (record { stages = stages; at = record { state = 0; demand = weight (job .lines) - 1 } })
   unfolding tableChoice stagesRest
   trace-start stages sized =
       let x = serving-exists job ok in
@@ -66,19 +70,21 @@ module _ (job : Job) (ok : Admitted job) where
       }
 
   -- behind the last aisle the whole plan is found
-  trace-whole : (stages : List Stage) (s q : ℕ) → Traced job stages (job .layout .aisles) s q → stagesRest stages (job .layout .aisles) ≡ restOf (bestPlan job)
-  trace-whole stages s q t =
+  trace-whole : (t : Trace) → Traced job (job .layout .aisles) t → stagesRest (t .stages) (job .layout .aisles) ≡ restOf (bestPlan job)
+  trace-whole t traced =
+      let found = stagesRest (t .stages) (job .layout .aisles) in
       let m-is : job .layout .aisles - job .layout .aisles ≡ 0 = omega arith in
-      let none-left : _≡_ {A = Option Rest} (some []) (some (t .rest)) = rw m-is at (t .leads) in
-      let nothing-more : [] ≡ t .rest = cc in
-      sym (append-nil (stagesRest stages (job .layout .aisles))) ∙ ap (λ xs. stagesRest stages (job .layout .aisles) ++ xs) nothing-more ∙ t .whole
+      let none-left : _≡_ {A = Option Rest} (some []) (some (traced .rest)) = rw m-is at (traced .leads) in
+      let nothing-more : [] ≡ traced .rest = cc in
+      sym (append-nil found) ∙ ap (λ xs. found ++ xs) nothing-more ∙ traced .whole
 
 -- a plan's actions and passages out of its pairs
 actions-back : (xs : List Action) (ps : List Passage) → map (λ (t : Action × Passage). t .0) (pairUp xs ps) ≡ xs
 actions-back [] ps = refl
 actions-back (a ∷ xs) ps = ap (λ l. a ∷ l) (actions-back xs (tail ps))
 
-passages-back : (xs : List Action) (ps : List Passage) → length ps ≤ length xs → map (λ (t : Action × Passage). t .1) (take (length ps) (pairUp xs ps)) ≡ ps
+passages-back : (xs : List Action) (ps : List Passage) → length ps ≤ length xs
+    → map (λ (t : Action × Passage). t .1) (take (length ps) (pairUp xs ps)) ≡ ps
 passages-back xs [] h = refl
 passages-back [] (p ∷ ps) h = absurd (omega arith)
 passages-back (a ∷ xs) (p ∷ ps) h = ap (λ l. p ∷ l) (passages-back xs ps (omega arith))
@@ -91,15 +97,38 @@ take-map f (suc n) (x ∷ xs) = ap (λ l. f x ∷ l) (take-map f n xs)
 abbrev pair : Stage → Action × Passage
 pair s = (s .action, s .passage)
 
+abbrev first : Action × Passage → Action
+first x = x .0
+
+abbrev second : Action × Passage → Passage
+second x = x .1
+
 -- the plan of the stages is the best plan
-pub trace-end : (job : Job) → Admitted job → (stages : List Stage) (s q : ℕ) → Traced job stages (job .layout .aisles) s q → planOf (record { aisles = job .layout .aisles; stages = stages }) ≡ bestPlan job
+stages-plan : (job : Job) → Admitted job → (t : Trace) → Traced job (job .layout .aisles) t
+    → planOf (record { aisles = job .layout .aisles; stages = t .stages }) ≡ bestPlan job
 unfolding planOf stagesRest restOf
-trace-end job ok stages s q t =
+stages-plan job ok t traced =
     let m = job .layout .aisles in
+    let stages = t .stages in
     let best = bestPlan job in
+    let pairs = pairUp (best .actions) (best .passages) in
     let well = best-well job ok in
-    let whole : map pair (take m stages) ≡ pairUp (best .actions) (best .passages) = trace-whole job ok stages s q t in
+    let whole : map pair (take m stages) ≡ pairs = trace-whole job ok t traced in
     let count : m - 1 ≡ length (best .passages) = omega (arith, well .passages) in
-    let actions : map (λ (x : Stage). x .action) (take m stages) ≡ best .actions = sym (map-map (λ (x : Action × Passage). x .0) pair (take m stages)) ∙ ap (map (λ (x : Action × Passage). x .0)) whole ∙ actions-back (best .actions) (best .passages) in
-    let passages : map (λ (x : Stage). x .passage) (take (m - 1) stages) ≡ best .passages = ap (map (λ (x : Stage). x .passage)) (sym (take-take (m - 1) m stages (omega arith))) ∙ sym (map-map (λ (x : Action × Passage). x .1) pair (take (m - 1) (take m stages))) ∙ ap (map (λ (x : Action × Passage). x .1)) (sym (take-map pair (m - 1) (take m stages)) ∙ ap (take (m - 1)) whole ∙ ap (λ k. take k (pairUp (best .actions) (best .passages))) count) ∙ passages-back (best .actions) (best .passages) (omega (arith, well .passages, well .aisles)) in
+    let few : map pair (take (m - 1) stages) ≡ take (length (best .passages)) pairs =
+    ap (map pair) (sym (take-take (m - 1) m stages (omega arith)))
+    ∙ sym (take-map pair (m - 1) (take m stages))
+    ∙ ap (take (m - 1)) whole
+    ∙ ap (λ k. take k pairs) count in
+    let actions : map (λ (x : Stage). x .action) (take m stages) ≡ best .actions =
+    sym (map-map first pair (take m stages)) ∙ ap (map first) whole ∙ actions-back (best .actions) (best .passages) in
+    let passages : map (λ (x : Stage). x .passage) (take (m - 1) stages) ≡ best .passages =
+    sym (map-map second pair (take (m - 1) stages))
+    ∙ ap (map second) few
+    ∙ passages-back (best .actions) (best .passages) (omega (arith, well .passages, well .aisles)) in
     ap₂ (λ x y. record { actions = x; passages = y }) actions passages
+
+pub trace-end : (job : Job) → Admitted job → (n : ℕ) (t : Trace) → n ≡ job .layout .aisles → Traced job n t
+    → planOf (record { aisles = n; stages = t .stages }) ≡ bestPlan job
+trace-end job ok n t all =
+    subst (λ k. Traced job k t → planOf (record { aisles = k; stages = t .stages }) ≡ bestPlan job) (sym all) (stages-plan job ok t)

@@ -1,56 +1,57 @@
 -- One more aisle of the best plan is read out of the table.
-use Prim.Native.Nat.{ℕ, zero, suc, _+_, _*_, _-_, _≤_, _<_, min}
+use Prim.Native.Nat.{ℕ, suc, _-_, _≤_, _<_}
 use native.Mathlib.Omega.{arith}
 use mathlib.Core.Path.{_≡_, refl, sym, _∙_, ap, ap₂, subst, subst₂}
 use mathlib.Core.List.{List, [], _∷_, _++_, map, append-assoc}
-use mathlib.Core.Bool.{true}
 use mathlib.Core.Option.{Option, none, some}
-use lib.ListN.{length, getD, take, set, length-set}
+use lib.ListN.{length, take, set, length-set}
 use lib.Seq.{take-suc-set}
 use Rattle.rules.specs.declared.Action.{Action}
-use Rattle.rules.specs.declared.Action.the-variants.{Void}
 use Rattle.rules.specs.declared.Passage.{Passage}
-use Rattle.rules.specs.declared.Passage.the-variants.{P00}
 use Rattle.rules.specs.Jobs.{Job}
-use Rattle.rules.specs.Refusals.{weight, stockInBounds, Admitted}
+use Rattle.rules.specs.Refusals.{weight, Admitted}
+use Rattle.rules.specs.Plans.{Fits}
 use Rattle.rules.specs.Lengths.{actionLength, passageLength}
-use Rattle.rules.specs.BestPlan.{actionsOf, passagesInOrder, bestPlan}
+use Rattle.rules.specs.BestPlan.{actionsOf, passagesInOrder}
 use Rattle.rules.specs.Machine.{State, nothing, closed, atFront, atBack, odd, joined, split, ending, dead, actionStep, passageStep}
 use Rattle.rules.proofs.Lists.{map-append}
 use Rattle.rules.proofs.Enumeration.{actions-sound}
 use Rattle.optimum.specs.Least.{sumUpTo, firstAt}
-use Rattle.optimum.specs.Table.{Rest, passagesBehind, onFrom, afterAction, value, choose}
+use Rattle.optimum.specs.Table.{Problem, Rest, passagesBehind, onFrom, overPassage, afterAction, overAction, value, firstPassage, firstAction, choose}
 use Rattle.optimum.specs.Demand.{gains, less, radices, demandOf, lessCode}
-use Rattle.optimum.specs.Routing.{noTour, sat, routing, allActions, restOf}
+use Rattle.optimum.specs.Routing.{noTour, sat, routing, allActions}
 use Rattle.optimum.proofs.Choice.{first-agree, first-at-cong, first-at-holds}
 use Rattle.optimum.proofs.Radix.{radices-positive, gains-length, less-code}
 use Rattle.values.specs.declared.Stage.{Stage}
-use Rattle.table.specs.declared.candidates.Candidate.{Candidate}
-use Rattle.table.specs.declared.layers.Aisle.{Aisle}
 use Rattle.machine.specs.States.{stateCode, stateOf}
-use Rattle.machine.specs.Steps.{policyOf, policyCode, passageOf, crossOf}
-use Rattle.table.specs.Candidates.{candidateOf, actionOf}
-use Rattle.table.specs.Rows.{throughPassage}
-use Rattle.table.specs.Layers.{stepCode, leftCode, throughAction}
-use Rattle.demand.specs.Maps.{MapsReady}
-use Rattle.table.specs.Rows.{leastAfter}
-use Rattle.router.specs.Choosing.{FirstRank}
-use Rattle.table.specs.TableHolds.{sideOf, aisleOf, triedAt, RowHolds}
-use Rattle.router.specs.Tracing.{stagesRest, Traced}
 use Rattle.machine.proofs.StepLaws.{state-of-code}
+use Rattle.demand.specs.Maps.{MapsReady}
+use Rattle.table.specs.declared.layers.Aisle.{Aisle}
+use Rattle.table.specs.Candidates.{candidateOf}
+use Rattle.table.specs.Rows.{nextAt}
+use Rattle.table.specs.Crossings.{AfterFilled}
+use Rattle.table.specs.TableHolds.{aisleOf, triedAt, values, AfterHolds}
+use Rattle.table.proofs.Geometry.{within}
 use Rattle.table.proofs.StepLaws.{cross-of, step-code}
-use Rattle.table.proofs.PassageLaws.{passage-tried, tried-length}
-use Rattle.table.proofs.ActionRows.{ranked-fits}
-use Rattle.table.proofs.Geometry.{action-of-candidate}
-use Rattle.table.proofs.TableFills.{tried-five}
-use Rattle.router.proofs.FirstRanks.{rank-within}
-use Rattle.table.proofs.TableValues.{values, behind, tried-passages, value-dead, below-weight, passage-value, least-after-value, left-code, through-value}
+use Rattle.table.proofs.PassageLaws.{state-small}
+use Rattle.table.proofs.TableValues.{tried-passages, value-dead, below-weight, passage-value, after-value, left-code, through-value}
+use Rattle.router.specs.declared.choices.At.{At}
+use Rattle.router.specs.declared.choices.Taken.{Taken}
+use Rattle.router.specs.declared.choices.Crossed.{Crossed}
+use Rattle.router.specs.declared.trace.Trace.{Trace}
+use Rattle.router.specs.Choosing.{ActionTaken, PassageTaken, valueAt, stepTo, wayOver, wayOn}
+use Rattle.router.specs.Tracing.{stagesRest, stateAt, demandAt, restFrom, Traced, TraceAsked}
+use Rattle.router.proofs.FirstRanks.{first-member}
 
 -- a way on that leads somewhere started from something found
 on-found : {A B : Type 0} (o : Option A) (g : A → Option B) (y : B) → onFrom o g ≡ some y → (x : A) × (o ≡ some x) × (g x ≡ some y)
 on-found none g y e = let z : _≡_ {A = ℕ} 0 1 = cc in absurd (omega arith)
 on-found (some x) g y e = (x, refl, e)
 
+some-same : {A : Type 0} {u v : A} → _≡_ {A = Option A} (some u) (some v) → u ≡ v
+some-same e = cc
+
+-- what follows is no longer than the whole
 part-below : (c v w : ℕ) → sat c w ≡ v → v < noTour → w < noTour
 unfolding sumUpTo
 part-below c v w e h = omega arith
@@ -68,219 +69,242 @@ alive job n j ending q h = omega arith
 alive job n j dead q h = absurd (omega (arith, value-dead job n j q))
 
 -- one more stage
-stages-more : (stages : List Stage) (n : ℕ) (a : Action) (p : Passage) → n < length stages → stagesRest (set stages n (record { action = a; passage = p })) (suc n) ≡ stagesRest stages n ++ ((a, p) ∷ [])
+stages-more : (stages : List Stage) (n : ℕ) (s : Stage) → n < length stages
+    → stagesRest (set stages n s) (suc n) ≡ stagesRest stages n ++ ((s .action, s .passage) ∷ [])
 unfolding stagesRest
-stages-more stages n a p h =
-    ap (map _) (take-suc-set stages n (record { action = a; passage = p }) h) ∙ map-append _ (take n stages) (record { action = a; passage = p } ∷ [])
+stages-more stages n s h = ap (map _) (take-suc-set stages n s h) ∙ map-append _ (take n stages) (s ∷ [])
 
-module _ (job : Job) (stocked : stockInBounds job ≡ true) (n s q : ℕ) (next fronts backs : List ℕ) (maps : MapsReady job (suc n) fronts backs) (left : ℕ) (rows : RowHolds job left (suc (suc n)) next) (demand : q < weight (job .lines)) (state : s < 8) where
-  abbrev aft : ℕ → ℕ → ℕ
-  aft = leastAfter next (triedAt left) (policyOf (policyCode (job .policy))) (sideOf (job .layout .depot) (suc n)) (job .layout .width)
+module _ (job : Job) (n : ℕ) where
+  abbrev table : Problem
+  table = routing job (allActions job)
 
-  abbrev here : ℕ
-  here = values job (suc left) (suc n) (stateOf s) (demandOf (radices job) q)
+  -- the aisles behind the next one, and the table's values for them
+  abbrev left : ℕ
+  left = job .layout .aisles - suc n
 
-  abbrev costA : Action → ℕ
-  costA a = sat (actionLength (job .layout) a) (behind job left (suc n) (actionStep job (suc n) a (stateOf s)) (less (demandOf (radices job) q) (gains job (suc n) a)))
+  abbrev later : State → List ℕ → ℕ
+  later = value table left (suc (suc n))
 
-  -- the action that the code finds is the one that the table leads to
-  action-found : (k : ℕ) (a : Action) → FirstRank (throughAction (aisleOf job (suc n)) aft fronts backs s q) here (actionsOf (job .layout .cells)) Void k → firstAt costA here (actionsOf (job .layout .cells)) ≡ some a → (k < length (actionsOf (job .layout .cells))) × (getD (actionsOf (job .layout .cells)) k Void ≡ a)
-  action-found k a rank found =
-      rank-within _ here Void (actionsOf (job .layout .cells)) k a rank
-      (first-agree _ _ here (actionsOf (job .layout .cells)) (λ b m. through-value job stocked left (suc n) aft fronts backs maps (λ t r l h. least-after-value job left (suc n) next rows t r h) s q state demand b (actions-sound (job .layout .cells) b m))
-      ∙ found)
+  -- the state and the demand behind an action of the next aisle
+  abbrev stateAfter : At → Action → State
+  stateAfter at a = actionStep job (suc n) a (stateAt at)
 
-  -- and so is the passage
-  passage-found : (s₁ q₁ p : ℕ) (x : Passage) → q₁ < weight (job .lines) → triedAt left ≤ 5 → FirstRank (throughPassage next (policyOf (policyCode (job .policy))) (sideOf (job .layout .depot) (suc n)) (job .layout .width) s₁ q₁) (behind job left (suc n) (stateOf s₁) (demandOf (radices job) q₁)) (take (triedAt left) passagesInOrder) P00 p → firstAt (λ y. sat (passageLength (job .layout) y) (values job left (suc (suc n)) (passageStep job (suc n) y (stateOf s₁)) (demandOf (radices job) q₁))) (behind job left (suc n) (stateOf s₁) (demandOf (radices job) q₁)) (passagesBehind passagesInOrder left) ≡ some x → (p < triedAt left) × (passageOf p ≡ x)
-  passage-found s₁ q₁ p x h five rank found =
-      let w = rank-within _ (behind job left (suc n) (stateOf s₁) (demandOf (radices job) q₁)) P00 (take (triedAt left) passagesInOrder) p x rank (first-at-cong _ _ (passage-value job left (suc n) next rows s₁ q₁ h) (behind job left (suc n) (stateOf s₁) (demandOf (radices job) q₁)) (take (triedAt left) passagesInOrder) ∙ ap (firstAt _ (behind job left (suc n) (stateOf s₁) (demandOf (radices job) q₁))) (tried-passages left) ∙ found) in
-      let l : p < triedAt left = omega (arith, w .0, tried-length (triedAt left) five) in
-      (l, sym (passage-tried (triedAt left) p l five) ∙ w .1)
+  abbrev demandAfter : At → Action → List ℕ
+  demandAfter at a = less (demandAt job at) (gains job (suc n) a)
 
-  -- the state, the demand and the value behind the action
-  record Behind (a : Action) (s₁ q₁ : ℕ) : Type 0 where
-    state-is : stateOf s₁ ≡ actionStep job (suc n) a (stateOf s)
-    demand-is : demandOf (radices job) q₁ ≡ less (demandOf (radices job) q) (gains job (suc n) a)
-    demand-low : q₁ < weight (job .lines)
+  -- the ways over an action and over a passage of the next aisle
+  abbrev over : At → Action → ℕ
+  over at = overAction table later left (suc n) (stateAt at) (demandAt job at)
 
-  behind-action : (k : ℕ) (a : Action) (s₁ q₁ : ℕ) → k < length (actionsOf (job .layout .cells)) → getD (actionsOf (job .layout .cells)) k Void ≡ a → s₁ ≡ stepCode (aisleOf job (suc n)) (candidateOf (job .layout .cells) (getD (actionsOf (job .layout .cells)) k Void)) s → q₁ ≡ leftCode fronts backs (candidateOf (job .layout .cells) (getD (actionsOf (job .layout .cells)) k Void)) q → Behind a s₁ q₁
-  behind-action k a s₁ q₁ l e st dm =
-      let b = getD (actionsOf (job .layout .cells)) k Void in
-      let code : q₁ ≡ lessCode (radices job) (gains job (suc n) b) q = dm ∙ left-code job stocked left (suc n) aft fronts backs maps (λ t r l₁ h. least-after-value job left (suc n) next rows t r h) b (ranked-fits (job .layout .cells) k l) q demand in
-      record {
-        state-is = ap stateOf (st ∙ step-code job (suc n) b s) ∙ state-of-code (actionStep job (suc n) b (stateOf s)) ∙ ap (λ x. actionStep job (suc n) x (stateOf s)) e;
-        demand-is = ap (demandOf (radices job)) code ∙ less-code (gains job (suc n) b) (radices-positive job) (gains-length job (suc n) b) q ∙ ap (λ x. less (demandOf (radices job) q) (gains job (suc n) x)) e;
-        demand-low = omega (arith, code, below-weight job (suc n) b q);
-      }
+  abbrev on : At → Passage → ℕ
+  on at = overPassage table later (suc n) (stateAt at) (demandAt job at)
 
-  -- the state and the demand behind an action, and the ways on from there
-  abbrev stateAfter : Action → State
-  stateAfter a = actionStep job (suc n) a (stateOf s)
+  -- the state and the demand behind an action by their numbers
+  record Behind (at : At) (a : Action) (to : At) : Type 0 where
+    state-is : stateAt to ≡ stateAfter at a
+    demand-is : demandAt job to ≡ demandAfter at a
+    state-low : to .state < 9
+    demand-low : to .demand < weight (job .lines)
 
-  abbrev demandAfter : Action → List ℕ
-  demandAfter a = less (demandOf (radices job) q) (gains job (suc n) a)
-
-  abbrev costP : Action → Passage → ℕ
-  costP a p = sat (passageLength (job .layout) p) (values job left (suc (suc n)) (passageStep job (suc n) p (stateAfter a)) (demandAfter a))
-
-  abbrev restAfter : Action → Passage → Option Rest
-  restAfter a p =
-      onFrom (choose (routing job (allActions job)) left (suc (suc n)) (passageStep job (suc n) p (stateAfter a)) (demandAfter a))
-      (λ rest. some ((a, p) ∷ rest))
-
-  abbrev passageAfter : Action → Option Rest
-  passageAfter a = onFrom (firstAt (costP a) (behind job left (suc n) (stateAfter a) (demandAfter a)) (passagesBehind passagesInOrder left)) (restAfter a)
-
-  -- what the table leads to from here: an action, a passage and the rest behind them
-  record Led (rest : Rest) : Type 0 where
+  -- what the table leads to: the first action and the first passage that attain its values, and the rest behind them
+  record Led (at : At) (rest : Rest) : Type 0 where
     action : Action
     passage : Passage
     others : Rest
-    action-first : firstAt costA here (actionsOf (job .layout .cells)) ≡ some action
-    passage-first : firstAt (costP action) (behind job left (suc n) (stateAfter action) (demandAfter action)) (passagesBehind passagesInOrder left) ≡ some passage
-    leads-on : choose (routing job (allActions job)) left (suc (suc n)) (passageStep job (suc n) passage (stateAfter action)) (demandAfter action) ≡ some others
+    action-first : firstAction table left (suc n) (stateAt at) (demandAt job at) ≡ some action
+    passage-first : firstPassage table left (suc n) (stateAfter at action) (demandAfter at action) ≡ some passage
+    leads-on : choose table left (suc (suc n)) (passageStep job (suc n) passage (stateAfter at action)) (demandAfter at action) ≡ some others
     parts : (action, passage) ∷ others ≡ rest
 
-  led : (rest : Rest) → choose (routing job (allActions job)) (suc left) (suc n) (stateOf s) (demandOf (radices job) q) ≡ some rest → Led rest
-  unfolding allActions
-  led rest e =
-      let x = on-found (firstAt costA here (actionsOf (job .layout .cells))) passageAfter rest e in
-      let y = on-found (firstAt (costP (x .0)) (behind job left (suc n) (stateAfter (x .0)) (demandAfter (x .0))) (passagesBehind passagesInOrder left)) (restAfter (x .0)) rest (x .2) in
-      let w = on-found (choose (routing job (allActions job)) left (suc (suc n)) (passageStep job (suc n) (y .0) (stateAfter (x .0))) (demandAfter (x .0))) (λ others. some ((x .0, y .0) ∷ others)) rest (y .2) in
-      record { action = x .0; passage = y .0; others = w .0; action-first = x .1; passage-first = y .1; leads-on = w .1; parts = some-same (w .2) }
-    where
-      some-same : {A : Type 0} {u v : A} → _≡_ {A = Option A} (some u) (some v) → u ≡ v
-      some-same e = cc
+  module _ (at : At) (rest : Rest) where
+    -- the ways on that `choose` goes, one inside the other
+    abbrev behindPassage : Action → Passage → Option Rest
+    behindPassage a p =
+        onFrom (choose table left (suc (suc n)) (passageStep job (suc n) p (stateAfter at a)) (demandAfter at a)) (λ r. some ((a, p) ∷ r))
 
-  module _ (rest : Rest) (l : Led rest) (finite : here < noTour) where
-    behind-finite : behind job left (suc n) (stateAfter (l .action)) (demandAfter (l .action)) < noTour
-    behind-finite = part-below (actionLength (job .layout) (l .action)) here _ (first-at-holds costA here (actionsOf (job .layout .cells)) (l .action) (l .action-first)) finite
+    abbrev behindAction : Action → Option Rest
+    behindAction a = onFrom (firstPassage table left (suc n) (stateAfter at a) (demandAfter at a)) (behindPassage a)
 
-    led-finite : values job left (suc (suc n)) (passageStep job (suc n) (l .passage) (stateAfter (l .action))) (demandAfter (l .action)) < noTour
-    led-finite = part-below (passageLength (job .layout) (l .passage)) _ _ (first-at-holds (costP (l .action)) _ (passagesBehind passagesInOrder left) (l .passage) (l .passage-first)) behind-finite
-
-  -- what the code finds in one aisle: the rank of the action, the state and the demand behind it, the passage and the state behind it
-  pub record Found (k s₁ q₁ v₂ p s₂ : ℕ) : Type 0 where
-    pub rank : FirstRank (throughAction (aisleOf job (suc n)) aft fronts backs s q) here (actionsOf (job .layout .cells)) Void k
-    pub state-to : s₁ ≡ stepCode (aisleOf job (suc n)) (candidateOf (job .layout .cells) (getD (actionsOf (job .layout .cells)) k Void)) s
-    pub demand-to : q₁ ≡ leftCode fronts backs (candidateOf (job .layout .cells) (getD (actionsOf (job .layout .cells)) k Void)) q
-    pub value-to : v₂ ≡ aft s₁ q₁
-    pub passage-rank : FirstRank (throughPassage next (policyOf (policyCode (job .policy))) (sideOf (job .layout .depot) (suc n)) (job .layout .width) s₁ q₁) v₂ (take (triedAt left) passagesInOrder) P00 p
-    pub state-past : s₂ ≡ stateCode (crossOf (policyOf (policyCode (job .policy))) (passageOf p) (sideOf (job .layout .depot) (suc n)) (stateOf s₁))
-
-  module _ (k s₁ q₁ v₂ p s₂ : ℕ) (f : Found k s₁ q₁ v₂ p s₂) (five : triedAt left ≤ 5) (rest : Rest) (l : Led rest) (finite : here < noTour) where
-    the-action : (k < length (actionsOf (job .layout .cells))) × (getD (actionsOf (job .layout .cells)) k Void ≡ l .action)
-    the-action = action-found k (l .action) (f .rank) (l .action-first)
-
-    after-it : Behind (l .action) s₁ q₁
-    after-it = behind-action k (l .action) s₁ q₁ (the-action .0) (the-action .1) (f .state-to) (f .demand-to)
-
-    value-is : v₂ ≡ behind job left (suc n) (stateOf s₁) (demandOf (radices job) q₁)
-    value-is = f .value-to ∙ least-after-value job left (suc n) next rows s₁ q₁ (after-it .demand-low)
-
-    the-passage : (p < triedAt left) × (passageOf p ≡ l .passage)
-    the-passage =
-        passage-found s₁ q₁ p (l .passage) (after-it .demand-low) five
-        (subst (λ v. FirstRank (throughPassage next (policyOf (policyCode (job .policy))) (sideOf (job .layout .depot) (suc n)) (job .layout .width) s₁ q₁) v (take (triedAt left) passagesInOrder) P00 p) value-is (f .passage-rank))
-        (subst₂ (λ t d. firstAt (λ y. sat (passageLength (job .layout) y) (values job left (suc (suc n)) (passageStep job (suc n) y t) d)) (behind job left (suc n) t d) (passagesBehind passagesInOrder left) ≡ some (l .passage)) (sym (after-it .state-is)) (sym (after-it .demand-is)) (l .passage-first))
-
-    state-is : s₂ ≡ stateCode (passageStep job (suc n) (l .passage) (stateAfter (l .action)))
-    state-is =
-        f .state-past
-        ∙ ap stateCode (cross-of job (suc n) (passageOf p) (stateOf s₁) ∙ ap₂ (passageStep job (suc n)) (the-passage .1) (after-it .state-is))
-
-    state-back : stateOf s₂ ≡ passageStep job (suc n) (l .passage) (stateAfter (l .action))
-    state-back = ap stateOf state-is ∙ state-of-code (passageStep job (suc n) (l .passage) (stateAfter (l .action)))
-
-    more-whole : (stages : List Stage) → n < length stages → stagesRest (set stages n (record { action = getD (actionsOf (job .layout .cells)) k Void; passage = passageOf p })) (suc n) ++ l .others ≡ stagesRest stages n ++ rest
-    more-whole stages h =
-        ap (λ xs. xs ++ l .others) (stages-more stages n (getD (actionsOf (job .layout .cells)) k Void) (passageOf p) h)
-        ∙ append-assoc (stagesRest stages n) _ (l .others)
-        ∙ ap₂ (λ x y. stagesRest stages n ++ ((x, y) ∷ l .others)) (the-action .1) (the-passage .1)
-        ∙ ap (λ xs. stagesRest stages n ++ xs) (l .parts)
-
-  -- the next aisle of the plan
-  pub trace-next : (stages : List Stage) → Traced job stages n s q → job .layout .aisles - n ≡ suc left → triedAt left ≤ 5 → n < 16 → (k s₁ q₁ v₂ p s₂ : ℕ) → Found k s₁ q₁ v₂ p s₂ → Traced job (set stages n (record { action = getD (actionsOf (job .layout .cells)) k Void; passage = passageOf p })) (suc n) s₂ q₁
-  trace-next stages t m-is five low k s₁ q₁ v₂ p s₂ f =
-      let left-is : job .layout .aisles - suc n ≡ left = omega arith in
-      let l : Led (t .rest) = led (t .rest) (rw m-is at (t .leads)) in
-      let finite : here < noTour = rw m-is at (t .finite) in
-      let on : values job left (suc (suc n)) (passageStep job (suc n) (l .passage) (stateAfter (l .action))) (demandAfter (l .action)) < noTour = led-finite (t .rest) l finite in
-      let back = state-back k s₁ q₁ v₂ p s₂ f five (t .rest) l finite in
-      let b = after-it k s₁ q₁ v₂ p s₂ f five (t .rest) l finite in
-      record {
-        sized = length-set stages n _ ∙ t .sized;
-        seen = omega arith;
-        state-below = omega (arith, state-is k s₁ q₁ v₂ p s₂ f five (t .rest) l finite, alive job left (suc (suc n)) (passageStep job (suc n) (l .passage) (stateAfter (l .action))) (demandAfter (l .action)) on);
-        demand-below = b .demand-low;
-        rest = l .others;
-        leads = rw (left-is, back, b .demand-is) (l .leads-on);
-        finite = rw (left-is, back, b .demand-is) on;
-        whole = more-whole k s₁ q₁ v₂ p s₂ f five (t .rest) l finite stages (omega (arith, t .sized)) ∙ t .whole;
-      }
-
--- one aisle of the trace as the code has it: the numbers that its parts give, and what they are
-pub record Aisled (job : Job) (n s q : ℕ) (next fronts backs : List ℕ) (x : Aisle) (tried side value : ℕ) : Type 0 where
-  pub ok : Admitted job
-  pub more : n < job .layout .aisles
-  pub numbers : x ≡ aisleOf job (suc n)
-  pub passages : tried ≡ triedAt (job .layout .aisles - suc n)
-  pub place : side ≡ sideOf (job .layout .depot) (suc n)
-  pub table : value ≡ values job (job .layout .aisles - n) (suc n) (stateOf s) (demandOf (radices job) q)
-  pub rows : RowHolds job (job .layout .aisles - suc n) (suc (suc n)) next
-  pub maps : MapsReady job (suc n) fronts backs
-
-module _ (job : Job) (n s q : ℕ) (next fronts backs : List ℕ) (x : Aisle) (tried side value : ℕ) (h : Aisled job n s q next fronts backs x tried side value) (stages : List Stage) (t : Traced job stages n s q) where
-  abbrev left-over : ℕ
-  left-over = job .layout .aisles - suc n
-
-  one-left : job .layout .aisles - n ≡ suc left-over
-  one-left = let m = h .more in omega arith
-
-  value-here : value ≡ here job (h .ok .stock) n s q next fronts backs (h .maps) left-over (h .rows) (t .demand-below) (t .state-below)
-  value-here = h .table ∙ ap (λ k. values job k (suc n) (stateOf s) (demandOf (radices job) q)) one-left
-
-  -- what the code found, put in the table's words
-  pub rank-here : (k : ℕ) → FirstRank (throughAction x (leastAfter next tried (policyOf (x .policy)) side (x .layout .width)) fronts backs s q) value (actionsOf (x .layout .cells)) Void k → FirstRank (throughAction (aisleOf job (suc n)) (aft job (h .ok .stock) n s q next fronts backs (h .maps) left-over (h .rows) (t .demand-below) (t .state-below)) fronts backs s q) (here job (h .ok .stock) n s q next fronts backs (h .maps) left-over (h .rows) (t .demand-below) (t .state-below)) (actionsOf (job .layout .cells)) Void k
-  unfolding aisleOf
-  rank-here k r =
-      subst (λ v. FirstRank (throughAction (aisleOf job (suc n)) (aft job (h .ok .stock) n s q next fronts backs (h .maps) left-over (h .rows) (t .demand-below) (t .state-below)) fronts backs s q) v (actionsOf (job .layout .cells)) Void k) value-here
-      (subst (λ d. FirstRank (throughAction (aisleOf job (suc n)) (leastAfter next (triedAt left-over) (policyOf (policyCode (job .policy))) d (job .layout .width)) fronts backs s q) value (actionsOf (job .layout .cells)) Void k) (h .place)
-      (subst (λ d. FirstRank (throughAction (aisleOf job (suc n)) (leastAfter next d (policyOf (policyCode (job .policy))) side (job .layout .width)) fronts backs s q) value (actionsOf (job .layout .cells)) Void k) (h .passages)
-      (subst (λ (y : Aisle). FirstRank (throughAction y (leastAfter next tried (policyOf (y .policy)) side (y .layout .width)) fronts backs s q) value (actionsOf (y .layout .cells)) Void k) (h .numbers) r)))
-
-  -- the action is one of the aisle's
-  led-here : Led job (h .ok .stock) n s q next fronts backs (h .maps) left-over (h .rows) (t .demand-below) (t .state-below) (t .rest)
-  led-here = led job (h .ok .stock) n s q next fronts backs (h .maps) left-over (h .rows) (t .demand-below) (t .state-below) (t .rest) (rw one-left at (t .leads))
-
-  finite-here : here job (h .ok .stock) n s q next fronts backs (h .maps) left-over (h .rows) (t .demand-below) (t .state-below) < noTour
-  finite-here = rw one-left at (t .finite)
-
-  pub rank-in : (k : ℕ) → FirstRank (throughAction x (leastAfter next tried (policyOf (x .policy)) side (x .layout .width)) fronts backs s q) value (actionsOf (x .layout .cells)) Void k → k < length (actionsOf (job .layout .cells))
-  rank-in k r =
-      action-found job (h .ok .stock) n s q next fronts backs (h .maps) left-over (h .rows) (t .demand-below) (t .state-below) k (led-here .action) (rank-here k r) (led-here .action-first) .0
-
-  module _ (k s₁ q₁ v₂ p : ℕ) (c : Candidate) (r : FirstRank (throughAction x (leastAfter next tried (policyOf (x .policy)) side (x .layout .width)) fronts backs s q) value (actionsOf (x .layout .cells)) Void k) (c-is : c ≡ candidateOf (job .layout .cells) (getD (actionsOf (job .layout .cells)) k Void)) (st : s₁ ≡ stepCode x c s) (dm : q₁ ≡ leftCode fronts backs c q) (v : v₂ ≡ leastAfter next tried (policyOf (x .policy)) side (job .layout .width) s₁ q₁) (pr : FirstRank (throughPassage next (policyOf (x .policy)) side (job .layout .width) s₁ q₁) v₂ (take tried passagesInOrder) P00 p) where
-    pub found-here : (s₂ : ℕ) → s₂ ≡ stateCode (crossOf (policyOf (x .policy)) (passageOf p) side (stateOf s₁)) → Found job (h .ok .stock) n s q next fronts backs (h .maps) left-over (h .rows) (t .demand-below) (t .state-below) k s₁ q₁ v₂ p s₂
-    unfolding aisleOf
-    found-here s₂ sp =
+    led : restFrom job (suc left) (suc n) at ≡ some rest → Led at rest
+    led e =
+        let a = on-found (firstAction table left (suc n) (stateAt at) (demandAt job at)) behindAction rest e in
+        let p = on-found (firstPassage table left (suc n) (stateAfter at (a .0)) (demandAfter at (a .0))) (behindPassage (a .0)) rest (a .2) in
+        let r = on-found (choose table left (suc (suc n)) _ _) (λ r. some ((a .0, p .0) ∷ r)) rest (p .2) in
         record {
-          rank = rank-here k r;
-          state-to = st ∙ ap₂ (λ y d. stepCode y d s) (h .numbers) c-is;
-          demand-to = dm ∙ ap (λ d. leftCode fronts backs d q) c-is;
-          value-to = v ∙ rw (h .numbers, h .passages, h .place) refl;
-          passage-rank = rw (h .numbers, h .passages, h .place) at pr;
-          state-past = sp ∙ rw (h .numbers, h .place) refl;
+          action = a .0;
+          passage = p .0;
+          others = r .0;
+          action-first = a .1;
+          passage-first = p .1;
+          leads-on = r .1;
+          parts = some-same (r .2);
         }
 
-    -- the passage is one of those that are tried
-    pub passage-in : p < 5
-    passage-in =
-        let f = found-here (stateCode (crossOf (policyOf (x .policy)) (passageOf p) side (stateOf s₁))) refl in
-        omega (arith, tried-five left-over, the-passage job (h .ok .stock) n s q next fronts backs (h .maps) left-over (h .rows) (t .demand-below) (t .state-below) k s₁ q₁ v₂ p _ f (tried-five left-over) (t .rest) led-here finite-here .0)
+-- what the code has for the next aisle: its numbers, its maps, and the row behind its actions, filled out of the next row
+pub record Aisled (job : Job) (n : ℕ) (x : Aisle) (next after fronts backs : List ℕ) : Type 0 where
+  pub ok : Admitted job
+  pub numbers : x ≡ aisleOf job (suc n)
+  pub maps : MapsReady job (suc n) fronts backs
+  pub filled : AfterFilled x after next
 
-    -- and the trace goes on
-    pub trace-on : (s₂ : ℕ) → s₂ ≡ stateCode (crossOf (policyOf (x .policy)) (passageOf p) side (stateOf s₁)) → n < 16 → (a : Action) (y : Passage) → a ≡ actionOf c → y ≡ passageOf p → Traced job (set stages n (record { action = a; passage = y })) (suc n) s₂ q₁
-    trace-on s₂ sp low a y a-is y-is =
-        subst₂ (λ b z. Traced job (set stages n (record { action = b; passage = z })) (suc n) s₂ q₁) (sym (a-is ∙ ap actionOf c-is ∙ action-of-candidate (job .layout .cells) (getD (actionsOf (job .layout .cells)) k Void))) (sym y-is)
-        (trace-next job (h .ok .stock) n s q next fronts backs (h .maps) left-over (h .rows) (t .demand-below) (t .state-below) stages t one-left (tried-five left-over) low k s₁ q₁ v₂ p s₂ (found-here s₂ sp))
+-- the same in the job's words
+abbrev Here : Job → ℕ → List ℕ → List ℕ → List ℕ → List ℕ → Type 0
+Here job n = Aisled job n (aisleOf job (suc n))
+
+module _ {job : Job} {n here : ℕ} {t : Trace} {next after fronts backs : List ℕ} (h : Here job n next after fronts backs) (asked : TraceAsked job n t next here) where
+  abbrev aisle : Aisle
+  aisle = aisleOf job (suc n)
+
+  abbrev cells : ℕ
+  cells = job .layout .cells
+
+  one-left : job .layout .aisles - n ≡ suc (left job n)
+  one-left = let m = asked .more in omega arith
+
+  few : n < 16
+  few = let m = asked .more in let w = within (job .layout) (h .ok .layout) in omega arith
+
+  -- the row behind the actions holds the table's values there
+  after-holds : AfterHolds job (left job n) (suc n) after
+  after-holds = after-value job (left job n) (suc n) next (asked .row) refl after (h .filled)
+
+  -- the ways over actions are the table's, and so are the ways on over passages
+  actions-agree : (v : ℕ) → firstAt (wayOver aisle after fronts backs (t .at)) v (actionsOf cells) ≡ firstAt (over job n (t .at)) v (actionsOf cells)
+  actions-agree v =
+      let way = through-value job (h .ok .stock) (left job n) (suc n) (nextAt after) fronts backs (h .maps) after-holds in
+      let at-here = way (t .at .state) (t .at .demand) (asked .traced .state-below) (asked .traced .demand-below) in
+      first-agree _ _ v (actionsOf cells) (λ a m. at-here a (actions-sound cells a m))
+
+  passages-agree : (to : At) (v : ℕ) → to .demand < weight (job .lines)
+      → firstAt (wayOn aisle next to) v (take (aisle .tried) passagesInOrder) ≡ firstAt (on job n to) v (passagesBehind passagesInOrder (left job n))
+  unfolding aisleOf
+  passages-agree to v low =
+      first-at-cong _ _ (passage-value job (left job n) (suc n) next (asked .row) (to .state) (to .demand) low) v _
+      ∙ ap (firstAt _ v) (tried-passages (left job n))
+
+  -- what the table leads to from here
+  led-here : Led job n (t .at) (asked .traced .rest)
+  led-here = led job n (t .at) (asked .traced .rest) (rw one-left at (asked .traced .leads))
+
+  value-is : here ≡ value (table job n) (suc (left job n)) (suc n) (stateAt (t .at)) (demandAt job (t .at))
+  value-is = asked .value-here ∙ ap (λ k. value (table job n) k (suc n) (stateAt (t .at)) (demandAt job (t .at))) one-left
+
+  -- its action is the first that attains the value
+  first-action : firstAt (wayOver aisle after fronts backs (t .at)) here (actionsOf (aisle .layout .cells)) ≡ some (led-here .action)
+  unfolding aisleOf allActions
+  first-action = actions-agree here ∙ ap (λ v. firstAt (over job n (t .at)) v (actionsOf cells)) value-is ∙ led-here .action-first
+
+  -- an action leads to the machine's state, and to the demand that it leaves
+  behind-action : (a : Action) (to : At) → Fits cells a → to ≡ stepTo aisle fronts backs (t .at) (candidateOf cells a) → Behind job n (t .at) a to
+  behind-action a to fits to-is =
+      let s = t .at .state in
+      let q = t .at .demand in
+      let state : to .state ≡ stateCode (stateAfter job n (t .at) a) = ap (λ (p : At). p .state) to-is ∙ step-code job (suc n) a s in
+      let demand = left-code job (h .ok .stock) (left job n) (suc n) (nextAt after) fronts backs (h .maps) after-holds a fits q in
+      let code : to .demand ≡ lessCode (radices job) (gains job (suc n) a) q =
+      ap (λ (p : At). p .demand) to-is ∙ demand (asked .traced .demand-below) in
+      record {
+        state-is = ap stateOf state ∙ state-of-code (stateAfter job n (t .at) a);
+        demand-is = ap (demandOf (radices job)) code ∙ less-code (gains job (suc n) a) (radices-positive job) (gains-length job (suc n) a) q;
+        state-low = omega (arith, state, state-small (stateAfter job n (t .at) a));
+        demand-low = omega (arith, code, below-weight job (suc n) a q);
+      }
+
+  module _ {r : Taken} (taken : ActionTaken aisle after fronts backs (t .at) here r) where
+    same-action : r .action ≡ led-here .action
+    same-action = some-same (sym (taken .first) ∙ first-action)
+
+    behind-taken : Behind job n (t .at) (led-here .action) (r .at)
+    unfolding aisleOf
+    behind-taken =
+        let fits = actions-sound cells (r .action) (first-member _ here (actionsOf cells) (r .action) (taken .first)) in
+        subst (λ a. Behind job n (t .at) a (r .at)) same-action (behind-action (r .action) (r .at) fits (taken .leads))
+
+    -- its passage is the first that attains what follows
+    first-passage : firstAt (wayOn aisle next (r .at)) (r .rest) (take (aisle .tried) passagesInOrder) ≡ some (led-here .passage)
+    first-passage =
+        let b = behind-taken in
+        passages-agree (r .at) (r .rest) (b .demand-low)
+        ∙ ap (λ v. firstAt (on job n (r .at)) v (passagesBehind passagesInOrder (left job n))) (taken .rest ∙ after-holds _ _ (b .state-low) (b .demand-low))
+        ∙ ap₂ (firstPassage (table job n) (left job n) (suc n)) (b .state-is) (b .demand-is)
+        ∙ led-here .passage-first
+
+    module _ {p : Crossed} (crossed : PassageTaken aisle next (r .at) (r .rest) p) where
+      same-passage : p .passage ≡ led-here .passage
+      same-passage = some-same (sym (crossed .first) ∙ first-passage)
+
+      -- the state behind the passage
+      abbrev state-past : State
+      state-past = passageStep job (suc n) (led-here .passage) (stateAfter job n (t .at) (led-here .action))
+
+      state-number : p .at .state ≡ stateCode state-past
+      unfolding aisleOf
+      state-number =
+          ap (λ (x : At). x .state) (crossed .leads)
+          ∙ ap stateCode (cross-of job (suc n) (p .passage) (stateAt (r .at)) ∙ ap₂ (passageStep job (suc n)) same-passage (behind-taken .state-is))
+
+      demand-number : demandAt job (p .at) ≡ demandAfter job n (t .at) (led-here .action)
+      demand-number = ap (λ (x : At). demandAt job x) (crossed .leads) ∙ behind-taken .demand-is
+
+      -- what follows is no longer than the whole, so there is a way on
+      value-past : value (table job n) (left job n) (suc (suc n)) state-past (demandAfter job n (t .at) (led-here .action)) < noTour
+      unfolding allActions
+      value-past =
+          let l = led-here in
+          let action = first-at-holds (over job n (t .at)) _ (actionsOf cells) (l .action) (l .action-first) in
+          let passage = first-at-holds _ _ (passagesBehind passagesInOrder (left job n)) (l .passage) (l .passage-first) in
+          let finite : here < noTour = omega (arith, asked .value-here, asked .traced .finite) in
+          let behind = part-below (actionLength (job .layout) (l .action)) here _ (action ∙ sym value-is) finite in
+          part-below (passageLength (job .layout) (l .passage)) _ _ passage behind
+
+      -- the trace with the stage of the aisle
+      abbrev further : Trace
+      further = record { stages = set (t .stages) n (record { action = r .action; passage = p .passage }); at = p .at }
+
+      rest-whole : stagesRest (further .stages) (suc n) ++ led-here .others ≡ stagesRest (t .stages) n ++ asked .traced .rest
+      rest-whole =
+          ap (λ xs. xs ++ led-here .others) (stages-more (t .stages) n _ (omega (arith, asked .traced .sized, few)))
+          ∙ append-assoc (stagesRest (t .stages) n) _ (led-here .others)
+          ∙ ap₂ (λ x y. stagesRest (t .stages) n ++ ((x, y) ∷ led-here .others)) same-action same-passage
+          ∙ ap (λ xs. stagesRest (t .stages) n ++ xs) (led-here .parts)
+
+      trace-further : Traced job (suc n) further
+      trace-further =
+          let more = asked .more in
+          let state = ap stateOf state-number ∙ state-of-code state-past in
+          record {
+            sized = length-set (t .stages) n _ ∙ asked .traced .sized;
+            seen = omega arith;
+            state-below = omega (arith, state-number, alive job (left job n) (suc (suc n)) state-past _ value-past);
+            demand-below = subst (λ (x : At). x .demand < weight (job .lines)) (sym (crossed .leads)) (behind-taken .demand-low);
+            rest = led-here .others;
+            leads = rw (state, demand-number) (led-here .leads-on);
+            finite = rw (state, demand-number) value-past;
+            whole = rest-whole ∙ asked .traced .whole;
+          }
+
+module _ {job : Job} {n here : ℕ} {x : Aisle} {t : Trace} {next after fronts backs : List ℕ} (h : Aisled job n x next after fronts backs) (asked : TraceAsked job n t next here) where
+  -- in the job's words
+  in-words : Here job n next after fronts backs
+  in-words = rw (h .numbers) at h
+
+  -- some action attains the value here
+  pub action-there : (a : Action) × (firstAt (wayOver x after fronts backs (t .at)) here (actionsOf (x .layout .cells)) ≡ some a)
+  action-there = rw (h .numbers) (led-here in-words asked .action, first-action in-words asked)
+
+  module _ {r : Taken} (taken : ActionTaken x after fronts backs (t .at) here r) where
+    taken-here : ActionTaken (aisleOf job (suc n)) after fronts backs (t .at) here r
+    taken-here = rw (h .numbers) at taken
+
+    -- it leads to a state and a demand of the job
+    pub taken-lands : (r .at .state < 9) × (r .at .demand < weight (job .lines))
+    taken-lands = let b = behind-taken in-words asked taken-here in (b .state-low, b .demand-low)
+
+    -- some passage attains what follows
+    pub passage-there : (p : Passage) × (firstAt (wayOn x next (r .at)) (r .rest) (take (x .tried) passagesInOrder) ≡ some p)
+    passage-there = rw (h .numbers) (led-here in-words asked .passage, first-passage in-words asked taken-here)
+
+    -- the trace goes on
+    pub trace-next : {p : Crossed} → PassageTaken x next (r .at) (r .rest) p
+        → Traced job (suc n) (record { stages = set (t .stages) n (record { action = r .action; passage = p .passage }); at = p .at })
+    trace-next crossed = trace-further in-words asked taken-here (rw (h .numbers) at crossed)

@@ -5,25 +5,50 @@ use mathlib.Core.List.{List, _++_, map}
 use mathlib.Core.Option.{Option, some}
 use lib.ListN.{length, take}
 use Rattle.rules.specs.Jobs.{Job}
+use Rattle.rules.specs.Machine.{State}
 use Rattle.rules.specs.Refusals.{weight}
 use Rattle.rules.specs.BestPlan.{bestPlan}
-use Rattle.optimum.specs.Table.{Rest, value, choose}
+use Rattle.optimum.specs.Table.{Problem, Rest, value, choose}
 use Rattle.optimum.specs.Demand.{radices, demandOf}
 use Rattle.optimum.specs.Routing.{noTour, routing, allActions, restOf}
 use Rattle.values.specs.declared.Stage.{Stage}
 use Rattle.machine.specs.States.{stateOf}
+use Rattle.table.specs.TableHolds.{RowHolds}
+use Rattle.router.specs.declared.choices.At.{At}
+use Rattle.router.specs.declared.trace.Trace.{Trace}
 
 -- the first n stages as a rest
 unfoldable pub stagesRest : List Stage → ℕ → Rest
 stagesRest stages n = map (λ (s : Stage). (s .action, s .passage)) (take n stages)
 
+-- the state and the demand where a trace stands
+abbrev pub stateAt : At → State
+stateAt at = stateOf (at .state)
+
+abbrev pub demandAt : Job → At → List ℕ
+demandAt job at = demandOf (radices job) (at .demand)
+
+-- the table's value there with n aisles left from aisle j on, and the rest of a plan that the table leads to
+abbrev pub valueFrom : Job → ℕ → ℕ → At → ℕ
+valueFrom job n j at = value (routing job (allActions job)) n j (stateAt at) (demandAt job at)
+
+abbrev pub restFrom : Job → ℕ → ℕ → At → Option Rest
+restFrom job n j at = choose (routing job (allActions job)) n j (stateAt at) (demandAt job at)
+
 -- the first n aisles of the best plan are found; the table leads on to the others
-pub record Traced (job : Job) (stages : List Stage) (n s q : ℕ) : Type 0 where
-  pub sized : length stages ≡ 16
+pub record Traced (job : Job) (n : ℕ) (t : Trace) : Type 0 where
+  pub sized : length (t .stages) ≡ 16
   pub seen : n ≤ job .layout .aisles
-  pub state-below : s < 8
-  pub demand-below : q < weight (job .lines)
+  pub state-below : t .at .state < 8
+  pub demand-below : t .at .demand < weight (job .lines)
   pub rest : Rest
-  pub leads : choose (routing job (allActions job)) (job .layout .aisles - n) (suc n) (stateOf s) (demandOf (radices job) q) ≡ some rest
-  pub finite : value (routing job (allActions job)) (job .layout .aisles - n) (suc n) (stateOf s) (demandOf (radices job) q) < noTour
-  pub whole : stagesRest stages n ++ rest ≡ restOf (bestPlan job)
+  pub leads : restFrom job (job .layout .aisles - n) (suc n) (t .at) ≡ some rest
+  pub finite : valueFrom job (job .layout .aisles - n) (suc n) (t .at) < noTour
+  pub whole : stagesRest (t .stages) n ++ rest ≡ restOf (bestPlan job)
+
+-- what tracing one aisle more needs: the row behind that aisle, and the table's value where the trace stands
+pub record TraceAsked (job : Job) (n : ℕ) (t : Trace) (next : List ℕ) (here : ℕ) : Type 0 where
+  pub traced : Traced job n t
+  pub more : n < job .layout .aisles
+  pub row : RowHolds job (job .layout .aisles - suc n) (suc (suc n)) next
+  pub value-here : here ≡ valueFrom job (job .layout .aisles - n) (suc n) (t .at)

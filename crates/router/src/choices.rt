@@ -1,91 +1,118 @@
 // The first action and the first passage that attain a value of the table, found by comparing sums.
 use crate::ranks::action_at;
 use crate::ranks::action_count;
+use crate::ranks::action_of;
+use crate::ranks::passage_of;
 use demand::digits::wide;
 use machine::action_step;
 use machine::passage_step;
+use rules::Action;
+use rules::Passage;
 use table::candidates::Candidate;
 use table::candidates::action_length;
 use table::candidates::keeps_halves;
 use table::layers::Aisle;
 use table::passages::passage_length;
 ghost use Prim.Native.Nat.{_*_, _+_, _<_, _≤_};
-ghost use Rattle.machine.specs.Steps.{passageOf, policyOf};
-ghost use Rattle.optimum.specs.Routing.{leastOf};
-ghost use Rattle.router.specs.Choosing.{FirstRank};
-ghost use Rattle.table.specs.Layers.{AisleReady, leftCode, stepCode, throughAction};
-ghost use Rattle.table.specs.Rows.{NextReady, leastAfter, throughPassage};
+ghost use Rattle.machine.specs.Steps.{passageOf};
+ghost use Rattle.optimum.specs.Least.{firstAt};
+ghost use Rattle.optimum.specs.Routing.{sat};
+ghost use Rattle.router.specs.Choosing.{ActionAsked, ActionTaken, FirstRank, OfAisle, PassageTaken, crossTo, stepTo, valueAt, wayOn, wayOver};
 ghost use Rattle.rules.specs.BestPlan.{actionsOf, passagesInOrder};
-ghost use Rattle.rules.specs.Store.{layoutInBounds};
 ghost use Rattle.rules.specs.declared.Action.the-variants.{Void};
+ghost use Rattle.rules.specs.declared.Action.{Action};
 ghost use Rattle.rules.specs.declared.Passage.the-variants.{P00};
+ghost use Rattle.rules.specs.declared.Passage.{Passage};
+ghost use Rattle.table.specs.Layers.{AisleReady};
+ghost use Rattle.table.specs.Crossings.{InRange, NextReady};
 ghost use lib.ListN.{getD, length, take};
-ghost use mathlib.Core.Bool.{true};
+ghost use mathlib.Core.Option.{some};
 ghost use mathlib.Core.Path.{_≡_};
 
-// The number of the state after a candidate.
-pub fn step_of(x: Aisle, c: Candidate, s: usize) -> usize
-    requires { ⌜ (layoutInBounds (x .layout) ≡ true) × (x .policy < 5) × (x .holds < 2) × (c .kind < 6) × (s < 9) ⌝ }
-    ensures { λ r. ⌜ (r ≡ stepCode x c s) × (r ≤ 8) ⌝ }
-{
-    let halves = keeps_halves(x.layout, c);
-    action_step(x.policy, c.kind, x.holds, halves, s)
+// Where a trace stands: the number of the state, and that of the demand that is open.
+pub struct At {
+    pub state: usize,
+    pub demand: usize,
 }
 
-// The number of the demand after a candidate.
-pub fn left_of<'a>(fronts: &'a [u16], backs: &'a [u16], c: Candidate, q: usize) -> usize
-    requires { ⌜ (c .front ≤ 24) × (c .back ≤ 25) × (q < 256) × (6656 ≤ length (now fronts)) × (6656 ≤ length (now backs)) × (getD (now fronts) (c .front * 256 + q) 0 < 256) ⌝ }
-    ensures { λ r. ⌜ r ≡ leftCode (now (fronts .entry)) (now (backs .entry)) c q ⌝ }
-{
-    let front = c.front;
-    let back = c.back;
-    let f = wide(fronts[front * 256 + q]);
-    wide(backs[back * 256 + f])
+// An action that is chosen, where it leads, and the least that follows from there.
+pub struct Taken {
+    pub action: Action,
+    pub at: At,
+    pub rest: usize,
 }
 
-// The way over the action of a rank: its length and the least that follows.
-fn over<'a>(
-    next: &[u16],
-    fronts: &'a [u16],
-    backs: &'a [u16],
-    x: Aisle,
-    side: usize,
-    tried: usize,
-    s: usize,
-    q: usize,
-    k: usize,
-) -> usize
-    requires { ⌜ AisleReady x (now fronts) (now backs) × (2048 ≤ length (now next)) × (side < 3) × (tried ≤ 5) × (s < 8) × (q < x .weight) × (k < length (actionsOf (x .layout .cells))) ⌝ }
-    ensures { λ r. ⌜ r ≡ throughAction x (leastAfter (now (next .entry)) tried (policyOf (x .policy)) side (x .layout .width)) (now (fronts .entry)) (now (backs .entry)) s q (getD (actionsOf (x .layout .cells)) k Void) ⌝ }
+// A passage that is chosen, and where it leads.
+pub struct Crossed {
+    pub passage: Passage,
+    pub at: At,
+}
+
+// A sum of lengths; 65,535, no tour, where it is that or more.
+fn plus(length: usize, rest: usize) -> usize
+    requires { ⌜ (length ≤ 65535) × (rest ≤ 65535) ⌝ }
+    ensures { λ r. ⌜ r ≡ sat length rest ⌝ }
 {
-    let z = x.layout;
-    let c = action_at(z.cells, k);
-    let to = step_of(x, c, s);
-    let left = left_of(fronts, backs, c, q);
-    let sum = action_length(z, c) + best_after(next, tried, x.policy, side, z.width, to, left);
+    let sum = length + rest;
     if sum < 65535 { sum } else { 65535 }
 }
 
+// What a row holds for a state and a demand; no tour for the dead state, 8.
+pub fn value_at(row: &[u16], at: At) -> usize
+    requires { ⌜ (at .demand < 256) × (at .demand * 8 + 8 ≤ length (now row)) ⌝ }
+    ensures { λ r. ⌜ (r ≡ valueAt (now (row .entry)) at) × (r ≤ 65535) ⌝ }
+{
+    let s = at.state;
+    let q = at.demand;
+    if s < 8 {
+        return wide(row[q * 8 + s]);
+    }
+    65535
+}
+
+// Where a candidate leads.
+fn step_to<'a>(fronts: &'a [u16], backs: &'a [u16], x: Aisle, at: At, c: Candidate) -> At
+    requires { ⌜ AisleReady x (now fronts) (now backs) × OfAisle x c × (at .state < 9) × (at .demand < x .weight) ⌝ }
+    ensures { λ r. ⌜ r ≡ stepTo x (now (fronts .entry)) (now (backs .entry)) at c ⌝ }
+{
+    let front = c.front;
+    let back = c.back;
+    let q = at.demand;
+    let halves = keeps_halves(x.layout, c);
+    let state = action_step(x.policy, c.kind, x.holds, halves, at.state);
+    let f = wide(fronts[front * 256 + q]);
+    let demand = wide(backs[back * 256 + f]);
+    At { state, demand }
+}
+
+// The way over the action of a rank: its length and the least that follows.
+fn over<'a>(after: &[u16], fronts: &'a [u16], backs: &'a [u16], x: Aisle, at: At, k: usize) -> usize
+    requires { ⌜ ActionAsked x (now after) (now fronts) (now backs) at × (k < length (actionsOf (x .layout .cells))) ⌝ }
+    ensures { λ r. ⌜ r ≡ wayOver x (now (after .entry)) (now (fronts .entry)) (now (backs .entry)) at (getD (actionsOf (x .layout .cells)) k Void) ⌝ }
+{
+    let z = x.layout;
+    let c = action_at(z.cells, k);
+    let to = step_to(fronts, backs, x, at, c);
+    plus(action_length(z, c), value_at(after, to))
+}
+
 // The rank of the first action over which the way has that value.
-pub fn choose_action<'a>(
-    next: &[u16],
+fn choose_action<'a>(
+    after: &[u16],
     fronts: &'a [u16],
     backs: &'a [u16],
     x: Aisle,
-    side: usize,
-    tried: usize,
-    s: usize,
-    q: usize,
+    at: At,
     value: usize,
 ) -> usize
-    requires { ⌜ AisleReady x (now fronts) (now backs) × (2048 ≤ length (now next)) × (side < 3) × (tried ≤ 5) × (s < 8) × (q < x .weight) ⌝ }
-    ensures { λ r. ⌜ FirstRank (throughAction x (leastAfter (now (next .entry)) tried (policyOf (x .policy)) side (x .layout .width)) (now (fronts .entry)) (now (backs .entry)) s q) value (actionsOf (x .layout .cells)) Void r ⌝ }
+    requires { ⌜ ActionAsked x (now after) (now fronts) (now backs) at ⌝ }
+    ensures { λ r. ⌜ FirstRank (wayOver x (now (after .entry)) (now (fronts .entry)) (now (backs .entry)) at) value (actionsOf (x .layout .cells)) Void r ⌝ }
 {
     let cells = x.layout.cells;
     let count = action_count(cells);
     let mut k = 0;
     while k < count {
-        if over(next, fronts, backs, x, side, tried, s, q, k) == value {
+        if over(after, fronts, backs, x, at, k) == value {
             return k;
         }
         k += 1;
@@ -93,23 +120,59 @@ pub fn choose_action<'a>(
     count
 }
 
-// The number of the first passage over which the way on has that value.
-pub fn choose_passage(
-    next: &[u16],
-    tried: usize,
-    policy: usize,
-    side: usize,
-    width: usize,
-    s: usize,
-    q: usize,
+// The first action over which the way has that value, which some action has.
+pub fn take_action<'a>(
+    after: &[u16],
+    fronts: &'a [u16],
+    backs: &'a [u16],
+    x: Aisle,
+    at: At,
     value: usize,
-) -> usize
-    requires { ⌜ NextReady (now next) policy side width s q × (tried ≤ 5) ⌝ }
-    ensures { λ r. ⌜ FirstRank (throughPassage (now (next .entry)) (policyOf policy) side width s q) value (take tried passagesInOrder) P00 r ⌝ }
+) -> Taken
+    requires { ⌜ ActionAsked x (now after) (now fronts) (now backs) at × ((a : Action) × (firstAt (wayOver x (now after) (now fronts) (now backs) at) value (actionsOf (x .layout .cells)) ≡ some a)) ⌝ }
+    ensures { λ r. ⌜ ActionTaken x (now (after .entry)) (now (fronts .entry)) (now (backs .entry)) at value r ⌝ }
 {
+    let cells = x.layout.cells;
+    let k = choose_action(after, fronts, backs, x, at, value);
+    let c = action_at(cells, k);
+    let to = step_to(fronts, backs, x, at, c);
+    let rest = value_at(after, to);
+    let action = action_of(c);
+    Taken {
+        action,
+        at: to,
+        rest,
+    }
+}
+
+// Where a passage leads.
+fn cross_to(x: Aisle, at: At, p: usize) -> At
+    requires { ⌜ InRange x × (at .state < 9) × (p < 5) ⌝ }
+    ensures { λ r. ⌜ r ≡ crossTo x at (passageOf p) ⌝ }
+{
+    let state = passage_step(x.policy, p, x.side, at.state);
+    let demand = at.demand;
+    At { state, demand }
+}
+
+// The way on over the passage of a number.
+fn through(next: &[u16], x: Aisle, at: At, p: usize) -> usize
+    requires { ⌜ NextReady x (now next) (at .state) (at .demand) × (p < 5) ⌝ }
+    ensures { λ r. ⌜ r ≡ wayOn x (now (next .entry)) at (passageOf p) ⌝ }
+{
+    let to = cross_to(x, at, p);
+    plus(passage_length(p, x.layout.width), value_at(next, to))
+}
+
+// The number of the first passage over which the way on has that value.
+fn choose_passage(next: &[u16], x: Aisle, at: At, value: usize) -> usize
+    requires { ⌜ NextReady x (now next) (at .state) (at .demand) ⌝ }
+    ensures { λ r. ⌜ FirstRank (wayOn x (now (next .entry)) at) value (take (x .tried) passagesInOrder) P00 r ⌝ }
+{
+    let tried = x.tried;
     let mut p = 0;
     while p < tried {
-        if through(next, policy, side, width, s, q, p) == value {
+        if through(next, x, at, p) == value {
             return p;
         }
         p += 1;
@@ -117,48 +180,13 @@ pub fn choose_passage(
     tried
 }
 
-// The way on over one passage, from a state behind the actions.
-pub fn through(
-    next: &[u16],
-    policy: usize,
-    side: usize,
-    width: usize,
-    s: usize,
-    q: usize,
-    passage: usize,
-) -> usize
-    requires { ⌜ NextReady (now next) policy side width s q × (passage < 5) ⌝ }
-    ensures { λ r. ⌜ (r ≡ throughPassage (now (next .entry)) (policyOf policy) side width s q (passageOf passage)) × (r ≤ 65535) ⌝ }
+// The first passage over which the way on has that value, which some passage has.
+pub fn take_passage(next: &[u16], x: Aisle, at: At, value: usize) -> Crossed
+    requires { ⌜ NextReady x (now next) (at .state) (at .demand) × ((p : Passage) × (firstAt (wayOn x (now next) at) value (take (x .tried) passagesInOrder) ≡ some p)) ⌝ }
+    ensures { λ r. ⌜ PassageTaken x (now (next .entry)) at value r ⌝ }
 {
-    let to = passage_step(policy, passage, side, s);
-    if to == 8 {
-        return 65535;
-    }
-    let sum = passage_length(passage, width) + wide(next[q * 8 + to]);
-    if sum < 65535 { sum } else { 65535 }
-}
-
-// The least over the first `tried` passages.
-pub fn best_after(
-    next: &[u16],
-    tried: usize,
-    policy: usize,
-    side: usize,
-    width: usize,
-    s: usize,
-    q: usize,
-) -> usize
-    requires { ⌜ NextReady (now next) policy side width s q × (tried ≤ 5) ⌝ }
-    ensures { λ r. ⌜ (r ≡ leastOf (throughPassage (now (next .entry)) (policyOf policy) side width s q) (take tried passagesInOrder)) × (r ≤ 65535) ⌝ }
-{
-    let mut best = 65535;
-    let mut p = 0;
-    while p < tried {
-        let v = through(next, policy, side, width, s, q, p);
-        if v < best {
-            best = v;
-        }
-        p += 1;
-    }
-    best
+    let p = choose_passage(next, x, at, value);
+    let to = cross_to(x, at, p);
+    let passage = passage_of(p);
+    Crossed { passage, at: to }
 }

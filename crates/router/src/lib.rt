@@ -5,23 +5,43 @@ mod choices;
 mod ranks;
 mod trace;
 
+use table::filling::Order;
 use values::JobValue;
 use values::Routed;
+use values::Shelf;
 ghost use mathlib.Core.Path.{_≡_};
 ghost use Prim.Native.Nat.{_≤_};
 ghost use lib.ListN.{length, replicate};
+ghost use Rattle.table.specs.TableHolds.{OrderOf};
+ghost use Rattle.values.specs.Shelves.{ShelfOf};
 ghost use Rattle.values.specs.Values.{jobOf, RoutedOf, Sound};
 
+// What the table needs of a job.
+fn order_of(job: JobValue, shelf: Shelf) -> Order
+    requires { ⌜ Sound job × ShelfOf (jobOf job) shelf ⌝ }
+    ensures { λ r. ⌜ OrderOf (jobOf job) r ⌝ }
+{
+    let layout = job.layout;
+    let word = job.policy;
+    let policy = table::filling::policy_number(word);
+    let digits = demand::digits::digits_of(job);
+    Order {
+        layout,
+        policy,
+        shelf,
+        digits,
+    }
+}
+
 // The best plan of a job and its length. The work area holds the table on the way, and is all zero at the end.
-pub fn route(job: JobValue, work: &mut [u16]) -> Routed
-    requires { ⌜ Sound job × (32768 ≤ length (now work)) ⌝ }
+pub fn route(job: JobValue, shelf: Shelf, work: &mut [u16]) -> Routed
+    requires { ⌜ Sound job × ShelfOf (jobOf job) shelf × (32768 ≤ length (now work)) ⌝ }
     ensures { λ r. ⌜ RoutedOf (jobOf job) r × (now (work .exit) ≡ replicate (length (now (work .entry))) 0) ⌝ }
 {
-    let shelf = demand::shelf::shelve(job);
-    let d = demand::digits::digits_of(job);
-    let weight = d.weight;
-    table::filling::fill_table(work, job, shelf, d);
-    let plan = trace::read_plan(work, job, shelf, d);
+    let o = order_of(job, shelf);
+    let weight = o.digits.weight;
+    table::filling::fill_table(work, o);
+    let plan = trace::read_plan(work, o);
     // aisle 1, the whole list open, nothing trodden yet
     let length = demand::digits::wide(work[(weight - 1) * 8]);
     table::filling::clear(work);

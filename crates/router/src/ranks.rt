@@ -1,7 +1,10 @@
-// The actions of an aisle by rank.
+// The actions of an aisle by rank, and what the numbers of actions and passages stand for.
+use rules::Action;
+use rules::Passage;
 use table::candidates::Candidate;
 ghost use Prim.Native.Nat.{_*_, _+_, _<_, _≤_};
-ghost use Rattle.table.specs.Candidates.{candidateOf, gapsFrom};
+ghost use Rattle.machine.specs.Steps.{passageOf};
+ghost use Rattle.table.specs.Candidates.{actionOf, candidateOf, gapsFrom};
 ghost use Rattle.rules.specs.BestPlan.{actionsOf};
 ghost use Rattle.rules.specs.declared.Action.the-variants.{Void};
 ghost use lib.ListN.{getD, length};
@@ -104,4 +107,34 @@ pub fn action_at(cells: usize, rank: usize) -> Candidate
         };
     }
     gap(cells, rank - (2 * cells + 1))
+}
+
+// The action of a candidate.
+pub fn action_of(c: Candidate) -> Action
+    ensures { λ r. ⌜ r ≡ actionOf c ⌝ }
+{
+    let kind = c.kind;
+    let front = c.front;
+    let back = c.back;
+    match kind {
+        0 => Action::Void,
+        1 => Action::Bottom(front),
+        2 => Action::Top(back),
+        3 => Action::Gap(front, back),
+        4 => Action::Once,
+        _ => Action::Twice,
+    }
+}
+
+// The passage of a number.
+pub fn passage_of(p: usize) -> Passage
+    ensures { λ r. ⌜ r ≡ passageOf p ⌝ }
+{
+    match p {
+        0 => Passage::P00,
+        1 => Passage::P02,
+        2 => Passage::P11,
+        3 => Passage::P20,
+        _ => Passage::P22,
+    }
 }

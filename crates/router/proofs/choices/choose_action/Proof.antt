@@ -1,37 +1,43 @@
--- `router::choices::choose_action` meets its contract.
+-- `router::choices::choose_action` meets its contract. The loop's invariant: over no action before rank k the way has the value.
+use Prim.Native.Nat.{_-_, _≤_, _<_}
 use native.Mathlib.Omega.{arith}
-use Prim.Native.Nat.{_+_, _*_, _-_, _≤_, _<_}
-use mathlib.Core.Path.{_≡_, sym, _∙_}
-use Rattle.router.proofs.FirstRanks.{NoneBefore, rank-found, rank-none}
+use mathlib.Core.Path.{_≡_, sym, _∙_, subst}
 use borrow.Author.Count.{below-more}
-use Rattle.table.specs.Layers.{throughAction}
+use lib.ListN.{getD, length}
+use denote.Ref.{now}
 use Rattle.rules.specs.BestPlan.{actionsOf}
 use Rattle.rules.specs.declared.Action.the-variants.{Void}
-use Rattle.table.specs.Rows.{leastAfter}
-use Rattle.machine.specs.Steps.{policyOf}
 use Rattle.table.proofs.Geometry.{within}
-use mathlib.Core.Path.{subst}
-use lib.ListN.{getD}
+use Rattle.router.specs.Choosing.{wayOver}
+use Rattle.router.proofs.FirstRanks.{NoneBefore, rank-found, rank-none}
 use Rattle.router.proofs.choices.choose_action.Statement.{statement}
 use Rattle.router.proofs.choices.choose_action.Tie as tie
 
 abbrev Inv-loop : tie.InvT-loop
-Inv-loop next fronts backs x side tried s q value cells count k₀ k = (k ≤ count) × NoneBefore (throughAction x (leastAfter next tried (policyOf (x .policy)) side (x .layout .width)) fronts backs s q) value (actionsOf (x .layout .cells)) Void k
+Inv-loop after fronts backs x at value cells count k₀ k =
+    (k ≤ count) × NoneBefore (wayOver x after fronts backs at) value (actionsOf (x .layout .cells)) Void k
 
 abbrev μ-loop : tie.MeasureT-loop
-μ-loop next fronts backs x side tried s q value cells count k₀ k = count - k
+μ-loop after fronts backs x at value cells count k₀ k = count - k
 
 action-count-requires : tie.Need-action-count-requires Inv-loop μ-loop
-action-count-requires c κs = let w = within ((c .before .before .before) .args .x .layout) ((c .before .before .before) .pre .0 .bounds) in omega arith
+action-count-requires c κs =
+    let start = c .before .before .before in
+    let w = within (start .args .x .layout) (start .pre .ready .aisle .bounds) in omega arith
 
 loop-holds : tie.Need-loop-holds Inv-loop μ-loop
 loop-holds c = (omega arith, λ i l. absurd (omega arith))
 
 over-requires : tie.Need-over-requires Inv-loop μ-loop
-over-requires c κs = ((c .before .before .before .before .before .before) .pre .0, (c .before .before .before .before .before .before) .pre .1, (c .before .before .before .before .before .before) .pre .2, (c .before .before .before .before .before .before) .pre .3, (c .before .before .before .before .before .before) .pre .4, (c .before .before .before .before .before .before) .pre .5, (subst (λ n. (c .before .loop) .k < n) ((c .before .before .action-count) .ensures) (omega arith)))
+over-requires c κs =
+    let start = c .before .before .before .before .before .before in
+    (start .pre, omega (arith, c .before .before .action-count .ensures))
 
 returns : tie.Need-returns Inv-loop μ-loop
-returns c = rank-found (throughAction ((c .before .before .before .before .before .before .before .before) .args .x) (leastAfter ((c .before .before .before .before .before .before .before .before) .args .next .now) ((c .before .before .before .before .before .before .before .before) .args .tried) (policyOf ((c .before .before .before .before .before .before .before .before) .args .x .policy)) ((c .before .before .before .before .before .before .before .before) .args .side) ((c .before .before .before .before .before .before .before .before) .args .x .layout .width)) ((c .before .before .before .before .before .before .before .before) .args .fronts .now) ((c .before .before .before .before .before .before .before .before) .args .backs .now) ((c .before .before .before .before .before .before .before .before) .args .s) ((c .before .before .before .before .before .before .before .before) .args .q)) ((c .before .before .before .before .before .before .before .before) .args .value) Void (actionsOf ((c .before .before .before .before .before .before .before .before) .args .x .layout .cells)) ((c .before .before .before .loop) .k) (subst (λ n. (c .before .before .before .loop) .k < n) ((c .before .before .before .before .action-count) .ensures) (omega arith)) ((c .before .before .before .loop) .inv .1) (sym ((c .before .over) .ensures) ∙ (c .if1) .taken)
+returns c =
+    let loop = c .before .before .before .loop in
+    let count = c .before .before .before .before .action-count .ensures in
+    rank-found _ _ _ _ (loop .k) (loop .inv .1) (omega (arith, count)) (sym (c .before .over .ensures) ∙ c .if1 .taken)
 
 add-k : tie.Need-add-k Inv-loop μ-loop
 add-k c = omega arith
@@ -40,10 +46,15 @@ loop-less : tie.Need-loop-less Inv-loop μ-loop
 loop-less c = omega arith
 
 loop-again : tie.Need-loop-again Inv-loop μ-loop
-loop-again c = (omega arith, below-more (λ i. (throughAction ((c .before .before .before .before .before .before .before .before) .args .x) (leastAfter ((c .before .before .before .before .before .before .before .before) .args .next .now) ((c .before .before .before .before .before .before .before .before) .args .tried) (policyOf ((c .before .before .before .before .before .before .before .before) .args .x .policy)) ((c .before .before .before .before .before .before .before .before) .args .side) ((c .before .before .before .before .before .before .before .before) .args .x .layout .width)) ((c .before .before .before .before .before .before .before .before) .args .fronts .now) ((c .before .before .before .before .before .before .before .before) .args .backs .now) ((c .before .before .before .before .before .before .before .before) .args .s) ((c .before .before .before .before .before .before .before .before) .args .q)) (getD (actionsOf ((c .before .before .before .before .before .before .before .before) .args .x .layout .cells)) i Void) ≡ (c .before .before .before .before .before .before .before .before) .args .value → ⊥) ((c .before .before .before .loop) .k) ((c .before .before .before .loop) .inv .1) (λ e. (c .if1) .left ((c .before .over) .ensures ∙ e)))
+loop-again c =
+    let loop = c .before .before .before .loop in
+    (omega arith, below-more _ (loop .k) (loop .inv .1) (λ e. c .if1 .left (c .before .over .ensures ∙ e)))
 
 returns-2 : tie.Need-returns-2 Inv-loop μ-loop
-returns-2 c = rank-none (throughAction ((c .before .before .before .before .before .before) .args .x) (leastAfter ((c .before .before .before .before .before .before) .args .next .now) ((c .before .before .before .before .before .before) .args .tried) (policyOf ((c .before .before .before .before .before .before) .args .x .policy)) ((c .before .before .before .before .before .before) .args .side) ((c .before .before .before .before .before .before) .args .x .layout .width)) ((c .before .before .before .before .before .before) .args .fronts .now) ((c .before .before .before .before .before .before) .args .backs .now) ((c .before .before .before .before .before .before) .args .s) ((c .before .before .before .before .before .before) .args .q)) ((c .before .before .before .before .before .before) .args .value) Void (actionsOf ((c .before .before .before .before .before .before) .args .x .layout .cells)) ((c .before .before .action-count) .result) ((c .before .before .action-count) .ensures) (λ i l. (c .before .loop) .inv .1 i (omega (arith, (c .before .loop) .inv .0)))
+returns-2 c =
+    let loop = c .before .loop in
+    let count = c .before .before .action-count in
+    rank-none _ _ _ _ (count .result) (λ i l. loop .inv .1 i (omega (arith, loop .inv .0))) (count .ensures)
 
 pub choose-action-spec : {M : Type 1} → statement M
 choose-action-spec =

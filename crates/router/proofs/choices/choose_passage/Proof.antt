@@ -1,33 +1,45 @@
--- `router::choices::choose_passage` meets its contract.
+-- `router::choices::choose_passage` meets its contract. The loop's invariant: over no passage before number p the way on has the value.
+use Prim.Native.Nat.{_-_, _≤_, _<_}
 use native.Mathlib.Omega.{arith}
-use Prim.Native.Nat.{_+_, _*_, _-_, _≤_, _<_}
 use mathlib.Core.Path.{_≡_, sym, _∙_, ap}
-use Rattle.router.proofs.FirstRanks.{NoneBefore, rank-found, rank-none}
 use borrow.Author.Count.{below-more}
-use Rattle.table.specs.Rows.{throughPassage}
+use lib.ListN.{getD, length, take}
+use denote.Ref.{now}
 use Rattle.rules.specs.BestPlan.{passagesInOrder}
 use Rattle.rules.specs.declared.Passage.the-variants.{P00}
-use lib.ListN.{take}
 use Rattle.table.proofs.PassageLaws.{passage-tried, tried-length}
-use Rattle.machine.specs.Steps.{policyOf}
-use lib.ListN.{getD}
+use Rattle.router.specs.Choosing.{wayOn}
+use Rattle.router.proofs.FirstRanks.{NoneBefore, rank-found, rank-none}
 use Rattle.router.proofs.choices.choose_passage.Statement.{statement}
 use Rattle.router.proofs.choices.choose_passage.Tie as tie
 
 abbrev Inv-loop : tie.InvT-loop
-Inv-loop next tried policy side width s q value p₀ p = (p ≤ tried) × NoneBefore (throughPassage next (policyOf policy) side width s q) value (take tried passagesInOrder) P00 p
+Inv-loop next x at value tried p₀ p = (p ≤ tried) × NoneBefore (wayOn x next at) value (take (x .tried) passagesInOrder) P00 p
 
 abbrev μ-loop : tie.MeasureT-loop
-μ-loop next tried policy side width s q value p₀ p = tried - p
+μ-loop next x at value tried p₀ p = tried - p
+
+-- the way on that is compared is that of the passage of the number
+way-read : (c : tie.After-through Inv-loop μ-loop) →
+    let x = c .before .before .before .before .args in
+    c .through .result ≡ wayOn (x .x) (now (x .next)) (x .at) (getD (take (x .x .tried) passagesInOrder) (c .before .before .loop .p) P00)
+way-read c =
+    let start = c .before .before .before .before in
+    let x = start .args in
+    let p = c .before .before .loop .p in
+    c .through .ensures ∙ ap (wayOn (x .x) (now (x .next)) (x .at)) (sym (passage-tried (x .x .tried) p (omega arith) (start .pre .aisle .few)))
 
 loop-holds : tie.Need-loop-holds Inv-loop μ-loop
 loop-holds c = (omega arith, λ i l. absurd (omega arith))
 
 through-requires : tie.Need-through-requires Inv-loop μ-loop
-through-requires c κs = ((c .before .before .before) .pre .0, omega arith)
+through-requires c κs = let start = c .before .before .before in (start .pre, omega (arith, start .pre .aisle .few))
 
 returns : tie.Need-returns Inv-loop μ-loop
-returns c = rank-found (throughPassage ((c .before .before .before .before .before) .args .next .now) (policyOf ((c .before .before .before .before .before) .args .policy)) ((c .before .before .before .before .before) .args .side) ((c .before .before .before .before .before) .args .width) ((c .before .before .before .before .before) .args .s) ((c .before .before .before .before .before) .args .q)) ((c .before .before .before .before .before) .args .value) P00 (take ((c .before .before .before .before .before) .args .tried) passagesInOrder) ((c .before .before .before .loop) .p) (omega (arith, tried-length ((c .before .before .before .before .before) .args .tried) ((c .before .before .before .before .before) .pre .1))) ((c .before .before .before .loop) .inv .1) ((ap (throughPassage ((c .before .before .before .before .before) .args .next .now) (policyOf ((c .before .before .before .before .before) .args .policy)) ((c .before .before .before .before .before) .args .side) ((c .before .before .before .before .before) .args .width) ((c .before .before .before .before .before) .args .s) ((c .before .before .before .before .before) .args .q)) (passage-tried ((c .before .before .before .before .before) .args .tried) ((c .before .before .before .loop) .p) (omega arith) ((c .before .before .before .before .before) .pre .1)) ∙ sym ((c .before .through) .ensures .0)) ∙ (c .if1) .taken)
+returns c =
+    let start = c .before .before .before .before .before in
+    let loop = c .before .before .before .loop in
+    rank-found _ _ _ _ (loop .p) (loop .inv .1) (omega (arith, tried-length (start .args .x .tried) (start .pre .aisle .few))) (sym (way-read (c .before)) ∙ c .if1 .taken)
 
 add-p : tie.Need-add-p Inv-loop μ-loop
 add-p c = omega arith
@@ -36,10 +48,15 @@ loop-less : tie.Need-loop-less Inv-loop μ-loop
 loop-less c = omega arith
 
 loop-again : tie.Need-loop-again Inv-loop μ-loop
-loop-again c = (omega arith, below-more (λ i. (throughPassage ((c .before .before .before .before .before) .args .next .now) (policyOf ((c .before .before .before .before .before) .args .policy)) ((c .before .before .before .before .before) .args .side) ((c .before .before .before .before .before) .args .width) ((c .before .before .before .before .before) .args .s) ((c .before .before .before .before .before) .args .q)) (getD (take ((c .before .before .before .before .before) .args .tried) passagesInOrder) i P00) ≡ (c .before .before .before .before .before) .args .value → ⊥) ((c .before .before .before .loop) .p) ((c .before .before .before .loop) .inv .1) (λ e. (c .if1) .left (sym (ap (throughPassage ((c .before .before .before .before .before) .args .next .now) (policyOf ((c .before .before .before .before .before) .args .policy)) ((c .before .before .before .before .before) .args .side) ((c .before .before .before .before .before) .args .width) ((c .before .before .before .before .before) .args .s) ((c .before .before .before .before .before) .args .q)) (passage-tried ((c .before .before .before .before .before) .args .tried) ((c .before .before .before .loop) .p) (omega arith) ((c .before .before .before .before .before) .pre .1)) ∙ sym ((c .before .through) .ensures .0)) ∙ e)))
+loop-again c =
+    let loop = c .before .before .before .loop in
+    (omega arith, below-more _ (loop .p) (loop .inv .1) (λ e. c .if1 .left (way-read (c .before) ∙ e)))
 
 returns-2 : tie.Need-returns-2 Inv-loop μ-loop
-returns-2 c = rank-none (throughPassage ((c .before .before .before) .args .next .now) (policyOf ((c .before .before .before) .args .policy)) ((c .before .before .before) .args .side) ((c .before .before .before) .args .width) ((c .before .before .before) .args .s) ((c .before .before .before) .args .q)) ((c .before .before .before) .args .value) P00 (take ((c .before .before .before) .args .tried) passagesInOrder) ((c .before .before .before) .args .tried) (sym (tried-length ((c .before .before .before) .args .tried) ((c .before .before .before) .pre .1))) (λ i l. (c .before .loop) .inv .1 i (omega (arith, (c .before .loop) .inv .0)))
+returns-2 c =
+    let start = c .before .before .before in
+    let loop = c .before .loop in
+    rank-none _ _ _ _ (start .args .x .tried) (λ i l. loop .inv .1 i (omega (arith, loop .inv .0))) (sym (tried-length (start .args .x .tried) (start .pre .aisle .few)))
 
 pub choose-passage-spec : {M : Type 1} → statement M
 choose-passage-spec =

@@ -1,58 +1,67 @@
--- `router::choices::over` meets its contract.
+-- `router::choices::over` meets its contract: the candidate of the rank, where it leads, and the sum of its length and what follows.
 use borrow.Author.Needs.{needs}
+use Prim.Native.Nat.{_<_}
 use native.Mathlib.Omega.{arith}
-use Prim.Native.Nat.{_+_, _*_, _≤_, _<_}
-use mathlib.Core.Path.{_≡_, sym, _∙_}
-use Rattle.table.specs.Layers.{leftCode}
-use Rattle.table.proofs.ActionRows.{ranked-fits, Parts, candidate-parts}
+use denote.Ref.{now}
 use Rattle.table.proofs.Geometry.{within}
-use Rattle.table.specs.declared.candidates.Candidate.{Candidate}
-use mathlib.Core.Path.{subst}
-use Rattle.rules.specs.BestPlan.{actionsOf}
-use Rattle.rules.specs.declared.Action.the-variants.{Void}
-use Rattle.table.specs.Rows.{leastAfter}
-use lib.ListN.{getD}
-use Rattle.router.proofs.FirstRanks.{over-parts}
-use Rattle.machine.specs.Steps.{policyOf}
+use Rattle.router.specs.Choosing.{OfAisle}
+use Rattle.router.proofs.ChoiceLaws.{ranked, ranked-candidate, step-lands, way-over}
 use Rattle.router.proofs.choices.over.Statement.{statement}
 use Rattle.router.proofs.choices.over.Tie as tie
 
+-- the candidate is one of the aisle
+of-aisle : (c : tie.After-action-at) → OfAisle (c .before .before .before .before .before .args .x) (c .action-at .result)
+of-aisle c =
+    let start = c .before .before .before .before .before in
+    ranked-candidate (start .args .x) (start .args .k) (c .action-at .result) (start .pre .1) (c .action-at .ensures)
+
+-- it leads to a state and a demand of the job
+lands : (c : tie.After-step-to) →
+    let x = c .before .before .before .before .before .before .args .x in (c .step-to .result .state < 9) × (c .step-to .result .demand < x .weight)
+lands c =
+    let start = c .before .before .before .before .before .before in
+    let x = start .args in
+    let asked = start .pre .0 in
+    step-lands (x .x) (now (x .after)) (now (x .fronts)) (now (x .backs)) (x .at) _ _ (asked .ready) (of-aisle (c .before)) (asked .demand-below) (c .step-to .ensures)
+
 action-at-requires : tie.Need-action-at-requires
-action-at-requires c κs = let w = within ((c .before .before .before .before) .args .x .layout) ((c .before .before .before .before) .pre .0 .bounds) in (omega arith, (c .before .before .before .before) .pre .6)
+action-at-requires c κs =
+    let start = c .before .before .before .before in
+    let w = within (start .args .x .layout) (start .pre .0 .ready .aisle .bounds) in (omega arith, start .pre .1)
 
-step-of-requires : tie.Need-step-of-requires
-step-of-requires c κs = ((c .before .before .before .before .before) .pre .0 .bounds, (c .before .before .before .before .before) .pre .0 .policy-below, (c .before .before .before .before .before) .pre .0 .holds-below, (subst (λ (d : Candidate). Parts ((c .before .before .before .before .before) .args .x .layout .cells) (d .kind) (d .front) (d .back)) (sym ((c .action-at) .ensures)) (candidate-parts ((c .before .before .before .before .before) .args .x .layout .cells) (getD (actionsOf ((c .before .before .before .before .before) .args .x .layout .cells)) ((c .before .before .before .before .before) .args .k) Void) (ranked-fits ((c .before .before .before .before .before) .args .x .layout .cells) ((c .before .before .before .before .before) .args .k) ((c .before .before .before .before .before) .pre .6)))) .kind-below, omega arith)
-
-left-of-requires : tie.Need-left-of-requires
-left-of-requires c κs = let w = within ((c .before .before .before .before .before .before) .args .x .layout) ((c .before .before .before .before .before .before) .pre .0 .bounds) in let p = (subst (λ (d : Candidate). Parts ((c .before .before .before .before .before .before) .args .x .layout .cells) (d .kind) (d .front) (d .back)) (sym ((c .before .action-at) .ensures)) (candidate-parts ((c .before .before .before .before .before .before) .args .x .layout .cells) (getD (actionsOf ((c .before .before .before .before .before .before) .args .x .layout .cells)) ((c .before .before .before .before .before .before) .args .k) Void) (ranked-fits ((c .before .before .before .before .before .before) .args .x .layout .cells) ((c .before .before .before .before .before .before) .args .k) ((c .before .before .before .before .before .before) .pre .6)))) in (omega arith, omega arith, omega (arith, (c .before .before .before .before .before .before) .pre .0 .small), (c .before .before .before .before .before .before) .pre .0 .fronts-long, (c .before .before .before .before .before .before) .pre .0 .backs-long, omega (arith, (c .before .before .before .before .before .before) .pre .0 .small, ((c .before .before .before .before .before .before) .pre .0 .front-below (((c .before .action-at) .result) .front) ((c .before .before .before .before .before .before) .args .q) ((subst (λ (d : Candidate). Parts ((c .before .before .before .before .before .before) .args .x .layout .cells) (d .kind) (d .front) (d .back)) (sym ((c .before .action-at) .ensures)) (candidate-parts ((c .before .before .before .before .before .before) .args .x .layout .cells) (getD (actionsOf ((c .before .before .before .before .before .before) .args .x .layout .cells)) ((c .before .before .before .before .before .before) .args .k) Void) (ranked-fits ((c .before .before .before .before .before .before) .args .x .layout .cells) ((c .before .before .before .before .before .before) .args .k) ((c .before .before .before .before .before .before) .pre .6)))) .front-within) ((c .before .before .before .before .before .before) .pre .5))))
+step-to-requires : tie.Need-step-to-requires
+step-to-requires c κs =
+    let asked = c .before .before .before .before .before .pre .0 in
+    (asked .ready, of-aisle c, asked .state-below, asked .demand-below)
 
 action-length-requires : tie.Need-action-length-requires
-action-length-requires c κs = ((c .before .before .before .before .before .before .before) .pre .0 .bounds, (subst (λ (d : Candidate). Parts ((c .before .before .before .before .before .before .before) .args .x .layout .cells) (d .kind) (d .front) (d .back)) (sym ((c .before .before .action-at) .ensures)) (candidate-parts ((c .before .before .before .before .before .before .before) .args .x .layout .cells) (getD (actionsOf ((c .before .before .before .before .before .before .before) .args .x .layout .cells)) ((c .before .before .before .before .before .before .before) .args .k) Void) (ranked-fits ((c .before .before .before .before .before .before .before) .args .x .layout .cells) ((c .before .before .before .before .before .before .before) .args .k) ((c .before .before .before .before .before .before .before) .pre .6)))) .kind-below)
+action-length-requires c κs =
+    let asked = c .before .before .before .before .before .before .pre .0 in (asked .ready .aisle .bounds, of-aisle (c .before) .kind-below)
 
-best-after-requires : tie.Need-best-after-requires
-unfolding leftCode
-best-after-requires c κs = let w = within ((c .before .before .before .before .before .before .before .before) .args .x .layout) ((c .before .before .before .before .before .before .before .before) .pre .0 .bounds) in let b = ((c .before .before .before .before .before .before .before .before) .pre .0 .back-below (((c .before .before .before .action-at) .result) .back) (getD ((c .before .before .before .before .before .before .before .before) .args .fronts .now) (((c .before .before .before .action-at) .result) .front * 256 + (c .before .before .before .before .before .before .before .before) .args .q) 0) ((subst (λ (d : Candidate). Parts ((c .before .before .before .before .before .before .before .before) .args .x .layout .cells) (d .kind) (d .front) (d .back)) (sym ((c .before .before .before .action-at) .ensures)) (candidate-parts ((c .before .before .before .before .before .before .before .before) .args .x .layout .cells) (getD (actionsOf ((c .before .before .before .before .before .before .before .before) .args .x .layout .cells)) ((c .before .before .before .before .before .before .before .before) .args .k) Void) (ranked-fits ((c .before .before .before .before .before .before .before .before) .args .x .layout .cells) ((c .before .before .before .before .before .before .before .before) .args .k) ((c .before .before .before .before .before .before .before .before) .pre .6)))) .back-low) ((subst (λ (d : Candidate). Parts ((c .before .before .before .before .before .before .before .before) .args .x .layout .cells) (d .kind) (d .front) (d .back)) (sym ((c .before .before .before .action-at) .ensures)) (candidate-parts ((c .before .before .before .before .before .before .before .before) .args .x .layout .cells) (getD (actionsOf ((c .before .before .before .before .before .before .before .before) .args .x .layout .cells)) ((c .before .before .before .before .before .before .before .before) .args .k) Void) (ranked-fits ((c .before .before .before .before .before .before .before .before) .args .x .layout .cells) ((c .before .before .before .before .before .before .before .before) .args .k) ((c .before .before .before .before .before .before .before .before) .pre .6)))) .back-high) ((c .before .before .before .before .before .before .before .before) .pre .0 .front-below (((c .before .before .before .action-at) .result) .front) ((c .before .before .before .before .before .before .before .before) .args .q) ((subst (λ (d : Candidate). Parts ((c .before .before .before .before .before .before .before .before) .args .x .layout .cells) (d .kind) (d .front) (d .back)) (sym ((c .before .before .before .action-at) .ensures)) (candidate-parts ((c .before .before .before .before .before .before .before .before) .args .x .layout .cells) (getD (actionsOf ((c .before .before .before .before .before .before .before .before) .args .x .layout .cells)) ((c .before .before .before .before .before .before .before .before) .args .k) Void) (ranked-fits ((c .before .before .before .before .before .before .before .before) .args .x .layout .cells) ((c .before .before .before .before .before .before .before .before) .args .k) ((c .before .before .before .before .before .before .before .before) .pre .6)))) .front-within) ((c .before .before .before .before .before .before .before .before) .pre .5))) in let e = (c .before .left-of) .ensures in (record { long = omega (arith, (c .before .before .before .before .before .before .before .before) .pre .0 .small); demand = omega (arith, (c .before .before .before .before .before .before .before .before) .pre .0 .small); policy-below = (c .before .before .before .before .before .before .before .before) .pre .0 .policy-below; side-below = (c .before .before .before .before .before .before .before .before) .pre .2; state-below = omega (arith, (c .before .before .step-of) .ensures .1); width-fits = omega arith }, (c .before .before .before .before .before .before .before .before) .pre .3)
+value-at-requires : tie.Need-value-at-requires
+value-at-requires c κs =
+    let asked = c .before .before .before .before .before .before .before .pre .0 in
+    let to = lands (c .before) in (omega (arith, asked .ready .aisle .small), omega (arith, asked .ready .aisle .small, asked .long))
 
-add-sum : tie.Need-add-sum
-add-sum c = search needs
+plus-requires : tie.Need-plus-requires
+plus-requires c κs = search needs
 
 returns : tie.Need-returns
-unfolding leastAfter
-returns c = omega (arith, over-parts ((c .before .before .before .before .before .before .before .before .before .before) .args .x) (leastAfter ((c .before .before .before .before .before .before .before .before .before .before) .args .next .now) ((c .before .before .before .before .before .before .before .before .before .before) .args .tried) (policyOf ((c .before .before .before .before .before .before .before .before .before .before) .args .x .policy)) ((c .before .before .before .before .before .before .before .before .before .before) .args .side) ((c .before .before .before .before .before .before .before .before .before .before) .args .x .layout .width)) ((c .before .before .before .before .before .before .before .before .before .before) .args .fronts .now) ((c .before .before .before .before .before .before .before .before .before .before) .args .backs .now) ((c .before .before .before .before .before .before .before .before .before .before) .args .s) ((c .before .before .before .before .before .before .before .before .before .before) .args .q) (getD (actionsOf ((c .before .before .before .before .before .before .before .before .before .before) .args .x .layout .cells)) ((c .before .before .before .before .before .before .before .before .before .before) .args .k) Void) ((c .before .before .before .before .before .action-at) .result) ((c .before .before .before .before .step-of) .result) ((c .before .before .before .left-of) .result) ((c .before .before .action-length) .result) ((c .before .best-after) .result) ((c .before .before .before .before .before .action-at) .ensures) ((c .before .before .action-length) .ensures .0) ((c .before .before .before .before .step-of) .ensures .0) ((c .before .before .before .left-of) .ensures) ((c .before .best-after) .ensures .0))
-
-returns-2 : tie.Need-returns-2
-unfolding leastAfter
-returns-2 c = omega (arith, over-parts ((c .before .before .before .before .before .before .before .before .before .before) .args .x) (leastAfter ((c .before .before .before .before .before .before .before .before .before .before) .args .next .now) ((c .before .before .before .before .before .before .before .before .before .before) .args .tried) (policyOf ((c .before .before .before .before .before .before .before .before .before .before) .args .x .policy)) ((c .before .before .before .before .before .before .before .before .before .before) .args .side) ((c .before .before .before .before .before .before .before .before .before .before) .args .x .layout .width)) ((c .before .before .before .before .before .before .before .before .before .before) .args .fronts .now) ((c .before .before .before .before .before .before .before .before .before .before) .args .backs .now) ((c .before .before .before .before .before .before .before .before .before .before) .args .s) ((c .before .before .before .before .before .before .before .before .before .before) .args .q) (getD (actionsOf ((c .before .before .before .before .before .before .before .before .before .before) .args .x .layout .cells)) ((c .before .before .before .before .before .before .before .before .before .before) .args .k) Void) ((c .before .before .before .before .before .action-at) .result) ((c .before .before .before .before .step-of) .result) ((c .before .before .before .left-of) .result) ((c .before .before .action-length) .result) ((c .before .best-after) .result) ((c .before .before .before .before .before .action-at) .ensures) ((c .before .before .action-length) .ensures .0) ((c .before .before .before .before .step-of) .ensures .0) ((c .before .before .before .left-of) .ensures) ((c .before .best-after) .ensures .0))
+returns c =
+    let x = c .before .before .before .before .before .before .before .before .before .args in
+    let candidate = c .before .before .before .before .action-at .ensures in
+    let to = c .before .before .before .step-to .ensures in
+    let length = c .before .before .action-length .ensures .0 in
+    way-over (x .x) (now (x .after)) (now (x .fronts)) (now (x .backs)) (x .at) (ranked (x .x) (x .k)) _ _ _ _ _
+    candidate to length (c .before .value-at .ensures .0) (c .plus .ensures)
 
 pub over-spec : {M : Type 1} → statement M
 over-spec =
     tie.close
     (tie.spec
     action-at-requires
-    step-of-requires
-    left-of-requires
+    step-to-requires
     action-length-requires
-    best-after-requires
-    add-sum
-    returns
-    returns-2)
+    value-at-requires
+    plus-requires
+    returns)

@@ -1,59 +1,39 @@
--- `router::choices::through` meets its contract.
+-- `router::choices::through` meets its contract: where the passage leads, and the sum of its length and what follows.
 use borrow.Author.Needs.{needs}
 use native.Mathlib.Omega.{arith}
-use Prim.Native.Nat.{_+_, _*_, _≤_, _<_}
-use mathlib.Core.Path.{_≡_, sym, _∙_}
-use Rattle.table.proofs.PassageLaws.{state-small, through-dead, through-alive}
-use Rattle.machine.specs.Steps.{policyOf, passageOf, crossOf}
-use Rattle.machine.specs.States.{stateOf}
+use mathlib.Core.Path.{ap}
+use denote.Ref.{now}
+use Rattle.machine.specs.Steps.{passageOf}
+use Rattle.table.proofs.Geometry.{within}
+use Rattle.router.specs.declared.choices.At.{At}
+use Rattle.router.proofs.ChoiceLaws.{way-on}
 use Rattle.router.proofs.choices.through.Statement.{statement}
 use Rattle.router.proofs.choices.through.Tie as tie
 
-passage-step-requires : tie.Need-passage-step-requires
-passage-step-requires c κs = ((c .before) .pre .0 .policy-below, (c .before) .pre .1, (c .before) .pre .0 .side-below, (c .before) .pre .0 .state-below)
-
-returns : tie.Need-returns
-returns c = (sym (through-dead ((c .before .before .before) .args .next .now) (policyOf ((c .before .before .before) .args .policy)) ((c .before .before .before) .args .side) ((c .before .before .before) .args .width) ((c .before .before .before) .args .s) ((c .before .before .before) .args .q) (passageOf ((c .before .before .before) .args .passage)) (sym ((c .before .passage-step) .ensures) ∙ (c .if1) .taken)), omega arith)
+cross-to-requires : tie.Need-cross-to-requires
+cross-to-requires c κs = search needs
 
 passage-length-requires : tie.Need-passage-length-requires
-passage-length-requires c κs = ((c .before .before .before) .pre .1, (c .before .before .before) .pre .0 .width-fits)
+passage-length-requires c κs =
+    let start = c .before .before in
+    let w = within (start .args .x .layout) (start .pre .0 .aisle .bounds) in (start .pre .1, w .width .1)
 
-mul-wide : tie.Need-mul-wide
-mul-wide c = omega (arith, (c .before .before .before .before) .pre .0 .long, (c .before .before .before .before) .pre .0 .demand, (c .before .before .passage-step) .ensures, state-small (crossOf (policyOf ((c .before .before .before .before) .args .policy)) (passageOf ((c .before .before .before .before) .args .passage)) ((c .before .before .before .before) .args .side) (stateOf ((c .before .before .before .before) .args .s))), (c .before .if1) .left)
+value-at-requires : tie.Need-value-at-requires
+value-at-requires c κs =
+    let next = c .before .before .before .pre .0 in
+    let same = ap (λ (t : At). t .demand) (c .before .cross-to .ensures) in
+    (omega (arith, same, next .demand), omega (arith, same, next .long))
 
-add-wide : tie.Need-add-wide
-add-wide c = omega (arith, (c .before .before .before .before) .pre .0 .long, (c .before .before .before .before) .pre .0 .demand, (c .before .before .passage-step) .ensures, state-small (crossOf (policyOf ((c .before .before .before .before) .args .policy)) (passageOf ((c .before .before .before .before) .args .passage)) ((c .before .before .before .before) .args .side) (stateOf ((c .before .before .before .before) .args .s))), (c .before .if1) .left)
+plus-requires : tie.Need-plus-requires
+plus-requires c κs = search needs
 
-mul-wide-2 : tie.Need-mul-wide-2
-mul-wide-2 c = omega (arith, (c .before .before .before .before) .pre .0 .long, (c .before .before .before .before) .pre .0 .demand, (c .before .before .passage-step) .ensures, state-small (crossOf (policyOf ((c .before .before .before .before) .args .policy)) (passageOf ((c .before .before .before .before) .args .passage)) ((c .before .before .before .before) .args .side) (stateOf ((c .before .before .before .before) .args .s))), (c .before .if1) .left)
-
-shared-slice-read-wide : tie.Need-shared-slice-read-wide
-shared-slice-read-wide c = omega (arith, (c .before .before .before .before .before) .pre .0 .long, (c .before .before .before .before .before) .pre .0 .demand, (c .before .before .before .passage-step) .ensures, state-small (crossOf (policyOf ((c .before .before .before .before .before) .args .policy)) (passageOf ((c .before .before .before .before .before) .args .passage)) ((c .before .before .before .before .before) .args .side) (stateOf ((c .before .before .before .before .before) .args .s))), (c .before .before .if1) .left)
-
-wide-requires : tie.Need-wide-requires
-wide-requires c κs = search needs
-
-add-sum : tie.Need-add-sum
-add-sum c = omega (arith, (c .before .before .passage-length) .ensures .1, (c .wide) .ensures .1)
-
-returns-2 : tie.Need-returns-2
-returns-2 c = (omega (arith, through-alive ((c .before .before .before .before .before .before .before) .args .next .now) (policyOf ((c .before .before .before .before .before .before .before) .args .policy)) ((c .before .before .before .before .before .before .before) .args .side) ((c .before .before .before .before .before .before .before) .args .width) ((c .before .before .before .before .before .before .before) .args .s) ((c .before .before .before .before .before .before .before) .args .q) (passageOf ((c .before .before .before .before .before .before .before) .args .passage)) ((c .before .before .before .before .before .passage-step) .result) (sym ((c .before .before .before .before .before .passage-step) .ensures)) (omega (arith, (c .before .before .before .before .before .passage-step) .ensures, state-small (crossOf (policyOf ((c .before .before .before .before .before .before .before) .args .policy)) (passageOf ((c .before .before .before .before .before .before .before) .args .passage)) ((c .before .before .before .before .before .before .before) .args .side) (stateOf ((c .before .before .before .before .before .before .before) .args .s))), (c .before .before .before .before .if1) .left)), (c .before .before .before .passage-length) .ensures .0, (c .before .wide) .ensures .0), omega arith)
-
-returns-3 : tie.Need-returns-3
-returns-3 c = (omega (arith, through-alive ((c .before .before .before .before .before .before .before) .args .next .now) (policyOf ((c .before .before .before .before .before .before .before) .args .policy)) ((c .before .before .before .before .before .before .before) .args .side) ((c .before .before .before .before .before .before .before) .args .width) ((c .before .before .before .before .before .before .before) .args .s) ((c .before .before .before .before .before .before .before) .args .q) (passageOf ((c .before .before .before .before .before .before .before) .args .passage)) ((c .before .before .before .before .before .passage-step) .result) (sym ((c .before .before .before .before .before .passage-step) .ensures)) (omega (arith, (c .before .before .before .before .before .passage-step) .ensures, state-small (crossOf (policyOf ((c .before .before .before .before .before .before .before) .args .policy)) (passageOf ((c .before .before .before .before .before .before .before) .args .passage)) ((c .before .before .before .before .before .before .before) .args .side) (stateOf ((c .before .before .before .before .before .before .before) .args .s))), (c .before .before .before .before .if1) .left)), (c .before .before .before .passage-length) .ensures .0, (c .before .wide) .ensures .0), omega arith)
+returns : tie.Need-returns
+returns c =
+    let x = c .before .before .before .before .before .args in
+    way-on (x .x) (now (x .next)) (x .at) (passageOf (x .p)) _ _ _ _
+    (c .before .before .before .cross-to .ensures) (c .before .before .passage-length .ensures .0) (c .before .value-at .ensures .0) (c .plus .ensures)
 
 pub through-spec : {M : Type 1} → statement M
 through-spec =
     tie.close
-    (tie.spec
-    passage-step-requires
-    returns
-    passage-length-requires
-    mul-wide
-    add-wide
-    mul-wide-2
-    shared-slice-read-wide
-    wide-requires
-    add-sum
-    returns-2
-    returns-3)
+    (tie.spec cross-to-requires passage-length-requires value-at-requires plus-requires returns)

@@ -1,32 +1,58 @@
--- `router::trace::trace_aisle` meets its contract.
+-- `router::trace::trace_aisle` meets its contract: its parts make what the trace's laws ask for, and `trace-next` takes the trace on.
 use borrow.Author.Needs.{needs}
+use Prim.Native.Nat.{suc, _+_, _≤_, _<_}
 use native.Mathlib.Omega.{arith}
-use Prim.Native.Nat.{suc, _+_, _*_, _-_, _≤_, _<_}
-use mathlib.Core.Path.{_≡_, sym, _∙_, ap}
-use lib.ListN.{getD}
-use mathlib.Core.Path.{subst}
 use native.Mathlib.Numerals.{add-one}
-use Rattle.rules.specs.BestPlan.{actionsOf}
-use Rattle.rules.specs.declared.Action.the-variants.{Void}
-use Rattle.values.specs.Values.{jobOf}
-use Rattle.table.specs.declared.candidates.Candidate.{Candidate}
-use Rattle.table.specs.declared.layers.Aisle.{Aisle}
-use Rattle.demand.specs.Maps.{MapsReady}
-use Rattle.table.specs.Layers.{AisleReady, leftCode}
-use Rattle.demand.specs.Shelves.{MapsAsked}
-use Rattle.table.specs.Rows.{leastAfter}
-use Rattle.table.specs.TableHolds.{sideOf, aisleOf, triedAt}
-use Rattle.table.proofs.Geometry.{within}
-use Rattle.table.proofs.ActionRows.{ranked-fits, Parts, candidate-parts}
-use Rattle.table.proofs.StepLaws.{side-below}
-use Rattle.table.proofs.TableFills.{aisle-ready}
-use Rattle.router.proofs.TraceLaws.{rank-in, passage-in, trace-on}
+use mathlib.Core.Path.{_≡_, _∙_, ap, subst}
+use denote.Ref.{now}
+use Rattle.rules.specs.Jobs.{Job}
+use Rattle.demand.specs.Maps.{MapsAsked, MapsReady}
+use Rattle.table.specs.Crossings.{InRange}
+use Rattle.table.specs.TableHolds.{OrderOf, aisleOf}
+use Rattle.table.proofs.TableFills.{order-aisles, order-few, maps-asked, same-weight, in-range, ready}
+use Rattle.router.specs.Tracing.{TraceAsked}
+use Rattle.router.proofs.TraceLaws.{Aisled, action-there, taken-lands, passage-there, trace-next}
 use Rattle.router.proofs.trace.trace_aisle.Statement.{statement}
 use Rattle.router.proofs.trace.trace_aisle.Tie as tie
 
+-- the next aisle is one of the order's
+in-order : (c : tie.Start) → (job : Job) → OrderOf job (c .args .o) → TraceAsked job (c .args .n) (c .args .t) (now (c .args .next)) (c .args .here)
+    → (1 ≤ c .args .n + 1) × (c .args .n + 1 ≤ c .args .o .layout .aisles)
+in-order c job of asked = (omega arith, omega (arith, asked .more, order-aisles job (c .args .o) of))
+
+few : (c : tie.Start) → c .args .n < 16
+few c =
+    let r = c .pre .0 in
+    let l = in-order c (r .0) (r .1) (r .2) in omega (arith, order-few (r .0) (c .args .o) (r .1))
+
+-- the numbers of the aisle are those of any job of the order
+numbers-are : (c : tie.After-aisle-of) → (job : Job) → OrderOf job (c .before .before .before .before .before .before .before .args .o)
+    → c .aisle-of .result ≡ aisleOf job (suc (c .before .before .before .before .before .before .before .args .n))
+numbers-are c job of =
+    c .aisle-of .ensures job of ∙ ap (aisleOf job) (add-one (c .before .before .before .before .before .before .before .args .n))
+
+-- what the laws ask for, of any job of the order
+aisled : (c : tie.After-fill-after) →
+    let start = c .before .before .before .before .before .before .before .before .before in
+    let x = start .args in
+    let maps = c .before .before .before .before .before .fill-maps in
+    (job : Job) → OrderOf job (x .o) → TraceAsked job (x .n) (x .t) (now (x .next)) (x .here)
+    → Aisled job (x .n) (c .before .before .aisle-of .result) (now (x .next)) (c .fill-after .last .0) (maps .last .0) (maps .last .1 .0)
+aisled c job of asked =
+    let start = c .before .before .before .before .before .before .before .before .before in
+    let x = start .args in
+    let maps = c .before .before .before .before .before .fill-maps in
+    let l = in-order start job of asked in
+    let filled = maps .ensures .0 job (maps-asked job (x .o) of (x .n + 1) (l .0) (l .1)) in
+    record {
+      ok = of .admitted;
+      numbers = numbers-are (c .before .before) job of;
+      maps = subst (λ k. MapsReady job k (maps .last .0) (maps .last .1 .0)) (add-one (x .n)) filled;
+      filled = c .fill-after .ensures .0;
+    }
+
 add-j : tie.Need-add-j
-unfolding jobOf aisleOf leastAfter
-add-j c = let w = within ((c .before) .args .job .layout) (((c .before) .pre .0 .sound .admitted) .layout) in omega (arith, (c .before) .pre .0 .aisle .1)
+add-j c = let l = few (c .before) in omega arith
 
 slice-aggregate-fill-maps : tie.Need-slice-aggregate-fill-maps
 slice-aggregate-fill-maps c = search needs
@@ -35,74 +61,92 @@ slice-aggregate-fill-maps-2 : tie.Need-slice-aggregate-fill-maps-2
 slice-aggregate-fill-maps-2 c = search needs
 
 fill-maps-requires : tie.Need-fill-maps-requires
-fill-maps-requires c κs = (omega arith, omega arith, subst (λ m. MapsAsked ((c .before .before .before) .args .job) ((c .before .before .before) .args .shelf) ((c .before .before .before) .args .d) m) (sym (add-one ((c .before .before .before) .args .n))) ((c .before .before .before) .pre .0))
+fill-maps-requires c κs =
+    let start = c .before .before .before in
+    let r = start .pre .0 in
+    let l = in-order start (r .0) (r .1) (r .2) in
+    (omega arith, omega arith, (r .0, maps-asked (r .0) (start .args .o) (r .1) (start .args .n + 1) (l .0) (l .1)))
 
-numbers-of-requires : tie.Need-numbers-of-requires
-numbers-of-requires c κs = ((c .before .before .before .before .before .before .before) .pre .0 .sound, (c .before .before .before .before .before .before .before) .pre .0 .digits-of .counted)
+aisle-of-requires : tie.Need-aisle-of-requires
+aisle-of-requires c κs =
+    let start = c .before .before .before .before .before .before in
+    let r = start .pre .0 in
+    let l = in-order start (r .0) (r .1) (r .2) in ((r .0, r .1), l .0, l .1)
 
-tried-of-requires : tie.Need-tried-of-requires
-tried-of-requires c κs = omega (arith, (c .before .before .before .before .before .before .before .before) .pre .0 .aisle .1)
+slice-aggregate-fill-after : tie.Need-slice-aggregate-fill-after
+slice-aggregate-fill-after c = search needs
 
-side-of-requires : tie.Need-side-of-requires
-side-of-requires c κs = search needs
+fill-after-requires : tie.Need-fill-after-requires
+fill-after-requires c κs =
+    let at-aisle = c .before in
+    let start = at-aisle .before .before .before .before .before .before .before in
+    let r = start .pre .0 in
+    let range = in-range (r .0) _ (at-aisle .aisle-of .result) (numbers-are at-aisle (r .0) (r .1)) (r .1 .admitted) in
+    let small = range .small in
+    record { aisle = range; after-long = omega arith; next-long = omega (arith, start .pre .1) }
 
-slice-aggregate-choose-action : tie.Need-slice-aggregate-choose-action
-slice-aggregate-choose-action c = search needs
+slice-aggregate-take-action : tie.Need-slice-aggregate-take-action
+slice-aggregate-take-action c = search needs
 
-slice-aggregate-choose-action-2 : tie.Need-slice-aggregate-choose-action-2
-slice-aggregate-choose-action-2 c = search needs
+slice-aggregate-take-action-2 : tie.Need-slice-aggregate-take-action-2
+slice-aggregate-take-action-2 c = search needs
 
-choose-action-requires : tie.Need-choose-action-requires
-unfolding jobOf aisleOf leastAfter
-choose-action-requires c κs = ((subst (λ y. AisleReady y ((c .before .before .before .before .before .before .before .before .fill-maps) .last .0) ((c .before .before .before .before .before .before .before .before .fill-maps) .last .1 .0)) (sym ((c .before .before .before .before .numbers-of) .ensures ∙ ap (aisleOf (jobOf ((c .before .before .before .before .before .before .before .before .before .before .before .before) .args .job))) (add-one ((c .before .before .before .before .before .before .before .before .before .before .before .before) .args .n)))) (aisle-ready (jobOf ((c .before .before .before .before .before .before .before .before .before .before .before .before) .args .job)) ((c .before .before .before .before .before .before .before .before .before .before .before .before) .pre .0 .sound .admitted) (suc ((c .before .before .before .before .before .before .before .before .before .before .before .before) .args .n)) ((c .before .before .before .before .before .before .before .before .fill-maps) .last .0) ((c .before .before .before .before .before .before .before .before .fill-maps) .last .1 .0) (subst (λ k. MapsReady (jobOf ((c .before .before .before .before .before .before .before .before .before .before .before .before) .args .job)) k ((c .before .before .before .before .before .before .before .before .fill-maps) .last .0) ((c .before .before .before .before .before .before .before .before .fill-maps) .last .1 .0)) (add-one ((c .before .before .before .before .before .before .before .before .before .before .before .before) .args .n)) ((c .before .before .before .before .before .before .before .before .fill-maps) .ensures .0)) (omega (arith, (c .before .before .before .before .before .before .before .before .fill-maps) .ensures .1)) (omega (arith, (c .before .before .before .before .before .before .before .before .fill-maps) .ensures .2)))), (c .before .before .before .before .before .before .before .before .before .before .before .before) .pre .1, (subst (λ m. m < 3) (sym ((c .before .before .side-of) .ensures)) (side-below ((c .before .before .before .before .before .before .before .before .before .before .before .before) .args .job .layout .depot) (((c .before .before .before .before .before .before .before .before .before .before .before .before) .args .n) + 1))), (c .before .before .before .tried-of) .ensures .1, ((c .before .before .before .before .before .before .before .before .before .before .before .before) .pre .2) .state-below, (subst (λ (y : Aisle). ((c .before .before .before .before .before .before .before .before .before .before .before .before) .args .t .demand) < y .weight) (sym ((c .before .before .before .before .numbers-of) .ensures ∙ ap (aisleOf (jobOf ((c .before .before .before .before .before .before .before .before .before .before .before .before) .args .job))) (add-one ((c .before .before .before .before .before .before .before .before .before .before .before .before) .args .n)))) (((c .before .before .before .before .before .before .before .before .before .before .before .before) .pre .2) .demand-below)))
+slice-aggregate-take-action-3 : tie.Need-slice-aggregate-take-action-3
+slice-aggregate-take-action-3 c = search needs
 
-action-at-requires : tie.Need-action-at-requires
-unfolding jobOf aisleOf leastAfter
-action-at-requires c κs = let w = within ((c .before .before .before .before .before .before .before .before .before .before .before .before .before) .args .job .layout) (((c .before .before .before .before .before .before .before .before .before .before .before .before .before) .pre .0 .sound .admitted) .layout) in (omega arith, (rank-in (jobOf ((c .before .before .before .before .before .before .before .before .before .before .before .before .before) .args .job)) ((c .before .before .before .before .before .before .before .before .before .before .before .before .before) .args .n) ((c .before .before .before .before .before .before .before .before .before .before .before .before .before) .args .t .state) ((c .before .before .before .before .before .before .before .before .before .before .before .before .before) .args .t .demand) ((c .before .before .before .before .before .before .before .before .before .before .before .before .before) .args .next .now) ((c .before .before .before .before .before .before .before .before .before .fill-maps) .last .0) ((c .before .before .before .before .before .before .before .before .before .fill-maps) .last .1 .0) ((c .before .before .before .before .before .numbers-of) .result) ((c .before .before .before .before .tried-of) .result) ((c .before .before .before .side-of) .result) ((c .before .before .before .before .before .before .before .before .before .before .before .before .before) .args .here) (record { ok = ((c .before .before .before .before .before .before .before .before .before .before .before .before .before) .pre .0 .sound .admitted); more = (c .before .before .before .before .before .before .before .before .before .before .before .before .before) .pre .0 .aisle .1; numbers = ((c .before .before .before .before .before .numbers-of) .ensures ∙ ap (aisleOf (jobOf ((c .before .before .before .before .before .before .before .before .before .before .before .before .before) .args .job))) (add-one ((c .before .before .before .before .before .before .before .before .before .before .before .before .before) .args .n))); passages = ((c .before .before .before .before .tried-of) .ensures .0 ∙ ap (λ k. triedAt ((c .before .before .before .before .before .before .before .before .before .before .before .before .before) .args .job .layout .aisles - k)) (add-one ((c .before .before .before .before .before .before .before .before .before .before .before .before .before) .args .n))); place = ((c .before .before .before .side-of) .ensures ∙ ap (sideOf ((c .before .before .before .before .before .before .before .before .before .before .before .before .before) .args .job .layout .depot)) (add-one ((c .before .before .before .before .before .before .before .before .before .before .before .before .before) .args .n))); table = (c .before .before .before .before .before .before .before .before .before .before .before .before .before) .pre .4; rows = (c .before .before .before .before .before .before .before .before .before .before .before .before .before) .pre .3; maps = (subst (λ k. MapsReady (jobOf ((c .before .before .before .before .before .before .before .before .before .before .before .before .before) .args .job)) k ((c .before .before .before .before .before .before .before .before .before .fill-maps) .last .0) ((c .before .before .before .before .before .before .before .before .before .fill-maps) .last .1 .0)) (add-one ((c .before .before .before .before .before .before .before .before .before .before .before .before .before) .args .n)) ((c .before .before .before .before .before .before .before .before .before .fill-maps) .ensures .0)) }) ((c .before .before .before .before .before .before .before .before .before .before .before .before .before) .args .t .stages) ((c .before .before .before .before .before .before .before .before .before .before .before .before .before) .pre .2) ((c .choose-action) .result) ((c .choose-action) .ensures)))
+take-action-requires : tie.Need-take-action-requires
+take-action-requires c κs =
+    let at-after = c .before .before .before .before .before in
+    let at-aisle = at-after .before .before in
+    let maps = at-aisle .before .before .before .fill-maps in
+    let start = at-aisle .before .before .before .before .before .before .before in
+    let r = start .pre .0 in
+    let h = aisled at-after (r .0) (r .1) (r .2) in
+    let x = at-aisle .aisle-of .result in
+    let traced = r .2 .traced in (
+      record {
+        ready = ready (r .0) _ x (h .numbers) (r .1 .admitted) _ _ (h .maps) (omega (arith, maps .ensures .1)) (omega (arith, maps .ensures .2));
+        long = omega (arith, at-after .fill-after .ensures .1);
+        state-below = omega (arith, traced .state-below);
+        demand-below = omega (arith, same-weight (r .0) _ x (h .numbers), traced .demand-below);
+      },
+      action-there h (r .2),
+    )
 
-step-of-requires : tie.Need-step-of-requires
-unfolding jobOf aisleOf leastAfter
-step-of-requires c κs = ((subst (λ y. AisleReady y ((c .before .before .before .before .before .before .before .before .before .before .fill-maps) .last .0) ((c .before .before .before .before .before .before .before .before .before .before .fill-maps) .last .1 .0)) (sym ((c .before .before .before .before .before .before .numbers-of) .ensures ∙ ap (aisleOf (jobOf ((c .before .before .before .before .before .before .before .before .before .before .before .before .before .before) .args .job))) (add-one ((c .before .before .before .before .before .before .before .before .before .before .before .before .before .before) .args .n)))) (aisle-ready (jobOf ((c .before .before .before .before .before .before .before .before .before .before .before .before .before .before) .args .job)) ((c .before .before .before .before .before .before .before .before .before .before .before .before .before .before) .pre .0 .sound .admitted) (suc ((c .before .before .before .before .before .before .before .before .before .before .before .before .before .before) .args .n)) ((c .before .before .before .before .before .before .before .before .before .before .fill-maps) .last .0) ((c .before .before .before .before .before .before .before .before .before .before .fill-maps) .last .1 .0) (subst (λ k. MapsReady (jobOf ((c .before .before .before .before .before .before .before .before .before .before .before .before .before .before) .args .job)) k ((c .before .before .before .before .before .before .before .before .before .before .fill-maps) .last .0) ((c .before .before .before .before .before .before .before .before .before .before .fill-maps) .last .1 .0)) (add-one ((c .before .before .before .before .before .before .before .before .before .before .before .before .before .before) .args .n)) ((c .before .before .before .before .before .before .before .before .before .before .fill-maps) .ensures .0)) (omega (arith, (c .before .before .before .before .before .before .before .before .before .before .fill-maps) .ensures .1)) (omega (arith, (c .before .before .before .before .before .before .before .before .before .before .fill-maps) .ensures .2)))) .bounds, (subst (λ y. AisleReady y ((c .before .before .before .before .before .before .before .before .before .before .fill-maps) .last .0) ((c .before .before .before .before .before .before .before .before .before .before .fill-maps) .last .1 .0)) (sym ((c .before .before .before .before .before .before .numbers-of) .ensures ∙ ap (aisleOf (jobOf ((c .before .before .before .before .before .before .before .before .before .before .before .before .before .before) .args .job))) (add-one ((c .before .before .before .before .before .before .before .before .before .before .before .before .before .before) .args .n)))) (aisle-ready (jobOf ((c .before .before .before .before .before .before .before .before .before .before .before .before .before .before) .args .job)) ((c .before .before .before .before .before .before .before .before .before .before .before .before .before .before) .pre .0 .sound .admitted) (suc ((c .before .before .before .before .before .before .before .before .before .before .before .before .before .before) .args .n)) ((c .before .before .before .before .before .before .before .before .before .before .fill-maps) .last .0) ((c .before .before .before .before .before .before .before .before .before .before .fill-maps) .last .1 .0) (subst (λ k. MapsReady (jobOf ((c .before .before .before .before .before .before .before .before .before .before .before .before .before .before) .args .job)) k ((c .before .before .before .before .before .before .before .before .before .before .fill-maps) .last .0) ((c .before .before .before .before .before .before .before .before .before .before .fill-maps) .last .1 .0)) (add-one ((c .before .before .before .before .before .before .before .before .before .before .before .before .before .before) .args .n)) ((c .before .before .before .before .before .before .before .before .before .before .fill-maps) .ensures .0)) (omega (arith, (c .before .before .before .before .before .before .before .before .before .before .fill-maps) .ensures .1)) (omega (arith, (c .before .before .before .before .before .before .before .before .before .before .fill-maps) .ensures .2)))) .policy-below, (subst (λ y. AisleReady y ((c .before .before .before .before .before .before .before .before .before .before .fill-maps) .last .0) ((c .before .before .before .before .before .before .before .before .before .before .fill-maps) .last .1 .0)) (sym ((c .before .before .before .before .before .before .numbers-of) .ensures ∙ ap (aisleOf (jobOf ((c .before .before .before .before .before .before .before .before .before .before .before .before .before .before) .args .job))) (add-one ((c .before .before .before .before .before .before .before .before .before .before .before .before .before .before) .args .n)))) (aisle-ready (jobOf ((c .before .before .before .before .before .before .before .before .before .before .before .before .before .before) .args .job)) ((c .before .before .before .before .before .before .before .before .before .before .before .before .before .before) .pre .0 .sound .admitted) (suc ((c .before .before .before .before .before .before .before .before .before .before .before .before .before .before) .args .n)) ((c .before .before .before .before .before .before .before .before .before .before .fill-maps) .last .0) ((c .before .before .before .before .before .before .before .before .before .before .fill-maps) .last .1 .0) (subst (λ k. MapsReady (jobOf ((c .before .before .before .before .before .before .before .before .before .before .before .before .before .before) .args .job)) k ((c .before .before .before .before .before .before .before .before .before .before .fill-maps) .last .0) ((c .before .before .before .before .before .before .before .before .before .before .fill-maps) .last .1 .0)) (add-one ((c .before .before .before .before .before .before .before .before .before .before .before .before .before .before) .args .n)) ((c .before .before .before .before .before .before .before .before .before .before .fill-maps) .ensures .0)) (omega (arith, (c .before .before .before .before .before .before .before .before .before .before .fill-maps) .ensures .1)) (omega (arith, (c .before .before .before .before .before .before .before .before .before .before .fill-maps) .ensures .2)))) .holds-below, (subst (λ (y : Candidate). Parts ((c .before .before .before .before .before .before .before .before .before .before .before .before .before .before) .args .job .layout .cells) (y .kind) (y .front) (y .back)) (sym ((c .action-at) .ensures)) (candidate-parts ((c .before .before .before .before .before .before .before .before .before .before .before .before .before .before) .args .job .layout .cells) (getD (actionsOf ((c .before .before .before .before .before .before .before .before .before .before .before .before .before .before) .args .job .layout .cells)) ((c .before .choose-action) .result) Void) (ranked-fits ((c .before .before .before .before .before .before .before .before .before .before .before .before .before .before) .args .job .layout .cells) ((c .before .choose-action) .result) (rank-in (jobOf ((c .before .before .before .before .before .before .before .before .before .before .before .before .before .before) .args .job)) ((c .before .before .before .before .before .before .before .before .before .before .before .before .before .before) .args .n) ((c .before .before .before .before .before .before .before .before .before .before .before .before .before .before) .args .t .state) ((c .before .before .before .before .before .before .before .before .before .before .before .before .before .before) .args .t .demand) ((c .before .before .before .before .before .before .before .before .before .before .before .before .before .before) .args .next .now) ((c .before .before .before .before .before .before .before .before .before .before .fill-maps) .last .0) ((c .before .before .before .before .before .before .before .before .before .before .fill-maps) .last .1 .0) ((c .before .before .before .before .before .before .numbers-of) .result) ((c .before .before .before .before .before .tried-of) .result) ((c .before .before .before .before .side-of) .result) ((c .before .before .before .before .before .before .before .before .before .before .before .before .before .before) .args .here) (record { ok = ((c .before .before .before .before .before .before .before .before .before .before .before .before .before .before) .pre .0 .sound .admitted); more = (c .before .before .before .before .before .before .before .before .before .before .before .before .before .before) .pre .0 .aisle .1; numbers = ((c .before .before .before .before .before .before .numbers-of) .ensures ∙ ap (aisleOf (jobOf ((c .before .before .before .before .before .before .before .before .before .before .before .before .before .before) .args .job))) (add-one ((c .before .before .before .before .before .before .before .before .before .before .before .before .before .before) .args .n))); passages = ((c .before .before .before .before .before .tried-of) .ensures .0 ∙ ap (λ k. triedAt ((c .before .before .before .before .before .before .before .before .before .before .before .before .before .before) .args .job .layout .aisles - k)) (add-one ((c .before .before .before .before .before .before .before .before .before .before .before .before .before .before) .args .n))); place = ((c .before .before .before .before .side-of) .ensures ∙ ap (sideOf ((c .before .before .before .before .before .before .before .before .before .before .before .before .before .before) .args .job .layout .depot)) (add-one ((c .before .before .before .before .before .before .before .before .before .before .before .before .before .before) .args .n))); table = (c .before .before .before .before .before .before .before .before .before .before .before .before .before .before) .pre .4; rows = (c .before .before .before .before .before .before .before .before .before .before .before .before .before .before) .pre .3; maps = (subst (λ k. MapsReady (jobOf ((c .before .before .before .before .before .before .before .before .before .before .before .before .before .before) .args .job)) k ((c .before .before .before .before .before .before .before .before .before .before .fill-maps) .last .0) ((c .before .before .before .before .before .before .before .before .before .before .fill-maps) .last .1 .0)) (add-one ((c .before .before .before .before .before .before .before .before .before .before .before .before .before .before) .args .n)) ((c .before .before .before .before .before .before .before .before .before .before .fill-maps) .ensures .0)) }) ((c .before .before .before .before .before .before .before .before .before .before .before .before .before .before) .args .t .stages) ((c .before .before .before .before .before .before .before .before .before .before .before .before .before .before) .pre .2) ((c .before .choose-action) .result) ((c .before .choose-action) .ensures))))) .kind-below, omega (arith, ((c .before .before .before .before .before .before .before .before .before .before .before .before .before .before) .pre .2) .state-below))
-
-slice-aggregate-left-of : tie.Need-slice-aggregate-left-of
-slice-aggregate-left-of c = search needs
-
-slice-aggregate-left-of-2 : tie.Need-slice-aggregate-left-of-2
-slice-aggregate-left-of-2 c = search needs
-
-left-of-requires : tie.Need-left-of-requires
-unfolding jobOf aisleOf leastAfter
-left-of-requires c κs = let w = within ((c .before .before .before .before .before .before .before .before .before .before .before .before .before .before .before .before .before) .args .job .layout) (((c .before .before .before .before .before .before .before .before .before .before .before .before .before .before .before .before .before) .pre .0 .sound .admitted) .layout) in let p = (subst (λ (y : Candidate). Parts ((c .before .before .before .before .before .before .before .before .before .before .before .before .before .before .before .before .before) .args .job .layout .cells) (y .kind) (y .front) (y .back)) (sym ((c .before .before .before .action-at) .ensures)) (candidate-parts ((c .before .before .before .before .before .before .before .before .before .before .before .before .before .before .before .before .before) .args .job .layout .cells) (getD (actionsOf ((c .before .before .before .before .before .before .before .before .before .before .before .before .before .before .before .before .before) .args .job .layout .cells)) ((c .before .before .before .before .choose-action) .result) Void) (ranked-fits ((c .before .before .before .before .before .before .before .before .before .before .before .before .before .before .before .before .before) .args .job .layout .cells) ((c .before .before .before .before .choose-action) .result) (rank-in (jobOf ((c .before .before .before .before .before .before .before .before .before .before .before .before .before .before .before .before .before) .args .job)) ((c .before .before .before .before .before .before .before .before .before .before .before .before .before .before .before .before .before) .args .n) ((c .before .before .before .before .before .before .before .before .before .before .before .before .before .before .before .before .before) .args .t .state) ((c .before .before .before .before .before .before .before .before .before .before .before .before .before .before .before .before .before) .args .t .demand) ((c .before .before .before .before .before .before .before .before .before .before .before .before .before .before .before .before .before) .args .next .now) ((c .before .before .before .before .before .before .before .before .before .before .before .before .before .fill-maps) .last .0) ((c .before .before .before .before .before .before .before .before .before .before .before .before .before .fill-maps) .last .1 .0) ((c .before .before .before .before .before .before .before .before .before .numbers-of) .result) ((c .before .before .before .before .before .before .before .before .tried-of) .result) ((c .before .before .before .before .before .before .before .side-of) .result) ((c .before .before .before .before .before .before .before .before .before .before .before .before .before .before .before .before .before) .args .here) (record { ok = ((c .before .before .before .before .before .before .before .before .before .before .before .before .before .before .before .before .before) .pre .0 .sound .admitted); more = (c .before .before .before .before .before .before .before .before .before .before .before .before .before .before .before .before .before) .pre .0 .aisle .1; numbers = ((c .before .before .before .before .before .before .before .before .before .numbers-of) .ensures ∙ ap (aisleOf (jobOf ((c .before .before .before .before .before .before .before .before .before .before .before .before .before .before .before .before .before) .args .job))) (add-one ((c .before .before .before .before .before .before .before .before .before .before .before .before .before .before .before .before .before) .args .n))); passages = ((c .before .before .before .before .before .before .before .before .tried-of) .ensures .0 ∙ ap (λ k. triedAt ((c .before .before .before .before .before .before .before .before .before .before .before .before .before .before .before .before .before) .args .job .layout .aisles - k)) (add-one ((c .before .before .before .before .before .before .before .before .before .before .before .before .before .before .before .before .before) .args .n))); place = ((c .before .before .before .before .before .before .before .side-of) .ensures ∙ ap (sideOf ((c .before .before .before .before .before .before .before .before .before .before .before .before .before .before .before .before .before) .args .job .layout .depot)) (add-one ((c .before .before .before .before .before .before .before .before .before .before .before .before .before .before .before .before .before) .args .n))); table = (c .before .before .before .before .before .before .before .before .before .before .before .before .before .before .before .before .before) .pre .4; rows = (c .before .before .before .before .before .before .before .before .before .before .before .before .before .before .before .before .before) .pre .3; maps = (subst (λ k. MapsReady (jobOf ((c .before .before .before .before .before .before .before .before .before .before .before .before .before .before .before .before .before) .args .job)) k ((c .before .before .before .before .before .before .before .before .before .before .before .before .before .fill-maps) .last .0) ((c .before .before .before .before .before .before .before .before .before .before .before .before .before .fill-maps) .last .1 .0)) (add-one ((c .before .before .before .before .before .before .before .before .before .before .before .before .before .before .before .before .before) .args .n)) ((c .before .before .before .before .before .before .before .before .before .before .before .before .before .fill-maps) .ensures .0)) }) ((c .before .before .before .before .before .before .before .before .before .before .before .before .before .before .before .before .before) .args .t .stages) ((c .before .before .before .before .before .before .before .before .before .before .before .before .before .before .before .before .before) .pre .2) ((c .before .before .before .before .choose-action) .result) ((c .before .before .before .before .choose-action) .ensures))))) in let u = (subst (λ y. AisleReady y ((c .before .before .before .before .before .before .before .before .before .before .before .before .before .fill-maps) .last .0) ((c .before .before .before .before .before .before .before .before .before .before .before .before .before .fill-maps) .last .1 .0)) (sym ((c .before .before .before .before .before .before .before .before .before .numbers-of) .ensures ∙ ap (aisleOf (jobOf ((c .before .before .before .before .before .before .before .before .before .before .before .before .before .before .before .before .before) .args .job))) (add-one ((c .before .before .before .before .before .before .before .before .before .before .before .before .before .before .before .before .before) .args .n)))) (aisle-ready (jobOf ((c .before .before .before .before .before .before .before .before .before .before .before .before .before .before .before .before .before) .args .job)) ((c .before .before .before .before .before .before .before .before .before .before .before .before .before .before .before .before .before) .pre .0 .sound .admitted) (suc ((c .before .before .before .before .before .before .before .before .before .before .before .before .before .before .before .before .before) .args .n)) ((c .before .before .before .before .before .before .before .before .before .before .before .before .before .fill-maps) .last .0) ((c .before .before .before .before .before .before .before .before .before .before .before .before .before .fill-maps) .last .1 .0) (subst (λ k. MapsReady (jobOf ((c .before .before .before .before .before .before .before .before .before .before .before .before .before .before .before .before .before) .args .job)) k ((c .before .before .before .before .before .before .before .before .before .before .before .before .before .fill-maps) .last .0) ((c .before .before .before .before .before .before .before .before .before .before .before .before .before .fill-maps) .last .1 .0)) (add-one ((c .before .before .before .before .before .before .before .before .before .before .before .before .before .before .before .before .before) .args .n)) ((c .before .before .before .before .before .before .before .before .before .before .before .before .before .fill-maps) .ensures .0)) (omega (arith, (c .before .before .before .before .before .before .before .before .before .before .before .before .before .fill-maps) .ensures .1)) (omega (arith, (c .before .before .before .before .before .before .before .before .before .before .before .before .before .fill-maps) .ensures .2)))) .small in (omega arith, omega arith, omega (arith, (subst (λ (y : Aisle). ((c .before .before .before .before .before .before .before .before .before .before .before .before .before .before .before .before .before) .args .t .demand) < y .weight) (sym ((c .before .before .before .before .before .before .before .before .before .numbers-of) .ensures ∙ ap (aisleOf (jobOf ((c .before .before .before .before .before .before .before .before .before .before .before .before .before .before .before .before .before) .args .job))) (add-one ((c .before .before .before .before .before .before .before .before .before .before .before .before .before .before .before .before .before) .args .n)))) (((c .before .before .before .before .before .before .before .before .before .before .before .before .before .before .before .before .before) .pre .2) .demand-below))), (omega (arith, (c .before .before .before .before .before .before .before .before .before .before .before .before .before .fill-maps) .ensures .1)), (omega (arith, (c .before .before .before .before .before .before .before .before .before .before .before .before .before .fill-maps) .ensures .2)), omega (arith, ((subst (λ y. AisleReady y ((c .before .before .before .before .before .before .before .before .before .before .before .before .before .fill-maps) .last .0) ((c .before .before .before .before .before .before .before .before .before .before .before .before .before .fill-maps) .last .1 .0)) (sym ((c .before .before .before .before .before .before .before .before .before .numbers-of) .ensures ∙ ap (aisleOf (jobOf ((c .before .before .before .before .before .before .before .before .before .before .before .before .before .before .before .before .before) .args .job))) (add-one ((c .before .before .before .before .before .before .before .before .before .before .before .before .before .before .before .before .before) .args .n)))) (aisle-ready (jobOf ((c .before .before .before .before .before .before .before .before .before .before .before .before .before .before .before .before .before) .args .job)) ((c .before .before .before .before .before .before .before .before .before .before .before .before .before .before .before .before .before) .pre .0 .sound .admitted) (suc ((c .before .before .before .before .before .before .before .before .before .before .before .before .before .before .before .before .before) .args .n)) ((c .before .before .before .before .before .before .before .before .before .before .before .before .before .fill-maps) .last .0) ((c .before .before .before .before .before .before .before .before .before .before .before .before .before .fill-maps) .last .1 .0) (subst (λ k. MapsReady (jobOf ((c .before .before .before .before .before .before .before .before .before .before .before .before .before .before .before .before .before) .args .job)) k ((c .before .before .before .before .before .before .before .before .before .before .before .before .before .fill-maps) .last .0) ((c .before .before .before .before .before .before .before .before .before .before .before .before .before .fill-maps) .last .1 .0)) (add-one ((c .before .before .before .before .before .before .before .before .before .before .before .before .before .before .before .before .before) .args .n)) ((c .before .before .before .before .before .before .before .before .before .before .before .before .before .fill-maps) .ensures .0)) (omega (arith, (c .before .before .before .before .before .before .before .before .before .before .before .before .before .fill-maps) .ensures .1)) (omega (arith, (c .before .before .before .before .before .before .before .before .before .before .before .before .before .fill-maps) .ensures .2)))) .front-below (((c .before .before .before .action-at) .result) .front) ((c .before .before .before .before .before .before .before .before .before .before .before .before .before .before .before .before .before) .args .t .demand) (subst (λ (y : Aisle). ((c .before .before .before .action-at) .result) .front ≤ y .layout .cells) (sym ((c .before .before .before .before .before .before .before .before .before .numbers-of) .ensures ∙ ap (aisleOf (jobOf ((c .before .before .before .before .before .before .before .before .before .before .before .before .before .before .before .before .before) .args .job))) (add-one ((c .before .before .before .before .before .before .before .before .before .before .before .before .before .before .before .before .before) .args .n)))) ((subst (λ (y : Candidate). Parts ((c .before .before .before .before .before .before .before .before .before .before .before .before .before .before .before .before .before) .args .job .layout .cells) (y .kind) (y .front) (y .back)) (sym ((c .before .before .before .action-at) .ensures)) (candidate-parts ((c .before .before .before .before .before .before .before .before .before .before .before .before .before .before .before .before .before) .args .job .layout .cells) (getD (actionsOf ((c .before .before .before .before .before .before .before .before .before .before .before .before .before .before .before .before .before) .args .job .layout .cells)) ((c .before .before .before .before .choose-action) .result) Void) (ranked-fits ((c .before .before .before .before .before .before .before .before .before .before .before .before .before .before .before .before .before) .args .job .layout .cells) ((c .before .before .before .before .choose-action) .result) (rank-in (jobOf ((c .before .before .before .before .before .before .before .before .before .before .before .before .before .before .before .before .before) .args .job)) ((c .before .before .before .before .before .before .before .before .before .before .before .before .before .before .before .before .before) .args .n) ((c .before .before .before .before .before .before .before .before .before .before .before .before .before .before .before .before .before) .args .t .state) ((c .before .before .before .before .before .before .before .before .before .before .before .before .before .before .before .before .before) .args .t .demand) ((c .before .before .before .before .before .before .before .before .before .before .before .before .before .before .before .before .before) .args .next .now) ((c .before .before .before .before .before .before .before .before .before .before .before .before .before .fill-maps) .last .0) ((c .before .before .before .before .before .before .before .before .before .before .before .before .before .fill-maps) .last .1 .0) ((c .before .before .before .before .before .before .before .before .before .numbers-of) .result) ((c .before .before .before .before .before .before .before .before .tried-of) .result) ((c .before .before .before .before .before .before .before .side-of) .result) ((c .before .before .before .before .before .before .before .before .before .before .before .before .before .before .before .before .before) .args .here) (record { ok = ((c .before .before .before .before .before .before .before .before .before .before .before .before .before .before .before .before .before) .pre .0 .sound .admitted); more = (c .before .before .before .before .before .before .before .before .before .before .before .before .before .before .before .before .before) .pre .0 .aisle .1; numbers = ((c .before .before .before .before .before .before .before .before .before .numbers-of) .ensures ∙ ap (aisleOf (jobOf ((c .before .before .before .before .before .before .before .before .before .before .before .before .before .before .before .before .before) .args .job))) (add-one ((c .before .before .before .before .before .before .before .before .before .before .before .before .before .before .before .before .before) .args .n))); passages = ((c .before .before .before .before .before .before .before .before .tried-of) .ensures .0 ∙ ap (λ k. triedAt ((c .before .before .before .before .before .before .before .before .before .before .before .before .before .before .before .before .before) .args .job .layout .aisles - k)) (add-one ((c .before .before .before .before .before .before .before .before .before .before .before .before .before .before .before .before .before) .args .n))); place = ((c .before .before .before .before .before .before .before .side-of) .ensures ∙ ap (sideOf ((c .before .before .before .before .before .before .before .before .before .before .before .before .before .before .before .before .before) .args .job .layout .depot)) (add-one ((c .before .before .before .before .before .before .before .before .before .before .before .before .before .before .before .before .before) .args .n))); table = (c .before .before .before .before .before .before .before .before .before .before .before .before .before .before .before .before .before) .pre .4; rows = (c .before .before .before .before .before .before .before .before .before .before .before .before .before .before .before .before .before) .pre .3; maps = (subst (λ k. MapsReady (jobOf ((c .before .before .before .before .before .before .before .before .before .before .before .before .before .before .before .before .before) .args .job)) k ((c .before .before .before .before .before .before .before .before .before .before .before .before .before .fill-maps) .last .0) ((c .before .before .before .before .before .before .before .before .before .before .before .before .before .fill-maps) .last .1 .0)) (add-one ((c .before .before .before .before .before .before .before .before .before .before .before .before .before .before .before .before .before) .args .n)) ((c .before .before .before .before .before .before .before .before .before .before .before .before .before .fill-maps) .ensures .0)) }) ((c .before .before .before .before .before .before .before .before .before .before .before .before .before .before .before .before .before) .args .t .stages) ((c .before .before .before .before .before .before .before .before .before .before .before .before .before .before .before .before .before) .pre .2) ((c .before .before .before .before .choose-action) .result) ((c .before .before .before .before .choose-action) .ensures))))) .front-within)) (subst (λ (y : Aisle). ((c .before .before .before .before .before .before .before .before .before .before .before .before .before .before .before .before .before) .args .t .demand) < y .weight) (sym ((c .before .before .before .before .before .before .before .before .before .numbers-of) .ensures ∙ ap (aisleOf (jobOf ((c .before .before .before .before .before .before .before .before .before .before .before .before .before .before .before .before .before) .args .job))) (add-one ((c .before .before .before .before .before .before .before .before .before .before .before .before .before .before .before .before .before) .args .n)))) (((c .before .before .before .before .before .before .before .before .before .before .before .before .before .before .before .before .before) .pre .2) .demand-below)))))
-
-best-after-requires : tie.Need-best-after-requires
-unfolding jobOf aisleOf leastAfter leftCode
-best-after-requires c κs = let w = within ((c .before .before .before .before .before .before .before .before .before .before .before .before .before .before .before .before .before .before) .args .job .layout) (((c .before .before .before .before .before .before .before .before .before .before .before .before .before .before .before .before .before .before) .pre .0 .sound .admitted) .layout) in let b = ((subst (λ y. AisleReady y ((c .before .before .before .before .before .before .before .before .before .before .before .before .before .before .fill-maps) .last .0) ((c .before .before .before .before .before .before .before .before .before .before .before .before .before .before .fill-maps) .last .1 .0)) (sym ((c .before .before .before .before .before .before .before .before .before .before .numbers-of) .ensures ∙ ap (aisleOf (jobOf ((c .before .before .before .before .before .before .before .before .before .before .before .before .before .before .before .before .before .before) .args .job))) (add-one ((c .before .before .before .before .before .before .before .before .before .before .before .before .before .before .before .before .before .before) .args .n)))) (aisle-ready (jobOf ((c .before .before .before .before .before .before .before .before .before .before .before .before .before .before .before .before .before .before) .args .job)) ((c .before .before .before .before .before .before .before .before .before .before .before .before .before .before .before .before .before .before) .pre .0 .sound .admitted) (suc ((c .before .before .before .before .before .before .before .before .before .before .before .before .before .before .before .before .before .before) .args .n)) ((c .before .before .before .before .before .before .before .before .before .before .before .before .before .before .fill-maps) .last .0) ((c .before .before .before .before .before .before .before .before .before .before .before .before .before .before .fill-maps) .last .1 .0) (subst (λ k. MapsReady (jobOf ((c .before .before .before .before .before .before .before .before .before .before .before .before .before .before .before .before .before .before) .args .job)) k ((c .before .before .before .before .before .before .before .before .before .before .before .before .before .before .fill-maps) .last .0) ((c .before .before .before .before .before .before .before .before .before .before .before .before .before .before .fill-maps) .last .1 .0)) (add-one ((c .before .before .before .before .before .before .before .before .before .before .before .before .before .before .before .before .before .before) .args .n)) ((c .before .before .before .before .before .before .before .before .before .before .before .before .before .before .fill-maps) .ensures .0)) (omega (arith, (c .before .before .before .before .before .before .before .before .before .before .before .before .before .before .fill-maps) .ensures .1)) (omega (arith, (c .before .before .before .before .before .before .before .before .before .before .before .before .before .before .fill-maps) .ensures .2)))) .back-below (((c .before .before .before .before .action-at) .result) .back) (getD ((c .before .before .before .before .before .before .before .before .before .before .before .before .before .before .fill-maps) .last .0) (((c .before .before .before .before .action-at) .result) .front * 256 + ((c .before .before .before .before .before .before .before .before .before .before .before .before .before .before .before .before .before .before) .args .t .demand)) 0) ((subst (λ (y : Candidate). Parts ((c .before .before .before .before .before .before .before .before .before .before .before .before .before .before .before .before .before .before) .args .job .layout .cells) (y .kind) (y .front) (y .back)) (sym ((c .before .before .before .before .action-at) .ensures)) (candidate-parts ((c .before .before .before .before .before .before .before .before .before .before .before .before .before .before .before .before .before .before) .args .job .layout .cells) (getD (actionsOf ((c .before .before .before .before .before .before .before .before .before .before .before .before .before .before .before .before .before .before) .args .job .layout .cells)) ((c .before .before .before .before .before .choose-action) .result) Void) (ranked-fits ((c .before .before .before .before .before .before .before .before .before .before .before .before .before .before .before .before .before .before) .args .job .layout .cells) ((c .before .before .before .before .before .choose-action) .result) (rank-in (jobOf ((c .before .before .before .before .before .before .before .before .before .before .before .before .before .before .before .before .before .before) .args .job)) ((c .before .before .before .before .before .before .before .before .before .before .before .before .before .before .before .before .before .before) .args .n) ((c .before .before .before .before .before .before .before .before .before .before .before .before .before .before .before .before .before .before) .args .t .state) ((c .before .before .before .before .before .before .before .before .before .before .before .before .before .before .before .before .before .before) .args .t .demand) ((c .before .before .before .before .before .before .before .before .before .before .before .before .before .before .before .before .before .before) .args .next .now) ((c .before .before .before .before .before .before .before .before .before .before .before .before .before .before .fill-maps) .last .0) ((c .before .before .before .before .before .before .before .before .before .before .before .before .before .before .fill-maps) .last .1 .0) ((c .before .before .before .before .before .before .before .before .before .before .numbers-of) .result) ((c .before .before .before .before .before .before .before .before .before .tried-of) .result) ((c .before .before .before .before .before .before .before .before .side-of) .result) ((c .before .before .before .before .before .before .before .before .before .before .before .before .before .before .before .before .before .before) .args .here) (record { ok = ((c .before .before .before .before .before .before .before .before .before .before .before .before .before .before .before .before .before .before) .pre .0 .sound .admitted); more = (c .before .before .before .before .before .before .before .before .before .before .before .before .before .before .before .before .before .before) .pre .0 .aisle .1; numbers = ((c .before .before .before .before .before .before .before .before .before .before .numbers-of) .ensures ∙ ap (aisleOf (jobOf ((c .before .before .before .before .before .before .before .before .before .before .before .before .before .before .before .before .before .before) .args .job))) (add-one ((c .before .before .before .before .before .before .before .before .before .before .before .before .before .before .before .before .before .before) .args .n))); passages = ((c .before .before .before .before .before .before .before .before .before .tried-of) .ensures .0 ∙ ap (λ k. triedAt ((c .before .before .before .before .before .before .before .before .before .before .before .before .before .before .before .before .before .before) .args .job .layout .aisles - k)) (add-one ((c .before .before .before .before .before .before .before .before .before .before .before .before .before .before .before .before .before .before) .args .n))); place = ((c .before .before .before .before .before .before .before .before .side-of) .ensures ∙ ap (sideOf ((c .before .before .before .before .before .before .before .before .before .before .before .before .before .before .before .before .before .before) .args .job .layout .depot)) (add-one ((c .before .before .before .before .before .before .before .before .before .before .before .before .before .before .before .before .before .before) .args .n))); table = (c .before .before .before .before .before .before .before .before .before .before .before .before .before .before .before .before .before .before) .pre .4; rows = (c .before .before .before .before .before .before .before .before .before .before .before .before .before .before .before .before .before .before) .pre .3; maps = (subst (λ k. MapsReady (jobOf ((c .before .before .before .before .before .before .before .before .before .before .before .before .before .before .before .before .before .before) .args .job)) k ((c .before .before .before .before .before .before .before .before .before .before .before .before .before .before .fill-maps) .last .0) ((c .before .before .before .before .before .before .before .before .before .before .before .before .before .before .fill-maps) .last .1 .0)) (add-one ((c .before .before .before .before .before .before .before .before .before .before .before .before .before .before .before .before .before .before) .args .n)) ((c .before .before .before .before .before .before .before .before .before .before .before .before .before .before .fill-maps) .ensures .0)) }) ((c .before .before .before .before .before .before .before .before .before .before .before .before .before .before .before .before .before .before) .args .t .stages) ((c .before .before .before .before .before .before .before .before .before .before .before .before .before .before .before .before .before .before) .pre .2) ((c .before .before .before .before .before .choose-action) .result) ((c .before .before .before .before .before .choose-action) .ensures))))) .back-low) (subst (λ (y : Aisle). ((c .before .before .before .before .action-at) .result) .back ≤ suc (y .layout .cells)) (sym ((c .before .before .before .before .before .before .before .before .before .before .numbers-of) .ensures ∙ ap (aisleOf (jobOf ((c .before .before .before .before .before .before .before .before .before .before .before .before .before .before .before .before .before .before) .args .job))) (add-one ((c .before .before .before .before .before .before .before .before .before .before .before .before .before .before .before .before .before .before) .args .n)))) ((subst (λ (y : Candidate). Parts ((c .before .before .before .before .before .before .before .before .before .before .before .before .before .before .before .before .before .before) .args .job .layout .cells) (y .kind) (y .front) (y .back)) (sym ((c .before .before .before .before .action-at) .ensures)) (candidate-parts ((c .before .before .before .before .before .before .before .before .before .before .before .before .before .before .before .before .before .before) .args .job .layout .cells) (getD (actionsOf ((c .before .before .before .before .before .before .before .before .before .before .before .before .before .before .before .before .before .before) .args .job .layout .cells)) ((c .before .before .before .before .before .choose-action) .result) Void) (ranked-fits ((c .before .before .before .before .before .before .before .before .before .before .before .before .before .before .before .before .before .before) .args .job .layout .cells) ((c .before .before .before .before .before .choose-action) .result) (rank-in (jobOf ((c .before .before .before .before .before .before .before .before .before .before .before .before .before .before .before .before .before .before) .args .job)) ((c .before .before .before .before .before .before .before .before .before .before .before .before .before .before .before .before .before .before) .args .n) ((c .before .before .before .before .before .before .before .before .before .before .before .before .before .before .before .before .before .before) .args .t .state) ((c .before .before .before .before .before .before .before .before .before .before .before .before .before .before .before .before .before .before) .args .t .demand) ((c .before .before .before .before .before .before .before .before .before .before .before .before .before .before .before .before .before .before) .args .next .now) ((c .before .before .before .before .before .before .before .before .before .before .before .before .before .before .fill-maps) .last .0) ((c .before .before .before .before .before .before .before .before .before .before .before .before .before .before .fill-maps) .last .1 .0) ((c .before .before .before .before .before .before .before .before .before .before .numbers-of) .result) ((c .before .before .before .before .before .before .before .before .before .tried-of) .result) ((c .before .before .before .before .before .before .before .before .side-of) .result) ((c .before .before .before .before .before .before .before .before .before .before .before .before .before .before .before .before .before .before) .args .here) (record { ok = ((c .before .before .before .before .before .before .before .before .before .before .before .before .before .before .before .before .before .before) .pre .0 .sound .admitted); more = (c .before .before .before .before .before .before .before .before .before .before .before .before .before .before .before .before .before .before) .pre .0 .aisle .1; numbers = ((c .before .before .before .before .before .before .before .before .before .before .numbers-of) .ensures ∙ ap (aisleOf (jobOf ((c .before .before .before .before .before .before .before .before .before .before .before .before .before .before .before .before .before .before) .args .job))) (add-one ((c .before .before .before .before .before .before .before .before .before .before .before .before .before .before .before .before .before .before) .args .n))); passages = ((c .before .before .before .before .before .before .before .before .before .tried-of) .ensures .0 ∙ ap (λ k. triedAt ((c .before .before .before .before .before .before .before .before .before .before .before .before .before .before .before .before .before .before) .args .job .layout .aisles - k)) (add-one ((c .before .before .before .before .before .before .before .before .before .before .before .before .before .before .before .before .before .before) .args .n))); place = ((c .before .before .before .before .before .before .before .before .side-of) .ensures ∙ ap (sideOf ((c .before .before .before .before .before .before .before .before .before .before .before .before .before .before .before .before .before .before) .args .job .layout .depot)) (add-one ((c .before .before .before .before .before .before .before .before .before .before .before .before .before .before .before .before .before .before) .args .n))); table = (c .before .before .before .before .before .before .before .before .before .before .before .before .before .before .before .before .before .before) .pre .4; rows = (c .before .before .before .before .before .before .before .before .before .before .before .before .before .before .before .before .before .before) .pre .3; maps = (subst (λ k. MapsReady (jobOf ((c .before .before .before .before .before .before .before .before .before .before .before .before .before .before .before .before .before .before) .args .job)) k ((c .before .before .before .before .before .before .before .before .before .before .before .before .before .before .fill-maps) .last .0) ((c .before .before .before .before .before .before .before .before .before .before .before .before .before .before .fill-maps) .last .1 .0)) (add-one ((c .before .before .before .before .before .before .before .before .before .before .before .before .before .before .before .before .before .before) .args .n)) ((c .before .before .before .before .before .before .before .before .before .before .before .before .before .before .fill-maps) .ensures .0)) }) ((c .before .before .before .before .before .before .before .before .before .before .before .before .before .before .before .before .before .before) .args .t .stages) ((c .before .before .before .before .before .before .before .before .before .before .before .before .before .before .before .before .before .before) .pre .2) ((c .before .before .before .before .before .choose-action) .result) ((c .before .before .before .before .before .choose-action) .ensures))))) .back-high)) ((subst (λ y. AisleReady y ((c .before .before .before .before .before .before .before .before .before .before .before .before .before .before .fill-maps) .last .0) ((c .before .before .before .before .before .before .before .before .before .before .before .before .before .before .fill-maps) .last .1 .0)) (sym ((c .before .before .before .before .before .before .before .before .before .before .numbers-of) .ensures ∙ ap (aisleOf (jobOf ((c .before .before .before .before .before .before .before .before .before .before .before .before .before .before .before .before .before .before) .args .job))) (add-one ((c .before .before .before .before .before .before .before .before .before .before .before .before .before .before .before .before .before .before) .args .n)))) (aisle-ready (jobOf ((c .before .before .before .before .before .before .before .before .before .before .before .before .before .before .before .before .before .before) .args .job)) ((c .before .before .before .before .before .before .before .before .before .before .before .before .before .before .before .before .before .before) .pre .0 .sound .admitted) (suc ((c .before .before .before .before .before .before .before .before .before .before .before .before .before .before .before .before .before .before) .args .n)) ((c .before .before .before .before .before .before .before .before .before .before .before .before .before .before .fill-maps) .last .0) ((c .before .before .before .before .before .before .before .before .before .before .before .before .before .before .fill-maps) .last .1 .0) (subst (λ k. MapsReady (jobOf ((c .before .before .before .before .before .before .before .before .before .before .before .before .before .before .before .before .before .before) .args .job)) k ((c .before .before .before .before .before .before .before .before .before .before .before .before .before .before .fill-maps) .last .0) ((c .before .before .before .before .before .before .before .before .before .before .before .before .before .before .fill-maps) .last .1 .0)) (add-one ((c .before .before .before .before .before .before .before .before .before .before .before .before .before .before .before .before .before .before) .args .n)) ((c .before .before .before .before .before .before .before .before .before .before .before .before .before .before .fill-maps) .ensures .0)) (omega (arith, (c .before .before .before .before .before .before .before .before .before .before .before .before .before .before .fill-maps) .ensures .1)) (omega (arith, (c .before .before .before .before .before .before .before .before .before .before .before .before .before .before .fill-maps) .ensures .2)))) .front-below (((c .before .before .before .before .action-at) .result) .front) ((c .before .before .before .before .before .before .before .before .before .before .before .before .before .before .before .before .before .before) .args .t .demand) (subst (λ (y : Aisle). ((c .before .before .before .before .action-at) .result) .front ≤ y .layout .cells) (sym ((c .before .before .before .before .before .before .before .before .before .before .numbers-of) .ensures ∙ ap (aisleOf (jobOf ((c .before .before .before .before .before .before .before .before .before .before .before .before .before .before .before .before .before .before) .args .job))) (add-one ((c .before .before .before .before .before .before .before .before .before .before .before .before .before .before .before .before .before .before) .args .n)))) ((subst (λ (y : Candidate). Parts ((c .before .before .before .before .before .before .before .before .before .before .before .before .before .before .before .before .before .before) .args .job .layout .cells) (y .kind) (y .front) (y .back)) (sym ((c .before .before .before .before .action-at) .ensures)) (candidate-parts ((c .before .before .before .before .before .before .before .before .before .before .before .before .before .before .before .before .before .before) .args .job .layout .cells) (getD (actionsOf ((c .before .before .before .before .before .before .before .before .before .before .before .before .before .before .before .before .before .before) .args .job .layout .cells)) ((c .before .before .before .before .before .choose-action) .result) Void) (ranked-fits ((c .before .before .before .before .before .before .before .before .before .before .before .before .before .before .before .before .before .before) .args .job .layout .cells) ((c .before .before .before .before .before .choose-action) .result) (rank-in (jobOf ((c .before .before .before .before .before .before .before .before .before .before .before .before .before .before .before .before .before .before) .args .job)) ((c .before .before .before .before .before .before .before .before .before .before .before .before .before .before .before .before .before .before) .args .n) ((c .before .before .before .before .before .before .before .before .before .before .before .before .before .before .before .before .before .before) .args .t .state) ((c .before .before .before .before .before .before .before .before .before .before .before .before .before .before .before .before .before .before) .args .t .demand) ((c .before .before .before .before .before .before .before .before .before .before .before .before .before .before .before .before .before .before) .args .next .now) ((c .before .before .before .before .before .before .before .before .before .before .before .before .before .before .fill-maps) .last .0) ((c .before .before .before .before .before .before .before .before .before .before .before .before .before .before .fill-maps) .last .1 .0) ((c .before .before .before .before .before .before .before .before .before .before .numbers-of) .result) ((c .before .before .before .before .before .before .before .before .before .tried-of) .result) ((c .before .before .before .before .before .before .before .before .side-of) .result) ((c .before .before .before .before .before .before .before .before .before .before .before .before .before .before .before .before .before .before) .args .here) (record { ok = ((c .before .before .before .before .before .before .before .before .before .before .before .before .before .before .before .before .before .before) .pre .0 .sound .admitted); more = (c .before .before .before .before .before .before .before .before .before .before .before .before .before .before .before .before .before .before) .pre .0 .aisle .1; numbers = ((c .before .before .before .before .before .before .before .before .before .before .numbers-of) .ensures ∙ ap (aisleOf (jobOf ((c .before .before .before .before .before .before .before .before .before .before .before .before .before .before .before .before .before .before) .args .job))) (add-one ((c .before .before .before .before .before .before .before .before .before .before .before .before .before .before .before .before .before .before) .args .n))); passages = ((c .before .before .before .before .before .before .before .before .before .tried-of) .ensures .0 ∙ ap (λ k. triedAt ((c .before .before .before .before .before .before .before .before .before .before .before .before .before .before .before .before .before .before) .args .job .layout .aisles - k)) (add-one ((c .before .before .before .before .before .before .before .before .before .before .before .before .before .before .before .before .before .before) .args .n))); place = ((c .before .before .before .before .before .before .before .before .side-of) .ensures ∙ ap (sideOf ((c .before .before .before .before .before .before .before .before .before .before .before .before .before .before .before .before .before .before) .args .job .layout .depot)) (add-one ((c .before .before .before .before .before .before .before .before .before .before .before .before .before .before .before .before .before .before) .args .n))); table = (c .before .before .before .before .before .before .before .before .before .before .before .before .before .before .before .before .before .before) .pre .4; rows = (c .before .before .before .before .before .before .before .before .before .before .before .before .before .before .before .before .before .before) .pre .3; maps = (subst (λ k. MapsReady (jobOf ((c .before .before .before .before .before .before .before .before .before .before .before .before .before .before .before .before .before .before) .args .job)) k ((c .before .before .before .before .before .before .before .before .before .before .before .before .before .before .fill-maps) .last .0) ((c .before .before .before .before .before .before .before .before .before .before .before .before .before .before .fill-maps) .last .1 .0)) (add-one ((c .before .before .before .before .before .before .before .before .before .before .before .before .before .before .before .before .before .before) .args .n)) ((c .before .before .before .before .before .before .before .before .before .before .before .before .before .before .fill-maps) .ensures .0)) }) ((c .before .before .before .before .before .before .before .before .before .before .before .before .before .before .before .before .before .before) .args .t .stages) ((c .before .before .before .before .before .before .before .before .before .before .before .before .before .before .before .before .before .before) .pre .2) ((c .before .before .before .before .before .choose-action) .result) ((c .before .before .before .before .before .choose-action) .ensures))))) .front-within)) (subst (λ (y : Aisle). ((c .before .before .before .before .before .before .before .before .before .before .before .before .before .before .before .before .before .before) .args .t .demand) < y .weight) (sym ((c .before .before .before .before .before .before .before .before .before .before .numbers-of) .ensures ∙ ap (aisleOf (jobOf ((c .before .before .before .before .before .before .before .before .before .before .before .before .before .before .before .before .before .before) .args .job))) (add-one ((c .before .before .before .before .before .before .before .before .before .before .before .before .before .before .before .before .before .before) .args .n)))) (((c .before .before .before .before .before .before .before .before .before .before .before .before .before .before .before .before .before .before) .pre .2) .demand-below)))) in let e = (c .left-of) .ensures in let u = (subst (λ y. AisleReady y ((c .before .before .before .before .before .before .before .before .before .before .before .before .before .before .fill-maps) .last .0) ((c .before .before .before .before .before .before .before .before .before .before .before .before .before .before .fill-maps) .last .1 .0)) (sym ((c .before .before .before .before .before .before .before .before .before .before .numbers-of) .ensures ∙ ap (aisleOf (jobOf ((c .before .before .before .before .before .before .before .before .before .before .before .before .before .before .before .before .before .before) .args .job))) (add-one ((c .before .before .before .before .before .before .before .before .before .before .before .before .before .before .before .before .before .before) .args .n)))) (aisle-ready (jobOf ((c .before .before .before .before .before .before .before .before .before .before .before .before .before .before .before .before .before .before) .args .job)) ((c .before .before .before .before .before .before .before .before .before .before .before .before .before .before .before .before .before .before) .pre .0 .sound .admitted) (suc ((c .before .before .before .before .before .before .before .before .before .before .before .before .before .before .before .before .before .before) .args .n)) ((c .before .before .before .before .before .before .before .before .before .before .before .before .before .before .fill-maps) .last .0) ((c .before .before .before .before .before .before .before .before .before .before .before .before .before .before .fill-maps) .last .1 .0) (subst (λ k. MapsReady (jobOf ((c .before .before .before .before .before .before .before .before .before .before .before .before .before .before .before .before .before .before) .args .job)) k ((c .before .before .before .before .before .before .before .before .before .before .before .before .before .before .fill-maps) .last .0) ((c .before .before .before .before .before .before .before .before .before .before .before .before .before .before .fill-maps) .last .1 .0)) (add-one ((c .before .before .before .before .before .before .before .before .before .before .before .before .before .before .before .before .before .before) .args .n)) ((c .before .before .before .before .before .before .before .before .before .before .before .before .before .before .fill-maps) .ensures .0)) (omega (arith, (c .before .before .before .before .before .before .before .before .before .before .before .before .before .before .fill-maps) .ensures .1)) (omega (arith, (c .before .before .before .before .before .before .before .before .before .before .before .before .before .before .fill-maps) .ensures .2)))) .small in (record { long = omega (arith, (c .before .before .before .before .before .before .before .before .before .before .before .before .before .before .before .before .before .before) .pre .1); demand = omega arith; policy-below = (subst (λ y. AisleReady y ((c .before .before .before .before .before .before .before .before .before .before .before .before .before .before .fill-maps) .last .0) ((c .before .before .before .before .before .before .before .before .before .before .before .before .before .before .fill-maps) .last .1 .0)) (sym ((c .before .before .before .before .before .before .before .before .before .before .numbers-of) .ensures ∙ ap (aisleOf (jobOf ((c .before .before .before .before .before .before .before .before .before .before .before .before .before .before .before .before .before .before) .args .job))) (add-one ((c .before .before .before .before .before .before .before .before .before .before .before .before .before .before .before .before .before .before) .args .n)))) (aisle-ready (jobOf ((c .before .before .before .before .before .before .before .before .before .before .before .before .before .before .before .before .before .before) .args .job)) ((c .before .before .before .before .before .before .before .before .before .before .before .before .before .before .before .before .before .before) .pre .0 .sound .admitted) (suc ((c .before .before .before .before .before .before .before .before .before .before .before .before .before .before .before .before .before .before) .args .n)) ((c .before .before .before .before .before .before .before .before .before .before .before .before .before .before .fill-maps) .last .0) ((c .before .before .before .before .before .before .before .before .before .before .before .before .before .before .fill-maps) .last .1 .0) (subst (λ k. MapsReady (jobOf ((c .before .before .before .before .before .before .before .before .before .before .before .before .before .before .before .before .before .before) .args .job)) k ((c .before .before .before .before .before .before .before .before .before .before .before .before .before .before .fill-maps) .last .0) ((c .before .before .before .before .before .before .before .before .before .before .before .before .before .before .fill-maps) .last .1 .0)) (add-one ((c .before .before .before .before .before .before .before .before .before .before .before .before .before .before .before .before .before .before) .args .n)) ((c .before .before .before .before .before .before .before .before .before .before .before .before .before .before .fill-maps) .ensures .0)) (omega (arith, (c .before .before .before .before .before .before .before .before .before .before .before .before .before .before .fill-maps) .ensures .1)) (omega (arith, (c .before .before .before .before .before .before .before .before .before .before .before .before .before .before .fill-maps) .ensures .2)))) .policy-below; side-below = (subst (λ m. m < 3) (sym ((c .before .before .before .before .before .before .before .before .side-of) .ensures)) (side-below ((c .before .before .before .before .before .before .before .before .before .before .before .before .before .before .before .before .before .before) .args .job .layout .depot) (((c .before .before .before .before .before .before .before .before .before .before .before .before .before .before .before .before .before .before) .args .n) + 1))); state-below = omega (arith, (c .before .before .before .step-of) .ensures .1); width-fits = omega arith }, (c .before .before .before .before .before .before .before .before .before .tried-of) .ensures .1)
-
-choose-passage-requires : tie.Need-choose-passage-requires
-unfolding jobOf aisleOf leastAfter leftCode
-choose-passage-requires c κs = let w = within ((c .before .before .before .before .before .before .before .before .before .before .before .before .before .before .before .before .before .before .before) .args .job .layout) (((c .before .before .before .before .before .before .before .before .before .before .before .before .before .before .before .before .before .before .before) .pre .0 .sound .admitted) .layout) in let b = ((subst (λ y. AisleReady y ((c .before .before .before .before .before .before .before .before .before .before .before .before .before .before .before .fill-maps) .last .0) ((c .before .before .before .before .before .before .before .before .before .before .before .before .before .before .before .fill-maps) .last .1 .0)) (sym ((c .before .before .before .before .before .before .before .before .before .before .before .numbers-of) .ensures ∙ ap (aisleOf (jobOf ((c .before .before .before .before .before .before .before .before .before .before .before .before .before .before .before .before .before .before .before) .args .job))) (add-one ((c .before .before .before .before .before .before .before .before .before .before .before .before .before .before .before .before .before .before .before) .args .n)))) (aisle-ready (jobOf ((c .before .before .before .before .before .before .before .before .before .before .before .before .before .before .before .before .before .before .before) .args .job)) ((c .before .before .before .before .before .before .before .before .before .before .before .before .before .before .before .before .before .before .before) .pre .0 .sound .admitted) (suc ((c .before .before .before .before .before .before .before .before .before .before .before .before .before .before .before .before .before .before .before) .args .n)) ((c .before .before .before .before .before .before .before .before .before .before .before .before .before .before .before .fill-maps) .last .0) ((c .before .before .before .before .before .before .before .before .before .before .before .before .before .before .before .fill-maps) .last .1 .0) (subst (λ k. MapsReady (jobOf ((c .before .before .before .before .before .before .before .before .before .before .before .before .before .before .before .before .before .before .before) .args .job)) k ((c .before .before .before .before .before .before .before .before .before .before .before .before .before .before .before .fill-maps) .last .0) ((c .before .before .before .before .before .before .before .before .before .before .before .before .before .before .before .fill-maps) .last .1 .0)) (add-one ((c .before .before .before .before .before .before .before .before .before .before .before .before .before .before .before .before .before .before .before) .args .n)) ((c .before .before .before .before .before .before .before .before .before .before .before .before .before .before .before .fill-maps) .ensures .0)) (omega (arith, (c .before .before .before .before .before .before .before .before .before .before .before .before .before .before .before .fill-maps) .ensures .1)) (omega (arith, (c .before .before .before .before .before .before .before .before .before .before .before .before .before .before .before .fill-maps) .ensures .2)))) .back-below (((c .before .before .before .before .before .action-at) .result) .back) (getD ((c .before .before .before .before .before .before .before .before .before .before .before .before .before .before .before .fill-maps) .last .0) (((c .before .before .before .before .before .action-at) .result) .front * 256 + ((c .before .before .before .before .before .before .before .before .before .before .before .before .before .before .before .before .before .before .before) .args .t .demand)) 0) ((subst (λ (y : Candidate). Parts ((c .before .before .before .before .before .before .before .before .before .before .before .before .before .before .before .before .before .before .before) .args .job .layout .cells) (y .kind) (y .front) (y .back)) (sym ((c .before .before .before .before .before .action-at) .ensures)) (candidate-parts ((c .before .before .before .before .before .before .before .before .before .before .before .before .before .before .before .before .before .before .before) .args .job .layout .cells) (getD (actionsOf ((c .before .before .before .before .before .before .before .before .before .before .before .before .before .before .before .before .before .before .before) .args .job .layout .cells)) ((c .before .before .before .before .before .before .choose-action) .result) Void) (ranked-fits ((c .before .before .before .before .before .before .before .before .before .before .before .before .before .before .before .before .before .before .before) .args .job .layout .cells) ((c .before .before .before .before .before .before .choose-action) .result) (rank-in (jobOf ((c .before .before .before .before .before .before .before .before .before .before .before .before .before .before .before .before .before .before .before) .args .job)) ((c .before .before .before .before .before .before .before .before .before .before .before .before .before .before .before .before .before .before .before) .args .n) ((c .before .before .before .before .before .before .before .before .before .before .before .before .before .before .before .before .before .before .before) .args .t .state) ((c .before .before .before .before .before .before .before .before .before .before .before .before .before .before .before .before .before .before .before) .args .t .demand) ((c .before .before .before .before .before .before .before .before .before .before .before .before .before .before .before .before .before .before .before) .args .next .now) ((c .before .before .before .before .before .before .before .before .before .before .before .before .before .before .before .fill-maps) .last .0) ((c .before .before .before .before .before .before .before .before .before .before .before .before .before .before .before .fill-maps) .last .1 .0) ((c .before .before .before .before .before .before .before .before .before .before .before .numbers-of) .result) ((c .before .before .before .before .before .before .before .before .before .before .tried-of) .result) ((c .before .before .before .before .before .before .before .before .before .side-of) .result) ((c .before .before .before .before .before .before .before .before .before .before .before .before .before .before .before .before .before .before .before) .args .here) (record { ok = ((c .before .before .before .before .before .before .before .before .before .before .before .before .before .before .before .before .before .before .before) .pre .0 .sound .admitted); more = (c .before .before .before .before .before .before .before .before .before .before .before .before .before .before .before .before .before .before .before) .pre .0 .aisle .1; numbers = ((c .before .before .before .before .before .before .before .before .before .before .before .numbers-of) .ensures ∙ ap (aisleOf (jobOf ((c .before .before .before .before .before .before .before .before .before .before .before .before .before .before .before .before .before .before .before) .args .job))) (add-one ((c .before .before .before .before .before .before .before .before .before .before .before .before .before .before .before .before .before .before .before) .args .n))); passages = ((c .before .before .before .before .before .before .before .before .before .before .tried-of) .ensures .0 ∙ ap (λ k. triedAt ((c .before .before .before .before .before .before .before .before .before .before .before .before .before .before .before .before .before .before .before) .args .job .layout .aisles - k)) (add-one ((c .before .before .before .before .before .before .before .before .before .before .before .before .before .before .before .before .before .before .before) .args .n))); place = ((c .before .before .before .before .before .before .before .before .before .side-of) .ensures ∙ ap (sideOf ((c .before .before .before .before .before .before .before .before .before .before .before .before .before .before .before .before .before .before .before) .args .job .layout .depot)) (add-one ((c .before .before .before .before .before .before .before .before .before .before .before .before .before .before .before .before .before .before .before) .args .n))); table = (c .before .before .before .before .before .before .before .before .before .before .before .before .before .before .before .before .before .before .before) .pre .4; rows = (c .before .before .before .before .before .before .before .before .before .before .before .before .before .before .before .before .before .before .before) .pre .3; maps = (subst (λ k. MapsReady (jobOf ((c .before .before .before .before .before .before .before .before .before .before .before .before .before .before .before .before .before .before .before) .args .job)) k ((c .before .before .before .before .before .before .before .before .before .before .before .before .before .before .before .fill-maps) .last .0) ((c .before .before .before .before .before .before .before .before .before .before .before .before .before .before .before .fill-maps) .last .1 .0)) (add-one ((c .before .before .before .before .before .before .before .before .before .before .before .before .before .before .before .before .before .before .before) .args .n)) ((c .before .before .before .before .before .before .before .before .before .before .before .before .before .before .before .fill-maps) .ensures .0)) }) ((c .before .before .before .before .before .before .before .before .before .before .before .before .before .before .before .before .before .before .before) .args .t .stages) ((c .before .before .before .before .before .before .before .before .before .before .before .before .before .before .before .before .before .before .before) .pre .2) ((c .before .before .before .before .before .before .choose-action) .result) ((c .before .before .before .before .before .before .choose-action) .ensures))))) .back-low) (subst (λ (y : Aisle). ((c .before .before .before .before .before .action-at) .result) .back ≤ suc (y .layout .cells)) (sym ((c .before .before .before .before .before .before .before .before .before .before .before .numbers-of) .ensures ∙ ap (aisleOf (jobOf ((c .before .before .before .before .before .before .before .before .before .before .before .before .before .before .before .before .before .before .before) .args .job))) (add-one ((c .before .before .before .before .before .before .before .before .before .before .before .before .before .before .before .before .before .before .before) .args .n)))) ((subst (λ (y : Candidate). Parts ((c .before .before .before .before .before .before .before .before .before .before .before .before .before .before .before .before .before .before .before) .args .job .layout .cells) (y .kind) (y .front) (y .back)) (sym ((c .before .before .before .before .before .action-at) .ensures)) (candidate-parts ((c .before .before .before .before .before .before .before .before .before .before .before .before .before .before .before .before .before .before .before) .args .job .layout .cells) (getD (actionsOf ((c .before .before .before .before .before .before .before .before .before .before .before .before .before .before .before .before .before .before .before) .args .job .layout .cells)) ((c .before .before .before .before .before .before .choose-action) .result) Void) (ranked-fits ((c .before .before .before .before .before .before .before .before .before .before .before .before .before .before .before .before .before .before .before) .args .job .layout .cells) ((c .before .before .before .before .before .before .choose-action) .result) (rank-in (jobOf ((c .before .before .before .before .before .before .before .before .before .before .before .before .before .before .before .before .before .before .before) .args .job)) ((c .before .before .before .before .before .before .before .before .before .before .before .before .before .before .before .before .before .before .before) .args .n) ((c .before .before .before .before .before .before .before .before .before .before .before .before .before .before .before .before .before .before .before) .args .t .state) ((c .before .before .before .before .before .before .before .before .before .before .before .before .before .before .before .before .before .before .before) .args .t .demand) ((c .before .before .before .before .before .before .before .before .before .before .before .before .before .before .before .before .before .before .before) .args .next .now) ((c .before .before .before .before .before .before .before .before .before .before .before .before .before .before .before .fill-maps) .last .0) ((c .before .before .before .before .before .before .before .before .before .before .before .before .before .before .before .fill-maps) .last .1 .0) ((c .before .before .before .before .before .before .before .before .before .before .before .numbers-of) .result) ((c .before .before .before .before .before .before .before .before .before .before .tried-of) .result) ((c .before .before .before .before .before .before .before .before .before .side-of) .result) ((c .before .before .before .before .before .before .before .before .before .before .before .before .before .before .before .before .before .before .before) .args .here) (record { ok = ((c .before .before .before .before .before .before .before .before .before .before .before .before .before .before .before .before .before .before .before) .pre .0 .sound .admitted); more = (c .before .before .before .before .before .before .before .before .before .before .before .before .before .before .before .before .before .before .before) .pre .0 .aisle .1; numbers = ((c .before .before .before .before .before .before .before .before .before .before .before .numbers-of) .ensures ∙ ap (aisleOf (jobOf ((c .before .before .before .before .before .before .before .before .before .before .before .before .before .before .before .before .before .before .before) .args .job))) (add-one ((c .before .before .before .before .before .before .before .before .before .before .before .before .before .before .before .before .before .before .before) .args .n))); passages = ((c .before .before .before .before .before .before .before .before .before .before .tried-of) .ensures .0 ∙ ap (λ k. triedAt ((c .before .before .before .before .before .before .before .before .before .before .before .before .before .before .before .before .before .before .before) .args .job .layout .aisles - k)) (add-one ((c .before .before .before .before .before .before .before .before .before .before .before .before .before .before .before .before .before .before .before) .args .n))); place = ((c .before .before .before .before .before .before .before .before .before .side-of) .ensures ∙ ap (sideOf ((c .before .before .before .before .before .before .before .before .before .before .before .before .before .before .before .before .before .before .before) .args .job .layout .depot)) (add-one ((c .before .before .before .before .before .before .before .before .before .before .before .before .before .before .before .before .before .before .before) .args .n))); table = (c .before .before .before .before .before .before .before .before .before .before .before .before .before .before .before .before .before .before .before) .pre .4; rows = (c .before .before .before .before .before .before .before .before .before .before .before .before .before .before .before .before .before .before .before) .pre .3; maps = (subst (λ k. MapsReady (jobOf ((c .before .before .before .before .before .before .before .before .before .before .before .before .before .before .before .before .before .before .before) .args .job)) k ((c .before .before .before .before .before .before .before .before .before .before .before .before .before .before .before .fill-maps) .last .0) ((c .before .before .before .before .before .before .before .before .before .before .before .before .before .before .before .fill-maps) .last .1 .0)) (add-one ((c .before .before .before .before .before .before .before .before .before .before .before .before .before .before .before .before .before .before .before) .args .n)) ((c .before .before .before .before .before .before .before .before .before .before .before .before .before .before .before .fill-maps) .ensures .0)) }) ((c .before .before .before .before .before .before .before .before .before .before .before .before .before .before .before .before .before .before .before) .args .t .stages) ((c .before .before .before .before .before .before .before .before .before .before .before .before .before .before .before .before .before .before .before) .pre .2) ((c .before .before .before .before .before .before .choose-action) .result) ((c .before .before .before .before .before .before .choose-action) .ensures))))) .back-high)) ((subst (λ y. AisleReady y ((c .before .before .before .before .before .before .before .before .before .before .before .before .before .before .before .fill-maps) .last .0) ((c .before .before .before .before .before .before .before .before .before .before .before .before .before .before .before .fill-maps) .last .1 .0)) (sym ((c .before .before .before .before .before .before .before .before .before .before .before .numbers-of) .ensures ∙ ap (aisleOf (jobOf ((c .before .before .before .before .before .before .before .before .before .before .before .before .before .before .before .before .before .before .before) .args .job))) (add-one ((c .before .before .before .before .before .before .before .before .before .before .before .before .before .before .before .before .before .before .before) .args .n)))) (aisle-ready (jobOf ((c .before .before .before .before .before .before .before .before .before .before .before .before .before .before .before .before .before .before .before) .args .job)) ((c .before .before .before .before .before .before .before .before .before .before .before .before .before .before .before .before .before .before .before) .pre .0 .sound .admitted) (suc ((c .before .before .before .before .before .before .before .before .before .before .before .before .before .before .before .before .before .before .before) .args .n)) ((c .before .before .before .before .before .before .before .before .before .before .before .before .before .before .before .fill-maps) .last .0) ((c .before .before .before .before .before .before .before .before .before .before .before .before .before .before .before .fill-maps) .last .1 .0) (subst (λ k. MapsReady (jobOf ((c .before .before .before .before .before .before .before .before .before .before .before .before .before .before .before .before .before .before .before) .args .job)) k ((c .before .before .before .before .before .before .before .before .before .before .before .before .before .before .before .fill-maps) .last .0) ((c .before .before .before .before .before .before .before .before .before .before .before .before .before .before .before .fill-maps) .last .1 .0)) (add-one ((c .before .before .before .before .before .before .before .before .before .before .before .before .before .before .before .before .before .before .before) .args .n)) ((c .before .before .before .before .before .before .before .before .before .before .before .before .before .before .before .fill-maps) .ensures .0)) (omega (arith, (c .before .before .before .before .before .before .before .before .before .before .before .before .before .before .before .fill-maps) .ensures .1)) (omega (arith, (c .before .before .before .before .before .before .before .before .before .before .before .before .before .before .before .fill-maps) .ensures .2)))) .front-below (((c .before .before .before .before .before .action-at) .result) .front) ((c .before .before .before .before .before .before .before .before .before .before .before .before .before .before .before .before .before .before .before) .args .t .demand) (subst (λ (y : Aisle). ((c .before .before .before .before .before .action-at) .result) .front ≤ y .layout .cells) (sym ((c .before .before .before .before .before .before .before .before .before .before .before .numbers-of) .ensures ∙ ap (aisleOf (jobOf ((c .before .before .before .before .before .before .before .before .before .before .before .before .before .before .before .before .before .before .before) .args .job))) (add-one ((c .before .before .before .before .before .before .before .before .before .before .before .before .before .before .before .before .before .before .before) .args .n)))) ((subst (λ (y : Candidate). Parts ((c .before .before .before .before .before .before .before .before .before .before .before .before .before .before .before .before .before .before .before) .args .job .layout .cells) (y .kind) (y .front) (y .back)) (sym ((c .before .before .before .before .before .action-at) .ensures)) (candidate-parts ((c .before .before .before .before .before .before .before .before .before .before .before .before .before .before .before .before .before .before .before) .args .job .layout .cells) (getD (actionsOf ((c .before .before .before .before .before .before .before .before .before .before .before .before .before .before .before .before .before .before .before) .args .job .layout .cells)) ((c .before .before .before .before .before .before .choose-action) .result) Void) (ranked-fits ((c .before .before .before .before .before .before .before .before .before .before .before .before .before .before .before .before .before .before .before) .args .job .layout .cells) ((c .before .before .before .before .before .before .choose-action) .result) (rank-in (jobOf ((c .before .before .before .before .before .before .before .before .before .before .before .before .before .before .before .before .before .before .before) .args .job)) ((c .before .before .before .before .before .before .before .before .before .before .before .before .before .before .before .before .before .before .before) .args .n) ((c .before .before .before .before .before .before .before .before .before .before .before .before .before .before .before .before .before .before .before) .args .t .state) ((c .before .before .before .before .before .before .before .before .before .before .before .before .before .before .before .before .before .before .before) .args .t .demand) ((c .before .before .before .before .before .before .before .before .before .before .before .before .before .before .before .before .before .before .before) .args .next .now) ((c .before .before .before .before .before .before .before .before .before .before .before .before .before .before .before .fill-maps) .last .0) ((c .before .before .before .before .before .before .before .before .before .before .before .before .before .before .before .fill-maps) .last .1 .0) ((c .before .before .before .before .before .before .before .before .before .before .before .numbers-of) .result) ((c .before .before .before .before .before .before .before .before .before .before .tried-of) .result) ((c .before .before .before .before .before .before .before .before .before .side-of) .result) ((c .before .before .before .before .before .before .before .before .before .before .before .before .before .before .before .before .before .before .before) .args .here) (record { ok = ((c .before .before .before .before .before .before .before .before .before .before .before .before .before .before .before .before .before .before .before) .pre .0 .sound .admitted); more = (c .before .before .before .before .before .before .before .before .before .before .before .before .before .before .before .before .before .before .before) .pre .0 .aisle .1; numbers = ((c .before .before .before .before .before .before .before .before .before .before .before .numbers-of) .ensures ∙ ap (aisleOf (jobOf ((c .before .before .before .before .before .before .before .before .before .before .before .before .before .before .before .before .before .before .before) .args .job))) (add-one ((c .before .before .before .before .before .before .before .before .before .before .before .before .before .before .before .before .before .before .before) .args .n))); passages = ((c .before .before .before .before .before .before .before .before .before .before .tried-of) .ensures .0 ∙ ap (λ k. triedAt ((c .before .before .before .before .before .before .before .before .before .before .before .before .before .before .before .before .before .before .before) .args .job .layout .aisles - k)) (add-one ((c .before .before .before .before .before .before .before .before .before .before .before .before .before .before .before .before .before .before .before) .args .n))); place = ((c .before .before .before .before .before .before .before .before .before .side-of) .ensures ∙ ap (sideOf ((c .before .before .before .before .before .before .before .before .before .before .before .before .before .before .before .before .before .before .before) .args .job .layout .depot)) (add-one ((c .before .before .before .before .before .before .before .before .before .before .before .before .before .before .before .before .before .before .before) .args .n))); table = (c .before .before .before .before .before .before .before .before .before .before .before .before .before .before .before .before .before .before .before) .pre .4; rows = (c .before .before .before .before .before .before .before .before .before .before .before .before .before .before .before .before .before .before .before) .pre .3; maps = (subst (λ k. MapsReady (jobOf ((c .before .before .before .before .before .before .before .before .before .before .before .before .before .before .before .before .before .before .before) .args .job)) k ((c .before .before .before .before .before .before .before .before .before .before .before .before .before .before .before .fill-maps) .last .0) ((c .before .before .before .before .before .before .before .before .before .before .before .before .before .before .before .fill-maps) .last .1 .0)) (add-one ((c .before .before .before .before .before .before .before .before .before .before .before .before .before .before .before .before .before .before .before) .args .n)) ((c .before .before .before .before .before .before .before .before .before .before .before .before .before .before .before .fill-maps) .ensures .0)) }) ((c .before .before .before .before .before .before .before .before .before .before .before .before .before .before .before .before .before .before .before) .args .t .stages) ((c .before .before .before .before .before .before .before .before .before .before .before .before .before .before .before .before .before .before .before) .pre .2) ((c .before .before .before .before .before .before .choose-action) .result) ((c .before .before .before .before .before .before .choose-action) .ensures))))) .front-within)) (subst (λ (y : Aisle). ((c .before .before .before .before .before .before .before .before .before .before .before .before .before .before .before .before .before .before .before) .args .t .demand) < y .weight) (sym ((c .before .before .before .before .before .before .before .before .before .before .before .numbers-of) .ensures ∙ ap (aisleOf (jobOf ((c .before .before .before .before .before .before .before .before .before .before .before .before .before .before .before .before .before .before .before) .args .job))) (add-one ((c .before .before .before .before .before .before .before .before .before .before .before .before .before .before .before .before .before .before .before) .args .n)))) (((c .before .before .before .before .before .before .before .before .before .before .before .before .before .before .before .before .before .before .before) .pre .2) .demand-below)))) in let e = (c .before .left-of) .ensures in let u = (subst (λ y. AisleReady y ((c .before .before .before .before .before .before .before .before .before .before .before .before .before .before .before .fill-maps) .last .0) ((c .before .before .before .before .before .before .before .before .before .before .before .before .before .before .before .fill-maps) .last .1 .0)) (sym ((c .before .before .before .before .before .before .before .before .before .before .before .numbers-of) .ensures ∙ ap (aisleOf (jobOf ((c .before .before .before .before .before .before .before .before .before .before .before .before .before .before .before .before .before .before .before) .args .job))) (add-one ((c .before .before .before .before .before .before .before .before .before .before .before .before .before .before .before .before .before .before .before) .args .n)))) (aisle-ready (jobOf ((c .before .before .before .before .before .before .before .before .before .before .before .before .before .before .before .before .before .before .before) .args .job)) ((c .before .before .before .before .before .before .before .before .before .before .before .before .before .before .before .before .before .before .before) .pre .0 .sound .admitted) (suc ((c .before .before .before .before .before .before .before .before .before .before .before .before .before .before .before .before .before .before .before) .args .n)) ((c .before .before .before .before .before .before .before .before .before .before .before .before .before .before .before .fill-maps) .last .0) ((c .before .before .before .before .before .before .before .before .before .before .before .before .before .before .before .fill-maps) .last .1 .0) (subst (λ k. MapsReady (jobOf ((c .before .before .before .before .before .before .before .before .before .before .before .before .before .before .before .before .before .before .before) .args .job)) k ((c .before .before .before .before .before .before .before .before .before .before .before .before .before .before .before .fill-maps) .last .0) ((c .before .before .before .before .before .before .before .before .before .before .before .before .before .before .before .fill-maps) .last .1 .0)) (add-one ((c .before .before .before .before .before .before .before .before .before .before .before .before .before .before .before .before .before .before .before) .args .n)) ((c .before .before .before .before .before .before .before .before .before .before .before .before .before .before .before .fill-maps) .ensures .0)) (omega (arith, (c .before .before .before .before .before .before .before .before .before .before .before .before .before .before .before .fill-maps) .ensures .1)) (omega (arith, (c .before .before .before .before .before .before .before .before .before .before .before .before .before .before .before .fill-maps) .ensures .2)))) .small in (record { long = omega (arith, (c .before .before .before .before .before .before .before .before .before .before .before .before .before .before .before .before .before .before .before) .pre .1); demand = omega arith; policy-below = (subst (λ y. AisleReady y ((c .before .before .before .before .before .before .before .before .before .before .before .before .before .before .before .fill-maps) .last .0) ((c .before .before .before .before .before .before .before .before .before .before .before .before .before .before .before .fill-maps) .last .1 .0)) (sym ((c .before .before .before .before .before .before .before .before .before .before .before .numbers-of) .ensures ∙ ap (aisleOf (jobOf ((c .before .before .before .before .before .before .before .before .before .before .before .before .before .before .before .before .before .before .before) .args .job))) (add-one ((c .before .before .before .before .before .before .before .before .before .before .before .before .before .before .before .before .before .before .before) .args .n)))) (aisle-ready (jobOf ((c .before .before .before .before .before .before .before .before .before .before .before .before .before .before .before .before .before .before .before) .args .job)) ((c .before .before .before .before .before .before .before .before .before .before .before .before .before .before .before .before .before .before .before) .pre .0 .sound .admitted) (suc ((c .before .before .before .before .before .before .before .before .before .before .before .before .before .before .before .before .before .before .before) .args .n)) ((c .before .before .before .before .before .before .before .before .before .before .before .before .before .before .before .fill-maps) .last .0) ((c .before .before .before .before .before .before .before .before .before .before .before .before .before .before .before .fill-maps) .last .1 .0) (subst (λ k. MapsReady (jobOf ((c .before .before .before .before .before .before .before .before .before .before .before .before .before .before .before .before .before .before .before) .args .job)) k ((c .before .before .before .before .before .before .before .before .before .before .before .before .before .before .before .fill-maps) .last .0) ((c .before .before .before .before .before .before .before .before .before .before .before .before .before .before .before .fill-maps) .last .1 .0)) (add-one ((c .before .before .before .before .before .before .before .before .before .before .before .before .before .before .before .before .before .before .before) .args .n)) ((c .before .before .before .before .before .before .before .before .before .before .before .before .before .before .before .fill-maps) .ensures .0)) (omega (arith, (c .before .before .before .before .before .before .before .before .before .before .before .before .before .before .before .fill-maps) .ensures .1)) (omega (arith, (c .before .before .before .before .before .before .before .before .before .before .before .before .before .before .before .fill-maps) .ensures .2)))) .policy-below; side-below = (subst (λ m. m < 3) (sym ((c .before .before .before .before .before .before .before .before .before .side-of) .ensures)) (side-below ((c .before .before .before .before .before .before .before .before .before .before .before .before .before .before .before .before .before .before .before) .args .job .layout .depot) (((c .before .before .before .before .before .before .before .before .before .before .before .before .before .before .before .before .before .before .before) .args .n) + 1))); state-below = omega (arith, (c .before .before .before .before .step-of) .ensures .1); width-fits = omega arith }, (c .before .before .before .before .before .before .before .before .before .before .tried-of) .ensures .1)
-
-passage-step-requires : tie.Need-passage-step-requires
-unfolding jobOf aisleOf leastAfter
-passage-step-requires c κs = ((subst (λ y. AisleReady y ((c .before .before .before .before .before .before .before .before .before .before .before .before .before .before .before .before .fill-maps) .last .0) ((c .before .before .before .before .before .before .before .before .before .before .before .before .before .before .before .before .fill-maps) .last .1 .0)) (sym ((c .before .before .before .before .before .before .before .before .before .before .before .before .numbers-of) .ensures ∙ ap (aisleOf (jobOf ((c .before .before .before .before .before .before .before .before .before .before .before .before .before .before .before .before .before .before .before .before) .args .job))) (add-one ((c .before .before .before .before .before .before .before .before .before .before .before .before .before .before .before .before .before .before .before .before) .args .n)))) (aisle-ready (jobOf ((c .before .before .before .before .before .before .before .before .before .before .before .before .before .before .before .before .before .before .before .before) .args .job)) ((c .before .before .before .before .before .before .before .before .before .before .before .before .before .before .before .before .before .before .before .before) .pre .0 .sound .admitted) (suc ((c .before .before .before .before .before .before .before .before .before .before .before .before .before .before .before .before .before .before .before .before) .args .n)) ((c .before .before .before .before .before .before .before .before .before .before .before .before .before .before .before .before .fill-maps) .last .0) ((c .before .before .before .before .before .before .before .before .before .before .before .before .before .before .before .before .fill-maps) .last .1 .0) (subst (λ k. MapsReady (jobOf ((c .before .before .before .before .before .before .before .before .before .before .before .before .before .before .before .before .before .before .before .before) .args .job)) k ((c .before .before .before .before .before .before .before .before .before .before .before .before .before .before .before .before .fill-maps) .last .0) ((c .before .before .before .before .before .before .before .before .before .before .before .before .before .before .before .before .fill-maps) .last .1 .0)) (add-one ((c .before .before .before .before .before .before .before .before .before .before .before .before .before .before .before .before .before .before .before .before) .args .n)) ((c .before .before .before .before .before .before .before .before .before .before .before .before .before .before .before .before .fill-maps) .ensures .0)) (omega (arith, (c .before .before .before .before .before .before .before .before .before .before .before .before .before .before .before .before .fill-maps) .ensures .1)) (omega (arith, (c .before .before .before .before .before .before .before .before .before .before .before .before .before .before .before .before .fill-maps) .ensures .2)))) .policy-below, passage-in (jobOf ((c .before .before .before .before .before .before .before .before .before .before .before .before .before .before .before .before .before .before .before .before) .args .job)) ((c .before .before .before .before .before .before .before .before .before .before .before .before .before .before .before .before .before .before .before .before) .args .n) ((c .before .before .before .before .before .before .before .before .before .before .before .before .before .before .before .before .before .before .before .before) .args .t .state) ((c .before .before .before .before .before .before .before .before .before .before .before .before .before .before .before .before .before .before .before .before) .args .t .demand) ((c .before .before .before .before .before .before .before .before .before .before .before .before .before .before .before .before .before .before .before .before) .args .next .now) ((c .before .before .before .before .before .before .before .before .before .before .before .before .before .before .before .before .fill-maps) .last .0) ((c .before .before .before .before .before .before .before .before .before .before .before .before .before .before .before .before .fill-maps) .last .1 .0) ((c .before .before .before .before .before .before .before .before .before .before .before .before .numbers-of) .result) ((c .before .before .before .before .before .before .before .before .before .before .before .tried-of) .result) ((c .before .before .before .before .before .before .before .before .before .before .side-of) .result) ((c .before .before .before .before .before .before .before .before .before .before .before .before .before .before .before .before .before .before .before .before) .args .here) (record { ok = ((c .before .before .before .before .before .before .before .before .before .before .before .before .before .before .before .before .before .before .before .before) .pre .0 .sound .admitted); more = (c .before .before .before .before .before .before .before .before .before .before .before .before .before .before .before .before .before .before .before .before) .pre .0 .aisle .1; numbers = ((c .before .before .before .before .before .before .before .before .before .before .before .before .numbers-of) .ensures ∙ ap (aisleOf (jobOf ((c .before .before .before .before .before .before .before .before .before .before .before .before .before .before .before .before .before .before .before .before) .args .job))) (add-one ((c .before .before .before .before .before .before .before .before .before .before .before .before .before .before .before .before .before .before .before .before) .args .n))); passages = ((c .before .before .before .before .before .before .before .before .before .before .before .tried-of) .ensures .0 ∙ ap (λ k. triedAt ((c .before .before .before .before .before .before .before .before .before .before .before .before .before .before .before .before .before .before .before .before) .args .job .layout .aisles - k)) (add-one ((c .before .before .before .before .before .before .before .before .before .before .before .before .before .before .before .before .before .before .before .before) .args .n))); place = ((c .before .before .before .before .before .before .before .before .before .before .side-of) .ensures ∙ ap (sideOf ((c .before .before .before .before .before .before .before .before .before .before .before .before .before .before .before .before .before .before .before .before) .args .job .layout .depot)) (add-one ((c .before .before .before .before .before .before .before .before .before .before .before .before .before .before .before .before .before .before .before .before) .args .n))); table = (c .before .before .before .before .before .before .before .before .before .before .before .before .before .before .before .before .before .before .before .before) .pre .4; rows = (c .before .before .before .before .before .before .before .before .before .before .before .before .before .before .before .before .before .before .before .before) .pre .3; maps = (subst (λ k. MapsReady (jobOf ((c .before .before .before .before .before .before .before .before .before .before .before .before .before .before .before .before .before .before .before .before) .args .job)) k ((c .before .before .before .before .before .before .before .before .before .before .before .before .before .before .before .before .fill-maps) .last .0) ((c .before .before .before .before .before .before .before .before .before .before .before .before .before .before .before .before .fill-maps) .last .1 .0)) (add-one ((c .before .before .before .before .before .before .before .before .before .before .before .before .before .before .before .before .before .before .before .before) .args .n)) ((c .before .before .before .before .before .before .before .before .before .before .before .before .before .before .before .before .fill-maps) .ensures .0)) }) ((c .before .before .before .before .before .before .before .before .before .before .before .before .before .before .before .before .before .before .before .before) .args .t .stages) ((c .before .before .before .before .before .before .before .before .before .before .before .before .before .before .before .before .before .before .before .before) .pre .2) ((c .before .before .before .before .before .before .before .choose-action) .result) ((c .before .before .before .before .before .step-of) .result) ((c .before .before .left-of) .result) ((c .before .best-after) .result) ((c .choose-passage) .result) ((c .before .before .before .before .before .before .action-at) .result) ((c .before .before .before .before .before .before .before .choose-action) .ensures) ((c .before .before .before .before .before .before .action-at) .ensures) ((c .before .before .before .before .before .step-of) .ensures .0) ((c .before .before .left-of) .ensures) ((c .before .best-after) .ensures .0) ((c .choose-passage) .ensures), (subst (λ m. m < 3) (sym ((c .before .before .before .before .before .before .before .before .before .before .side-of) .ensures)) (side-below ((c .before .before .before .before .before .before .before .before .before .before .before .before .before .before .before .before .before .before .before .before) .args .job .layout .depot) (((c .before .before .before .before .before .before .before .before .before .before .before .before .before .before .before .before .before .before .before .before) .args .n) + 1))), omega (arith, (c .before .before .before .before .before .step-of) .ensures .1))
-
-action-of-requires : tie.Need-action-of-requires
-action-of-requires c κs = search needs
-
-passage-of-requires : tie.Need-passage-of-requires
-passage-of-requires c κs = search needs
+take-passage-requires : tie.Need-take-passage-requires
+take-passage-requires c κs =
+    let at-action = c .before in
+    let at-after = at-action .before .before .before .before .before .before in
+    let at-aisle = at-after .before .before in
+    let start = at-aisle .before .before .before .before .before .before .before in
+    let r = start .pre .0 in
+    let h = aisled at-after (r .0) (r .1) (r .2) in
+    let to = taken-lands h (r .2) (at-action .take-action .ensures) in
+    let light = r .1 .admitted .light in (
+      record {
+        aisle = in-range (r .0) _ (at-aisle .aisle-of .result) (h .numbers) (r .1 .admitted);
+        long = omega (arith, start .pre .1);
+        demand = omega arith;
+        state-below = to .0;
+      },
+      passage-there h (r .2) (at-action .take-action .ensures),
+    )
 
 mul-stages : tie.Need-mul-stages
-unfolding jobOf aisleOf leastAfter
-mul-stages c = let w = within ((c .before .before .before .before .before .before .before .before .before .before .before .before .before .before .before .before .before .before .before .before .before .before .before .before) .args .job .layout) (((c .before .before .before .before .before .before .before .before .before .before .before .before .before .before .before .before .before .before .before .before .before .before .before .before) .pre .0 .sound .admitted) .layout) in omega (arith, (c .before .before .before .before .before .before .before .before .before .before .before .before .before .before .before .before .before .before .before .before .before .before .before .before) .pre .0 .aisle .1)
+mul-stages c =
+    let at-after = c .before .before .before .before .before .before .before .before .before in
+    let l = few (at-after .before .before .before .before .before .before .before .before .before) in omega arith
 
 array-set-from-stages : tie.Need-array-set-from-stages
-unfolding jobOf aisleOf leastAfter
-array-set-from-stages c = let w = within ((c .before .before .before .before .before .before .before .before .before .before .before .before .before .before .before .before .before .before .before .before .before .before .before .before) .args .job .layout) (((c .before .before .before .before .before .before .before .before .before .before .before .before .before .before .before .before .before .before .before .before .before .before .before .before) .pre .0 .sound .admitted) .layout) in omega (arith, (c .before .before .before .before .before .before .before .before .before .before .before .before .before .before .before .before .before .before .before .before .before .before .before .before) .pre .0 .aisle .1)
+array-set-from-stages c =
+    let at-after = c .before .before .before .before .before .before .before .before .before in
+    few (at-after .before .before .before .before .before .before .before .before .before)
 
 returns : tie.Need-returns
-unfolding jobOf aisleOf leastAfter
-returns c = let w = within ((c .before .before .before .before .before .before .before .before .before .before .before .before .before .before .before .before .before .before .before .before .before .before .before .before) .args .job .layout) (((c .before .before .before .before .before .before .before .before .before .before .before .before .before .before .before .before .before .before .before .before .before .before .before .before) .pre .0 .sound .admitted) .layout) in trace-on (jobOf ((c .before .before .before .before .before .before .before .before .before .before .before .before .before .before .before .before .before .before .before .before .before .before .before .before) .args .job)) ((c .before .before .before .before .before .before .before .before .before .before .before .before .before .before .before .before .before .before .before .before .before .before .before .before) .args .n) ((c .before .before .before .before .before .before .before .before .before .before .before .before .before .before .before .before .before .before .before .before .before .before .before .before) .args .t .state) ((c .before .before .before .before .before .before .before .before .before .before .before .before .before .before .before .before .before .before .before .before .before .before .before .before) .args .t .demand) ((c .before .before .before .before .before .before .before .before .before .before .before .before .before .before .before .before .before .before .before .before .before .before .before .before) .args .next .now) ((c .before .before .before .before .before .before .before .before .before .before .before .before .before .before .before .before .before .before .before .before .fill-maps) .last .0) ((c .before .before .before .before .before .before .before .before .before .before .before .before .before .before .before .before .before .before .before .before .fill-maps) .last .1 .0) ((c .before .before .before .before .before .before .before .before .before .before .before .before .before .before .before .before .numbers-of) .result) ((c .before .before .before .before .before .before .before .before .before .before .before .before .before .before .before .tried-of) .result) ((c .before .before .before .before .before .before .before .before .before .before .before .before .before .before .side-of) .result) ((c .before .before .before .before .before .before .before .before .before .before .before .before .before .before .before .before .before .before .before .before .before .before .before .before) .args .here) (record { ok = ((c .before .before .before .before .before .before .before .before .before .before .before .before .before .before .before .before .before .before .before .before .before .before .before .before) .pre .0 .sound .admitted); more = (c .before .before .before .before .before .before .before .before .before .before .before .before .before .before .before .before .before .before .before .before .before .before .before .before) .pre .0 .aisle .1; numbers = ((c .before .before .before .before .before .before .before .before .before .before .before .before .before .before .before .before .numbers-of) .ensures ∙ ap (aisleOf (jobOf ((c .before .before .before .before .before .before .before .before .before .before .before .before .before .before .before .before .before .before .before .before .before .before .before .before) .args .job))) (add-one ((c .before .before .before .before .before .before .before .before .before .before .before .before .before .before .before .before .before .before .before .before .before .before .before .before) .args .n))); passages = ((c .before .before .before .before .before .before .before .before .before .before .before .before .before .before .before .tried-of) .ensures .0 ∙ ap (λ k. triedAt ((c .before .before .before .before .before .before .before .before .before .before .before .before .before .before .before .before .before .before .before .before .before .before .before .before) .args .job .layout .aisles - k)) (add-one ((c .before .before .before .before .before .before .before .before .before .before .before .before .before .before .before .before .before .before .before .before .before .before .before .before) .args .n))); place = ((c .before .before .before .before .before .before .before .before .before .before .before .before .before .before .side-of) .ensures ∙ ap (sideOf ((c .before .before .before .before .before .before .before .before .before .before .before .before .before .before .before .before .before .before .before .before .before .before .before .before) .args .job .layout .depot)) (add-one ((c .before .before .before .before .before .before .before .before .before .before .before .before .before .before .before .before .before .before .before .before .before .before .before .before) .args .n))); table = (c .before .before .before .before .before .before .before .before .before .before .before .before .before .before .before .before .before .before .before .before .before .before .before .before) .pre .4; rows = (c .before .before .before .before .before .before .before .before .before .before .before .before .before .before .before .before .before .before .before .before .before .before .before .before) .pre .3; maps = (subst (λ k. MapsReady (jobOf ((c .before .before .before .before .before .before .before .before .before .before .before .before .before .before .before .before .before .before .before .before .before .before .before .before) .args .job)) k ((c .before .before .before .before .before .before .before .before .before .before .before .before .before .before .before .before .before .before .before .before .fill-maps) .last .0) ((c .before .before .before .before .before .before .before .before .before .before .before .before .before .before .before .before .before .before .before .before .fill-maps) .last .1 .0)) (add-one ((c .before .before .before .before .before .before .before .before .before .before .before .before .before .before .before .before .before .before .before .before .before .before .before .before) .args .n)) ((c .before .before .before .before .before .before .before .before .before .before .before .before .before .before .before .before .before .before .before .before .fill-maps) .ensures .0)) }) ((c .before .before .before .before .before .before .before .before .before .before .before .before .before .before .before .before .before .before .before .before .before .before .before .before) .args .t .stages) ((c .before .before .before .before .before .before .before .before .before .before .before .before .before .before .before .before .before .before .before .before .before .before .before .before) .pre .2) ((c .before .before .before .before .before .before .before .before .before .before .before .choose-action) .result) ((c .before .before .before .before .before .before .before .before .before .step-of) .result) ((c .before .before .before .before .before .before .left-of) .result) ((c .before .before .before .before .before .best-after) .result) ((c .before .before .before .before .choose-passage) .result) ((c .before .before .before .before .before .before .before .before .before .before .action-at) .result) ((c .before .before .before .before .before .before .before .before .before .before .before .choose-action) .ensures) ((c .before .before .before .before .before .before .before .before .before .before .action-at) .ensures) ((c .before .before .before .before .before .before .before .before .before .step-of) .ensures .0) ((c .before .before .before .before .before .before .left-of) .ensures) ((c .before .before .before .before .before .best-after) .ensures .0) ((c .before .before .before .before .choose-passage) .ensures) ((c .before .before .before .passage-step) .result) ((c .before .before .before .passage-step) .ensures) (omega (arith, (c .before .before .before .before .before .before .before .before .before .before .before .before .before .before .before .before .before .before .before .before .before .before .before .before) .pre .0 .aisle .1)) ((c .before .before .action-of) .result) ((c .before .passage-of) .result) ((c .before .before .action-of) .ensures) ((c .before .passage-of) .ensures)
+returns c =
+    let at-action = c .before .before .before .before in
+    let at-after = at-action .before .before .before .before .before .before in
+    λ job of asked. trace-next (aisled at-after job of asked) asked (at-action .take-action .ensures) (c .before .before .take-passage .ensures)
 
 pub trace-aisle-spec : {M : Type 1} → statement M
 trace-aisle-spec =
@@ -112,22 +156,14 @@ trace-aisle-spec =
     slice-aggregate-fill-maps
     slice-aggregate-fill-maps-2
     fill-maps-requires
-    numbers-of-requires
-    tried-of-requires
-    side-of-requires
-    slice-aggregate-choose-action
-    slice-aggregate-choose-action-2
-    choose-action-requires
-    action-at-requires
-    step-of-requires
-    slice-aggregate-left-of
-    slice-aggregate-left-of-2
-    left-of-requires
-    best-after-requires
-    choose-passage-requires
-    passage-step-requires
-    action-of-requires
-    passage-of-requires
+    aisle-of-requires
+    slice-aggregate-fill-after
+    fill-after-requires
+    slice-aggregate-take-action
+    slice-aggregate-take-action-2
+    slice-aggregate-take-action-3
+    take-action-requires
+    take-passage-requires
     mul-stages
     array-set-from-stages
     returns)

@@ -1,11 +1,11 @@
--- `router::trace::action_of` meets its contract.
+-- `router::ranks::action_of` meets its contract.
 use native.Mathlib.Omega.{arith}
 use Prim.Native.Nat.{_+_, _*_, _≤_, _<_}
 use mathlib.Core.Path.{_≡_, sym, _∙_, ap}
 use Rattle.table.specs.Candidates.{actionOf, actionOfParts}
 use Rattle.router.proofs.Numbers.{last-action}
-use Rattle.router.proofs.trace.action_of.Statement.{statement}
-use Rattle.router.proofs.trace.action_of.Tie as tie
+use Rattle.router.proofs.ranks.action_of.Statement.{statement}
+use Rattle.router.proofs.ranks.action_of.Tie as tie
 
 returns : tie.Need-returns
 unfolding actionOf

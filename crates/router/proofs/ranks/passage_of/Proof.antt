@@ -1,11 +1,11 @@
--- `router::trace::passage_of` meets its contract.
+-- `router::ranks::passage_of` meets its contract.
 use borrow.Author.Needs.{needs}
 use native.Mathlib.Omega.{arith}
 use Prim.Native.Nat.{_+_, _*_, _≤_, _<_}
 use mathlib.Core.Path.{_≡_, sym, _∙_}
 use Rattle.router.proofs.Numbers.{last-passage}
-use Rattle.router.proofs.trace.passage_of.Statement.{statement}
-use Rattle.router.proofs.trace.passage_of.Tie as tie
+use Rattle.router.proofs.ranks.passage_of.Statement.{statement}
+use Rattle.router.proofs.ranks.passage_of.Tie as tie
 
 returns : tie.Need-returns
 returns c = search needs

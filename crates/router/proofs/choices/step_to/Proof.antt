@@ -1,0 +1,96 @@
+-- `router::choices::step_to` meets its contract: the state is the machine's, the demand is read out of the maps of the aisle.
+use borrow.Author.Needs.{needs}
+use Prim.Native.Nat.{ℕ, _+_, _*_, _≤_, _<_}
+use native.Mathlib.Omega.{arith}
+use mathlib.Core.Path.{_∙_, ap, ap₂}
+use mathlib.Core.Bool.{Bool}
+use lib.ListN.{getD}
+use denote.Ref.{now}
+use Rattle.machine.specs.States.{stateCode, stateOf}
+use Rattle.machine.specs.Steps.{policyOf, sampleAction, bit, stepOf}
+use Rattle.table.specs.Layers.{stepCode, leftCode}
+use Rattle.table.proofs.Geometry.{within}
+use Rattle.router.specs.declared.choices.At.{At}
+use Rattle.router.proofs.choices.step_to.Statement.{statement}
+use Rattle.router.proofs.choices.step_to.Tie as tie
+
+-- the cells and the demands that are looked up are within the maps
+in-maps : (c : tie.Start) → let x = c .args in
+    (x .c .front ≤ 24) × (x .c .back ≤ 25) × (x .at .demand < 256) × (getD (now (x .fronts)) (x .c .front * 256 + x .at .demand) 0 < 256)
+in-maps c =
+    let x = c .args in
+    let ready = c .pre .0 in
+    let w = within (x .x .layout) (ready .aisle .bounds) in
+    let of = c .pre .1 in
+    let low = ready .front-below (x .c .front) (x .at .demand) (of .front-within) (c .pre .3) in
+    (omega arith, omega arith, omega (arith, ready .aisle .small), omega (arith, low, ready .aisle .small))
+
+keeps-halves-requires : tie.Need-keeps-halves-requires
+keeps-halves-requires c κs = search needs
+
+action-step-requires : tie.Need-action-step-requires
+action-step-requires c κs = search needs
+
+mul-wide : tie.Need-mul-wide
+mul-wide c = let m = in-maps (c .before .before .before .before) in omega arith
+
+add-wide : tie.Need-add-wide
+add-wide c = let m = in-maps (c .before .before .before .before) in omega arith
+
+mul-wide-2 : tie.Need-mul-wide-2
+mul-wide-2 c = let m = in-maps (c .before .before .before .before) in omega arith
+
+shared-slice-read-wide : tie.Need-shared-slice-read-wide
+shared-slice-read-wide c =
+    let start = c .before .before .before .before .before in
+    let m = in-maps start in omega (arith, start .pre .0 .fronts-long)
+
+wide-requires : tie.Need-wide-requires
+wide-requires c κs = search needs
+
+mul-wide-3 : tie.Need-mul-wide-3
+mul-wide-3 c = let m = in-maps (c .before .before .before .before .before .before) in omega arith
+
+add-wide-2 : tie.Need-add-wide-2
+add-wide-2 c = let m = in-maps (c .before .before .before .before .before .before) in omega (arith, c .wide .ensures .0)
+
+mul-wide-4 : tie.Need-mul-wide-4
+mul-wide-4 c = let m = in-maps (c .before .before .before .before .before .before) in omega (arith, c .wide .ensures .0)
+
+shared-slice-read-wide-2 : tie.Need-shared-slice-read-wide-2
+shared-slice-read-wide-2 c =
+    let start = c .before .before .before .before .before .before .before in
+    let m = in-maps start in omega (arith, c .before .wide .ensures .0, start .pre .0 .backs-long)
+
+wide-requires-2 : tie.Need-wide-requires-2
+wide-requires-2 c κs = search needs
+
+returns : tie.Need-returns
+unfolding stepCode leftCode
+returns c =
+    let x = c .before .before .before .before .before .before .before .before .args in
+    let made : ℕ → ℕ → At = λ s q. record { state = s; demand = q } in
+    let after : Bool → ℕ =
+    λ b. stateCode (stepOf (policyOf (x .x .policy)) (sampleAction (x .c .kind)) (bit (x .x .holds)) b (stateOf (x .at .state))) in
+    let step = c .before .before .before .before .action-step .ensures in
+    let halves = c .before .before .before .before .before .keeps-halves .ensures .0 in
+    ap₂ made (step ∙ ap after halves)
+    (c .wide2 .ensures .0 ∙ ap (λ k. getD (now (x .backs)) (x .c .back * 256 + k) 0) (c .before .before .wide .ensures .0))
+
+pub step-to-spec : {M : Type 1} → statement M
+step-to-spec =
+    tie.close
+    (tie.spec
+    keeps-halves-requires
+    action-step-requires
+    mul-wide
+    add-wide
+    mul-wide-2
+    shared-slice-read-wide
+    wide-requires
+    mul-wide-3
+    add-wide-2
+    mul-wide-4
+    shared-slice-read-wide-2
+    wide-requires-2
+    returns)
