@@ -55,7 +55,7 @@ noStage = record { action = Void; passage = P00 }
 abbrev pub lineHere : Shelf → ℕ → ℕ → ℕ
 lineHere shelf j c = getD (shelf .line) (j * 24 + c) 0
 
-abbrev pub stockHere : Shelf → ℕ → ℕ → ℕ
+abbrev stockHere : Shelf → ℕ → ℕ → ℕ
 stockHere shelf j c = getD (shelf .quantity) (j * 24 + c) 0
 
 abbrev pub takenHere : Shelf → PlanValue → List OrderLine → ℕ → ℕ → ℕ
@@ -92,7 +92,7 @@ module _ {job : Job} {lines : List OrderLine} {cells : ℕ} {shelf : Shelf} {pla
     place = omega arith
 
     -- the shelf tells the cell's line and its stock
-    pub line-here : lineHere shelf j c ≡ lineOf (job .lines) recordHere
+    line-here : lineHere shelf j c ≡ lineOf (job .lines) recordHere
     line-here =
         rw place at (a .its-shelf .line-at (suc j) (suc c) (omega arith) (omega (arith, asked-bounds)) (omega arith) (omega (arith, asked-bounds)))
 
@@ -116,7 +116,7 @@ module _ {job : Job} {lines : List OrderLine} {cells : ℕ} {shelf : Shelf} {pla
     stage-passes = rw add-one (ap (λ (x : Action). passesCell x (suc c)) (nth-map (λ (s : Stage). s .action) (plan .stages) (plan .aisles) j noStage l))
 
     -- so both tell what is taken
-    pub taken-here : (lacking : List OrderLine) → takenAt job (counted job lacking) (planPasses (planOf plan) (suc j) (suc c)) recordHere ≡ takenHere shelf plan lacking j c
+    taken-here : (lacking : List OrderLine) → takenAt job (counted job lacking) (planPasses (planOf plan) (suc j) (suc c)) recordHere ≡ takenHere shelf plan lacking j c
     taken-here lacking =
         rw (stage-passes, ← line-here, ← stock-here, taken-counted lacking (length (job .lines)) (lineHere shelf j c) (stockHere shelf j c) line-counts)
 

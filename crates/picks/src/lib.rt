@@ -6,7 +6,7 @@ use values::PickList;
 use values::PlanValue;
 use values::Shelf;
 ghost use mathlib.Core.Path.{_≡_};
-ghost use Prim.Native.Nat.{_≤_, _<_, _-_};
+ghost use Prim.Native.Nat.{_≤_, _<_};
 ghost use lib.ListN.{getD, set};
 ghost use Rattle.rules.specs.Jobs.{Job};
 ghost use Rattle.rules.specs.Plans.{passesCell};

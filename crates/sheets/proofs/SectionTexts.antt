@@ -29,15 +29,20 @@ concat-map f g [] = refl
 concat-map f g (x ∷ xs) = ap (λ l. f (g x) ++ l) (concat-map f g xs)
 
 -- a part of each of the first n elements
-section-map : {A B : Type 0} (letter : ℕ) (f : B → List ℕ) (g : A → B) (xs : List A) (n : ℕ) → n ≤ length xs → sectionText letter f (map g (take n xs)) ≡ header letter n ++ concatOf (λ x. f (g x)) (take n xs)
+section-map : {A B : Type 0} (letter : ℕ) (f : B → List ℕ) (g : A → B) (xs : List A) (n : ℕ) → n ≤ length xs
+    → sectionText letter f (map g (take n xs)) ≡ header letter n ++ concatOf (λ x. f (g x)) (take n xs)
 unfolding sectionText
 section-map letter f g xs n l = rw (length-map (take n xs) g, length-take-le n xs l, concat-map f g (take n xs))
 
-pub actions-text : (v : PlanValue) → v .aisles ≤ length (v .stages) → sectionText letterA actionText (planOf v .actions) ≡ header letterA (v .aisles) ++ concatOf (λ (s : Stage). actionText (s .action)) (take (v .aisles) (v .stages))
+pub actions-text : (v : PlanValue) → v .aisles ≤ length (v .stages)
+    → sectionText letterA actionText (planOf v .actions)
+    ≡ header letterA (v .aisles) ++ concatOf (λ (s : Stage). actionText (s .action)) (take (v .aisles) (v .stages))
 unfolding planOf
 actions-text v l = section-map letterA actionText (λ (s : Stage). s .action) (v .stages) (v .aisles) l
 
-pub passages-text : (v : PlanValue) → v .aisles - 1 ≤ length (v .stages) → sectionText letterC passageText (planOf v .passages) ≡ header letterC (v .aisles - 1) ++ concatOf (λ (s : Stage). passageText (s .passage)) (take (v .aisles - 1) (v .stages))
+pub passages-text : (v : PlanValue) → v .aisles - 1 ≤ length (v .stages)
+    → sectionText letterC passageText (planOf v .passages)
+    ≡ header letterC (v .aisles - 1) ++ concatOf (λ (s : Stage). passageText (s .passage)) (take (v .aisles - 1) (v .stages))
 unfolding planOf
 passages-text v l = section-map letterC passageText (λ (s : Stage). s .passage) (v .stages) (v .aisles - 1) l
 
@@ -88,7 +93,8 @@ unfolding passageText
 passage-three p = refl
 
 -- three bytes for each passage
-pub passages-length : (v : PlanValue) → v .aisles - 1 ≤ length (v .stages) → length (sectionText letterC passageText (planOf v .passages)) ≡ length (header letterC (v .aisles - 1)) + 3 * (v .aisles - 1)
+pub passages-length : (v : PlanValue) → v .aisles - 1 ≤ length (v .stages)
+    → length (sectionText letterC passageText (planOf v .passages)) ≡ length (header letterC (v .aisles - 1)) + 3 * (v .aisles - 1)
 passages-length v l =
     let xs = take (v .aisles - 1) (v .stages) in
     rw (passages-text v l, length-append, texts-alike (λ (s : Stage). passageText (s .passage)) 3 (λ s. passage-three (s .passage)) xs, length-take-le (v .aisles - 1) (v .stages) l)

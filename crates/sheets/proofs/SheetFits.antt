@@ -19,6 +19,7 @@ use Rattle.rules.specs.declared.StockRecord.{StockRecord}
 use Rattle.rules.specs.declared.OrderLine.{OrderLine}
 use Rattle.rules.specs.declared.Pick.{Pick}
 use Rattle.rules.specs.declared.Run.{Run}
+use Rattle.rules.specs.declared.Direction.{Direction}
 use Rattle.rules.specs.Lists.{from, concatOf, sumOf, firstOf}
 use Rattle.rules.specs.Store.{Point, LayoutWithin}
 use Rattle.rules.specs.Jobs.{Job}
@@ -51,7 +52,8 @@ unfolding sectionText
 section-length letter f xs = rw (length-append, header-size letter (length xs), concat-length f xs)
 
 -- a section whose lines are bounded
-section-most : {A : Type 0} (letter : ℕ) (f : A → List ℕ) (xs : List A) (b : ℕ) → ((x : A) → List·Memᴰ x xs → length (f x) ≤ b) → length xs < 1000 → length (sectionText letter f xs) ≤ 6 + length xs * b
+section-most : {A : Type 0} (letter : ℕ) (f : A → List ℕ) (xs : List A) (b : ℕ) → ((x : A) → List·Memᴰ x xs → length (f x) ≤ b) → length xs < 1000
+    → length (sectionText letter f xs) ≤ 6 + length xs * b
 section-most letter f xs b h l =
     omega (arith, section-length letter f xs, digits-most 2 (length xs) l, sum-below (λ x. length (f x)) b xs h)
 
@@ -184,20 +186,31 @@ pick-most job plan ok p m =
     let d = drawn (job .lines) (passedRecords job plan) p m in
     let w = stock-within job .0 (ok .stock) .records (d .source) (passed-member job plan (d .source) (d .member)) in
     let z = layout-within (job .layout) .0 (ok .layout) in
-    omega (arith, pick-size p, digits-most 1 (p .aisle) (omega (arith, d .aisle, w .aisle, z .aisles)), digits-most 1 (p .cell) (omega (arith, d .cell, w .cell, z .cells)), digits-most 4 (p .article) (omega (arith, d .article, w .article)), digits-most 2 (p .quantity) (omega (arith, d .quantity, w .quantity)))
+    let aisle = digits-most 1 (p .aisle) (omega (arith, d .aisle, w .aisle, z .aisles)) in
+    let cell = digits-most 1 (p .cell) (omega (arith, d .cell, w .cell, z .cells)) in
+    let article = digits-most 4 (p .article) (omega (arith, d .article, w .article)) in
+    let quantity = digits-most 2 (p .quantity) (omega (arith, d .quantity, w .quantity)) in
+    omega (arith, pick-size p, aisle, cell, article, quantity)
 
 -- a number has at most as many digits as it counts
 digits-below : (n : ℕ) → 1 ≤ n → length (numeral n) ≤ n
 digits-below = numeral-induction (λ (n : ℕ) (s : List ℕ). 1 ≤ n → length s ≤ n) (λ n h l. l) (λ n s h p l. rw length-append (omega (arith, p (omega arith))))
 
+-- a step before a run, in the same direction or in another
+abbrev stepped : Bool → Direction → Run → List Run → List Run
+stepped same d r rs = cond same (record { direction = d; steps = suc (r .steps) } ∷ rs) (record { direction = d; steps = 1 } ∷ r ∷ rs)
+
 -- the runs of a walk: each has a step, and their steps are those of the walk
-pub runs-steps : (walk : Walk) → sumOf (λ (r : Run). r .steps) (runsOf walk) ≡ length walk
+runs-steps : (walk : Walk) → sumOf (λ (r : Run). r .steps) (runsOf walk) ≡ length walk
 runs-steps [] = refl
 runs-steps (d ∷ ds) = more (runsOf ds) ∙ ap suc (runs-steps ds)
   where
     more : (rs : List Run) → sumOf (λ (r : Run). r .steps) (addStep d rs) ≡ suc (sumOf (λ (r : Run). r .steps) rs)
     more [] = omega arith
-    more (r ∷ rs) = elim (eqb (letterRank d) (letterRank (r .direction))) as (λ (b : Bool). sumOf (λ (s : Run). s .steps) (cond b (record { direction = d; steps = suc (r .steps) } ∷ rs) (record { direction = d; steps = 1 } ∷ r ∷ rs)) ≡ suc (r .steps + sumOf (λ (s : Run). s .steps) rs)) [ true ↦ omega arith | false ↦ omega arith ]
+    more (r ∷ rs) =
+        elim (eqb (letterRank d) (letterRank (r .direction))) as
+        (λ (b : Bool). sumOf (λ (s : Run). s .steps) (stepped b d r rs) ≡ suc (r .steps + sumOf (λ (s : Run). s .steps) rs))
+        [ true ↦ omega arith | false ↦ omega arith ]
 
 abbrev Stepped : List Run → Type 0
 Stepped [] = Unit {0}
@@ -209,7 +222,9 @@ runs-stepped (d ∷ ds) = more (runsOf ds) (runs-stepped ds)
   where
     more : (rs : List Run) → Stepped rs → Stepped (addStep d rs)
     more [] s = (omega arith, tt)
-    more (r ∷ rs) s = elim (eqb (letterRank d) (letterRank (r .direction))) as (λ (b : Bool). Stepped (cond b (record { direction = d; steps = suc (r .steps) } ∷ rs) (record { direction = d; steps = 1 } ∷ r ∷ rs))) [ true ↦ (omega arith, s .1) | false ↦ (omega arith, s) ]
+    more (r ∷ rs) s =
+        elim (eqb (letterRank d) (letterRank (r .direction))) as (λ (b : Bool). Stepped (stepped b d r rs))
+        [ true ↦ (omega arith, s .1) | false ↦ (omega arith, s) ]
 
 -- so there is at most one run for each step, and their lines have at most four bytes for each
 steps-most : (rs : List Run) → Stepped rs → (length rs ≤ sumOf (λ (r : Run). r .steps) rs) × (sumOf (λ (r : Run). length (runText r)) rs ≤ 4 * sumOf (λ (r : Run). r .steps) rs)
@@ -232,7 +247,13 @@ sheet-fits job plan ok w l =
     let n = planLength (job .layout) plan in
     let t = total-size n (job .policy) in
     let total = digits-most 4 n (omega (arith, plan-length-49920 (job .layout) plan (ok .layout) w)) in
-    let actions = section-most letterA actionText (plan .actions) 10 (λ a m. action-most (job .layout .cells) (z .cells .1) a (well-formed-fits (job .layout) plan w a m)) (omega (arith, w .aisles, z .aisles)) in
+    let action-line : (a : Action) → List·Memᴰ a (plan .actions) → length (actionText a) ≤ 10 =
+    λ a m. action-most (job .layout .cells) (z .cells .1) a (well-formed-fits (job .layout) plan w a m)
+    in
+    let actions = section-most letterA actionText (plan .actions) 10 action-line (omega (arith, w .aisles, z .aisles)) in
     let passages = section-most letterC passageText (plan .passages) 3 (λ p m. passage-three p) (omega (arith, w .passages, z .aisles)) in
     let picks = section-most letterP pickText (picksOf job plan) 16 (pick-most job plan ok) (omega (arith, picks-most job plan z)) in
-    simp length-append (omega (arith, header-size letterT 1, digits-most 0 1 (omega arith), t, total, policy-most (job .policy), actions, passages, picks, picks-most job plan z, walk-fits (firstWalk (job .layout) plan) l, w .aisles, w .passages, z .aisles))
+    let walk = walk-fits (firstWalk (job .layout) plan) l in
+    let first = header-size letterT 1 in
+    simp length-append
+    (omega (arith, first, digits-most 0 1 (omega arith), t, total, policy-most (job .policy), actions, passages, picks, picks-most job plan z, walk, w .aisles, w .passages, z .aisles))

@@ -14,11 +14,15 @@ use Rattle.values.specs.Values.{jobOf, planOf, picksOfValue, runsOfValue}
 use Rattle.sheets.specs.Parts.{sheetOfParts, sheetOfValues}
 
 -- with the length, the picks and the runs that the definitions give, the parts make the sheet of the plan
-pub sheet-of-parts : (job : Job) (plan : Plan) → sheetOfParts (job .policy) (planLength (job .layout) plan) plan (picksOf job plan) (runsOf (firstWalk (job .layout) plan)) ≡ sheetOf job plan
+sheet-of-parts : (job : Job) (plan : Plan) → sheetOfParts (job .policy) (planLength (job .layout) plan) plan (picksOf job plan) (runsOf (firstWalk (job .layout) plan)) ≡ sheetOf job plan
 unfolding sheetOfParts sheetOf
 sheet-of-parts job plan = refl
 
 -- so do the values that stand for them
-pub sheet-of-values : (job : JobValue) (plan : PlanValue) (total : ℕ) (picks : PickList) (runs : RunList) → total ≡ planLength (job .layout) (planOf plan) → picksOfValue picks ≡ picksOf (jobOf job) (planOf plan) → runsOfValue runs ≡ runsOf (firstWalk (job .layout) (planOf plan)) → sheetOfValues (job .policy) total plan picks runs ≡ sheetOf (jobOf job) (planOf plan)
+pub sheet-of-values : (job : JobValue) (plan : PlanValue) (total : ℕ) (picks : PickList) (runs : RunList)
+    → total ≡ planLength (job .layout) (planOf plan)
+    → picksOfValue picks ≡ picksOf (jobOf job) (planOf plan)
+    → runsOfValue runs ≡ runsOf (firstWalk (job .layout) (planOf plan))
+    → sheetOfValues (job .policy) total plan picks runs ≡ sheetOf (jobOf job) (planOf plan)
 unfolding sheetOfValues jobOf
 sheet-of-values job plan total picks runs t p r = rw (t, p, r) (sheet-of-parts (jobOf job) (planOf plan))

@@ -66,7 +66,7 @@ module _ {t b m : List ℕ} {r : ℕ} (w : Written t b m r) where
   drop-written = rw (w .bytes, drop-append-seam)
 
   -- what has been written may count as the space at the start
-  pub written-settled : Written t m m r
+  written-settled : Written t m m r
   written-settled = record { count = w .count; bytes = rw drop-written (w .bytes) }
 
   -- more text, written over what has been written
@@ -97,7 +97,7 @@ concat-append f (x ∷ xs) ys = rw (concat-append f xs ys, append-assoc)
 -- texts of a list's elements, one behind the other: what a loop over the list has written
 module _ {A : Type 0} (f : A → List ℕ) (xs : List A) where
   -- the texts of the first i, and of the others
-  pub texts-split : (h : List ℕ) (i : ℕ) → h ++ concatOf f xs ≡ (h ++ concatOf f (take i xs)) ++ concatOf f (drop i xs)
+  texts-split : (h : List ℕ) (i : ℕ) → h ++ concatOf f xs ≡ (h ++ concatOf f (take i xs)) ++ concatOf f (drop i xs)
   texts-split h i = ap (λ (l : List A). h ++ concatOf f l) (sym (take-append-drop i xs)) ∙ rw (concat-append f, append-assoc)
 
   -- one text more
@@ -124,7 +124,8 @@ pub record SoFar {A : Type 0} (f : A → List ℕ) (xs : List A) (h : List ℕ) 
   pub written : Written (h ++ concatOf f (take i xs)) b m at
 
 -- before the first turn only h is written
-pub none-so-far : {A : Type 0} (f : A → List ℕ) (xs : List A) (n : ℕ) {h b m : List ℕ} {r : ℕ} → n ≤ length xs → length (h ++ concatOf f (take n xs)) ≤ length b → Written h b m r → SoFar f xs h n m m r 0
+pub none-so-far : {A : Type 0} (f : A → List ℕ) (xs : List A) (n : ℕ) {h b m : List ℕ} {r : ℕ} → n ≤ length xs
+    → length (h ++ concatOf f (take n xs)) ≤ length b → Written h b m r → SoFar f xs h n m m r 0
 none-so-far f xs n {h} {b} {m} {r} l room w =
     record {
       upto = omega arith;

@@ -12,7 +12,7 @@ use rules::Policy;
 use rules::Run;
 ghost use mathlib.Core.Path.{_≡_};
 ghost use Prim.Native.Nat.{_≤_};
-ghost use lib.ListN.{length};
+ghost use lib.ListN.{length, take};
 ghost use Rattle.rules.specs.JobFile.{header};
 ghost use Rattle.rules.specs.Sheet.{totalText, actionText, passageText, pickText, letterOf, runText};
 ghost use Rattle.sheets.specs.Written.{Written, Sized, policyText};
@@ -27,18 +27,27 @@ pub fn write_header(sheet: &mut [u8], letter: u8, n: usize) -> usize
     write_line(sheet, &word, &numbers)
 }
 
+// A policy word behind a space, with its line feed, in the first bytes.
+fn policy_word(policy: Policy) -> [u8; 11]
+    ensures { λ r. ⌜ take (length (policyText policy)) r ≡ policyText policy ⌝ }
+{
+    match policy {
+        Policy::Exact => *b" EXACT\n    ",
+        Policy::Return => *b" RETURN\n   ",
+        Policy::Traversal => *b" TRAVERSAL\n",
+        Policy::Midpoint => *b" MIDPOINT\n ",
+        Policy::Composite => *b" COMPOSITE\n",
+    }
+}
+
 // Writes a policy word behind a space, and the line feed.
 pub fn write_policy(sheet: &mut [u8], policy: Policy) -> usize
     requires { ⌜ length (policyText policy) ≤ length (now sheet) ⌝ }
     ensures { λ r. ⌜ Written (policyText policy) (now (sheet .entry)) (now (sheet .exit)) r ⌝ }
 {
-    match policy {
-        Policy::Exact => write_word(sheet, b" EXACT\n"),
-        Policy::Return => write_word(sheet, b" RETURN\n"),
-        Policy::Traversal => write_word(sheet, b" TRAVERSAL\n"),
-        Policy::Midpoint => write_word(sheet, b" MIDPOINT\n"),
-        Policy::Composite => write_word(sheet, b" COMPOSITE\n"),
-    }
+    let word = policy_word(policy);
+    let size = policy_size(policy);
+    write_word(sheet, &word[..size])
 }
 
 // Writes the line of the T section: the length and the policy word.
@@ -74,18 +83,26 @@ pub fn write_action(sheet: &mut [u8], action: Action) -> usize
     }
 }
 
+// The bytes of a line of the C section.
+fn passage_word(passage: Passage) -> [u8; 3]
+    ensures { λ r. ⌜ r ≡ passageText passage ⌝ }
+{
+    match passage {
+        Passage::P00 => *b"00\n",
+        Passage::P02 => *b"02\n",
+        Passage::P11 => *b"11\n",
+        Passage::P20 => *b"20\n",
+        Passage::P22 => *b"22\n",
+    }
+}
+
 // Writes a line of the C section.
 pub fn write_passage(sheet: &mut [u8], passage: Passage) -> usize
     requires { ⌜ length (passageText passage) ≤ length (now sheet) ⌝ }
     ensures { λ r. ⌜ Written (passageText passage) (now (sheet .entry)) (now (sheet .exit)) r ⌝ }
 {
-    match passage {
-        Passage::P00 => write_word(sheet, b"00\n"),
-        Passage::P02 => write_word(sheet, b"02\n"),
-        Passage::P11 => write_word(sheet, b"11\n"),
-        Passage::P20 => write_word(sheet, b"20\n"),
-        Passage::P22 => write_word(sheet, b"22\n"),
-    }
+    let word = passage_word(passage);
+    write_word(sheet, &word)
 }
 
 // Writes a line of the P section.

@@ -35,7 +35,7 @@ cellTried job shelf j c =
     && eqb (getD (shelf .quantity) (cellNumber j c) 0) (quantityOf (recordAt (job .stock) (record { aisle = j; height = c })))
 
 -- and so for every cell
-abbrev pub shelfTried : Job → Shelf → Bool
+abbrev shelfTried : Job → Shelf → Bool
 shelfTried job shelf = allOf (λ j. allOf (cellTried job shelf j) (from 1 24)) (from 1 16)
 
 -- then it is the job's

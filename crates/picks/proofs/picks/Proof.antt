@@ -33,16 +33,7 @@ taken-found c =
     rw (← c .before .passes .ensures)
     (⊎-elim (λ w. rw (w .0 .taken) (w .3 ∙ w .2 .ensures)) (λ w. rw (w .0 .left) (w .1)) (c .if1 .came))
 
--- if that is some, there is a line, and it lacks as much
-its-line : (c : tie.Then2 Inv-loop μ-loop) → let d = c .before .before .before .before .before .before in
-    let n = lineHere (d .before .args .t3) (d .loop .j) (d .loop .c) in
-    (1 ≤ n) × (c .before .if1 .taken ≤ getD (d .loop .lacking) (n - 1) noLine .quantity)
-its-line c =
-    let d = c .before .before .before .before .before .before in
-    let a = d .before .args in
-    line-there (a .t3) (a .t4) (d .loop .lacking) (d .loop .j) (d .loop .c) (c .before .if1 .taken) (taken-found (c .before)) (c .if2 .taken)
-
--- then the cell is visited
+-- so the cell is visited
 cell-visited : (c : tie.Joined2 Inv-loop μ-loop) → let d = c .before .before .before .before .before .before in let a = d .before .args in
     Walked (a .lines) (a .cells) (a .t3) (a .t4) (c .if2 .list) (c .if2 .count) (c .if2 .lacking) (d .loop .j) (d .loop .c + 1)
 cell-visited c =
@@ -52,6 +43,15 @@ cell-visited c =
     (λ w. rw (w .4, w .5, w .6, w .2 .ensures, w .3 .ensures) (walked-some (inv .1) (turn .loop-test .taken) (inv .0) (c .before .if1 .taken) (taken-found (c .before)) (w .0 .taken)))
     (λ w. rw (w .1, w .2, w .3) (walked-none (inv .1) (turn .loop-test .taken) (inv .0) (c .before .if1 .taken) (taken-found (c .before)) (w .0 .left)))
     (c .if2 .came)
+
+-- if that is some, there is a line, and it lacks as much
+its-line : (c : tie.Then2 Inv-loop μ-loop) → let d = c .before .before .before .before .before .before in
+    let n = lineHere (d .before .args .t3) (d .loop .j) (d .loop .c) in
+    (1 ≤ n) × (c .before .if1 .taken ≤ getD (d .loop .lacking) (n - 1) noLine .quantity)
+its-line c =
+    let d = c .before .before .before .before .before .before in
+    let a = d .before .args in
+    line-there (a .t3) (a .t4) (d .loop .lacking) (d .loop .j) (d .loop .c) (c .before .if1 .taken) (taken-found (c .before)) (c .if2 .taken)
 
 loop-holds : tie.Need-loop-holds Inv-loop μ-loop
 loop-holds c =

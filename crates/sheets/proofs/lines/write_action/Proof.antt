@@ -25,7 +25,9 @@ slice-aggregate-write-line-2 : tie.Need-slice-aggregate-write-line-2
 slice-aggregate-write-line-2 c = search needs
 
 write-line-requires : tie.Need-write-line-requires
-write-line-requires c κs = rw (line-one (66 ∷ 79 ∷ 84 ∷ 84 ∷ 79 ∷ 77 ∷ []) _) (rw (c .before .before .before .before .action .given .1) at (c .before .before .before .before .before .before .before .pre))
+write-line-requires c κs =
+    rw (line-one (66 ∷ 79 ∷ 84 ∷ 84 ∷ 79 ∷ 77 ∷ []) _)
+    (rw (c .before .before .before .before .action .given .1) at (c .before .before .before .before .before .before .before .pre))
 
 enum-known-action-2 : tie.Need-enum-known-action-2
 enum-known-action-2 c = search needs

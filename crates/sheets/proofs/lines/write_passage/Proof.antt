@@ -1,120 +1,30 @@
--- `sheets::lines::write_passage` meets its contract: each passage has its word.
-use Rattle.rules.specs.Sheet.{passageText}
+-- `sheets::lines::write_passage` meets its contract: the bytes of the passage are written.
+use Rattle.sheets.proofs.Writing.{written-as}
 use borrow.Author.Needs.{needs}
 use Rattle.sheets.proofs.lines.write_passage.Statement.{statement}
 use Rattle.sheets.proofs.lines.write_passage.Tie as tie
 
-enum-told : tie.Need-enum-told
-enum-told c = search needs
+passage-word-requires : tie.Need-passage-word-requires
+passage-word-requires c κs = search needs
 
 slice-aggregate-write-word : tie.Need-slice-aggregate-write-word
 slice-aggregate-write-word c = search needs
 
 write-word-requires : tie.Need-write-word-requires
-unfolding passageText
-write-word-requires c κs = c .before .before .before .before .before .pre
-
-enum-told-2 : tie.Need-enum-told-2
-enum-told-2 c = search needs
-
-slice-aggregate-write-word-2 : tie.Need-slice-aggregate-write-word-2
-slice-aggregate-write-word-2 c = search needs
-
-write-word-requires-2 : tie.Need-write-word-requires-2
-unfolding passageText
-write-word-requires-2 c κs = c .before .before .before .before .before .pre
-
-enum-told-3 : tie.Need-enum-told-3
-enum-told-3 c = search needs
-
-slice-aggregate-write-word-3 : tie.Need-slice-aggregate-write-word-3
-slice-aggregate-write-word-3 c = search needs
-
-write-word-requires-3 : tie.Need-write-word-requires-3
-unfolding passageText
-write-word-requires-3 c κs = c .before .before .before .before .before .pre
-
-enum-told-4 : tie.Need-enum-told-4
-enum-told-4 c = search needs
-
-slice-aggregate-write-word-4 : tie.Need-slice-aggregate-write-word-4
-slice-aggregate-write-word-4 c = search needs
-
-write-word-requires-4 : tie.Need-write-word-requires-4
-unfolding passageText
-write-word-requires-4 c κs = c .before .before .before .before .before .pre
-
-enum-told-5 : tie.Need-enum-told-5
-enum-told-5 c = search needs
-
-slice-aggregate-write-word-5 : tie.Need-slice-aggregate-write-word-5
-slice-aggregate-write-word-5 c = search needs
-
-write-word-requires-5 : tie.Need-write-word-requires-5
-unfolding passageText
-write-word-requires-5 c κs = c .before .before .before .before .before .pre
+write-word-requires c κs = rw (c .before .before .passage-word .ensures) (c .before .before .before .before .pre)
 
 same-length : tie.Need-same-length
 same-length c = search needs
 
 returns : tie.Need-returns
-unfolding passageText
-returns c = rw (c .before .before .before .before .before .enum-told .given .1) (c .before .before .write-word .ensures)
-
-same-length-2 : tie.Need-same-length-2
-same-length-2 c = search needs
-
-returns-2 : tie.Need-returns-2
-unfolding passageText
-returns-2 c = rw (c .before .before .before .before .before .enum-told2 .given .1) (c .before .before .write-word2 .ensures)
-
-same-length-3 : tie.Need-same-length-3
-same-length-3 c = search needs
-
-returns-3 : tie.Need-returns-3
-unfolding passageText
-returns-3 c = rw (c .before .before .before .before .before .enum-told3 .given .1) (c .before .before .write-word3 .ensures)
-
-same-length-4 : tie.Need-same-length-4
-same-length-4 c = search needs
-
-returns-4 : tie.Need-returns-4
-unfolding passageText
-returns-4 c = rw (c .before .before .before .before .before .enum-told4 .given .1) (c .before .before .write-word4 .ensures)
-
-same-length-5 : tie.Need-same-length-5
-same-length-5 c = search needs
-
-returns-5 : tie.Need-returns-5
-unfolding passageText
-returns-5 c = rw (c .before .before .before .before .before .enum-told5 .given .1) (c .before .before .write-word5 .ensures)
+returns c = written-as (c .before .before .before .before .before .passage-word .ensures) (c .before .before .write-word .ensures)
 
 pub write-passage-spec : {M : Type 1} → statement M
 write-passage-spec =
     tie.close
     (tie.spec
-    enum-told
+    passage-word-requires
     slice-aggregate-write-word
     write-word-requires
-    enum-told-2
-    slice-aggregate-write-word-2
-    write-word-requires-2
-    enum-told-3
-    slice-aggregate-write-word-3
-    write-word-requires-3
-    enum-told-4
-    slice-aggregate-write-word-4
-    write-word-requires-4
-    enum-told-5
-    slice-aggregate-write-word-5
-    write-word-requires-5
     same-length
-    returns
-    same-length-2
-    returns-2
-    same-length-3
-    returns-3
-    same-length-4
-    returns-4
-    same-length-5
-    returns-5)
+    returns)

@@ -1,7 +1,7 @@
 -- `sheets::lines::write_pick` meets its contract: the aisle, and the other numbers in the rest of the space.
-use Prim.Native.Nat.{_≤_}
+use Prim.Native.Nat.{ℕ, _≤_}
 use native.Mathlib.Omega.{arith}
-use mathlib.Core.List.{[], _∷_, _++_}
+use mathlib.Core.List.{List, [], _∷_, _++_}
 use lib.ListN.{length}
 use denote.Ref.{now}
 use Rattle.rules.specs.JobFile.{numeral}
@@ -12,15 +12,29 @@ use borrow.Author.Needs.{needs}
 use Rattle.sheets.proofs.lines.write_pick.Statement.{statement}
 use Rattle.sheets.proofs.lines.write_pick.Tie as tie
 
--- there is room for the two parts of the line
-room : (c : tie.Start) → length (numeral (c .args .pick .aisle) ++ numbersText (c .args .pick .cell ∷ c .args .pick .article ∷ c .args .pick .quantity ∷ [])) ≤ length (now (c .args .sheet))
+-- the two parts of the line
+abbrev aisle : tie.Start → List ℕ
+aisle c = numeral (c .args .pick .aisle)
+
+abbrev others : tie.Start → List ℕ
+others c = numbersText (c .args .pick .cell ∷ c .args .pick .article ∷ c .args .pick .quantity ∷ [])
+
+-- there is room for both, and so for the first
+room : (c : tie.Start) → length (aisle c ++ others c) ≤ length (now (c .args .sheet))
 room c = rw (pick-line (c .args .pick)) (c .pre)
 
+aisle-room : (c : tie.Start) → length (aisle c) ≤ length (now (c .args .sheet))
+aisle-room c = first-room (aisle c) (others c) (room c)
+
+-- the start, seen from behind the aisle
+abbrev start : tie.After-slice-known2 → tie.Start
+start c = c .before .before .before .before .before
+
 write-number-requires : tie.Need-write-number-requires
-write-number-requires c κs = first-room (numeral (c .before .before .args .pick .aisle)) (numbersText (c .before .before .args .pick .cell ∷ c .before .before .args .pick .article ∷ c .before .before .args .pick .quantity ∷ [])) (room (c .before .before))
+write-number-requires c κs = aisle-room (c .before .before)
 
 sub-write-numbers : tie.Need-sub-write-numbers
-sub-write-numbers c = written-within (c .before .before .write-number .ensures) (first-room (numeral (c .before .before .before .before .before .args .pick .aisle)) (numbersText (c .before .before .before .before .before .args .pick .cell ∷ c .before .before .before .before .before .args .pick .article ∷ c .before .before .before .before .before .args .pick .quantity ∷ [])) (room (c .before .before .before .before .before)))
+sub-write-numbers c = written-within (c .before .before .write-number .ensures) (aisle-room (start c))
 
 part-write-numbers-start : tie.Need-part-write-numbers-start
 part-write-numbers-start c = sub-write-numbers c
@@ -32,13 +46,19 @@ slice-aggregate-write-numbers : tie.Need-slice-aggregate-write-numbers
 slice-aggregate-write-numbers c = search needs
 
 write-numbers-requires : tie.Need-write-numbers-requires
-write-numbers-requires c κs = rest-room (c .before .before .before .before .write-number .ensures) (numbersText (c .before .before .before .before .before .before .before .args .pick .cell ∷ c .before .before .before .before .before .before .before .args .pick .article ∷ c .before .before .before .before .before .before .before .args .pick .quantity ∷ [])) (room (c .before .before .before .before .before .before .before))
+write-numbers-requires c κs =
+    let first = c .before .before in
+    rest-room (first .before .before .write-number .ensures) (others (start first)) (room (start first))
 
 returns : tie.Need-returns
-returns c = written-as (pick-line (c .before .before .before .before .before .before .before .before .before .before .args .pick)) (written-rest (c .before .before .before .before .before .before .before .write-number .ensures) (numbersText (c .before .before .before .before .before .before .before .before .before .before .args .pick .cell ∷ c .before .before .before .before .before .before .before .before .before .before .args .pick .article ∷ c .before .before .before .before .before .before .before .before .before .before .args .pick .quantity ∷ [])) (room (c .before .before .before .before .before .before .before .before .before .before)) (c .before .before .write-numbers .ensures))
+returns c =
+    let first = c .before .before .before .before .before in
+    let number = first .before .before .write-number in
+    written-as (pick-line (start first .args .pick))
+    (written-rest (number .ensures) (others (start first)) (room (start first)) (c .before .before .write-numbers .ensures))
 
 add-result : tie.Need-add-result
-add-result c = omega (arith, returns c .count, c .before .before .before .before .before .before .before .before .before .before .pre)
+add-result c = omega (arith, returns c .count, start (c .before .before .before .before .before) .pre)
 
 same-length : tie.Need-same-length
 same-length c = search needs

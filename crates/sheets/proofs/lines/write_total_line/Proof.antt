@@ -12,15 +12,22 @@ use borrow.Author.Needs.{needs}
 use Rattle.sheets.proofs.lines.write_total_line.Statement.{statement}
 use Rattle.sheets.proofs.lines.write_total_line.Tie as tie
 
--- there is room for the two parts of the line
+-- there is room for the two parts of the line, and so for the first
 room : (c : tie.Start) → length (numeral (c .args .total) ++ policyText (c .args .policy)) ≤ length (now (c .args .sheet))
 room c = rw (total-line (c .args .total) (c .args .policy)) (c .pre)
 
+number-room : (c : tie.Start) → length (numeral (c .args .total)) ≤ length (now (c .args .sheet))
+number-room c = first-room (numeral (c .args .total)) (policyText (c .args .policy)) (room c)
+
+-- the start, seen from behind the number
+abbrev start : tie.After-slice-known2 → tie.Start
+start c = c .before .before .before .before .before
+
 write-number-requires : tie.Need-write-number-requires
-write-number-requires c κs = first-room (numeral (c .before .before .args .total)) (policyText (c .before .before .args .policy)) (room (c .before .before))
+write-number-requires c κs = number-room (c .before .before)
 
 sub-write-policy : tie.Need-sub-write-policy
-sub-write-policy c = written-within (c .before .before .write-number .ensures) (first-room (numeral (c .before .before .before .before .before .args .total)) (policyText (c .before .before .before .before .before .args .policy)) (room (c .before .before .before .before .before)))
+sub-write-policy c = written-within (c .before .before .write-number .ensures) (number-room (start c))
 
 part-write-policy-start : tie.Need-part-write-policy-start
 part-write-policy-start c = sub-write-policy c
@@ -29,13 +36,20 @@ part-write-policy-end : tie.Need-part-write-policy-end
 part-write-policy-end c = search needs
 
 write-policy-requires : tie.Need-write-policy-requires
-write-policy-requires c κs = rest-room (c .before .before .before .write-number .ensures) (policyText (c .before .before .before .before .before .before .args .policy)) (room (c .before .before .before .before .before .before))
+write-policy-requires c κs =
+    let first = c .before in
+    rest-room (first .before .before .write-number .ensures) (policyText (start first .args .policy)) (room (start first))
 
 returns : tie.Need-returns
-returns c = written-as (total-line (c .before .before .before .before .before .before .before .before .before .args .total) (c .before .before .before .before .before .before .before .before .before .args .policy)) (written-rest (c .before .before .before .before .before .before .write-number .ensures) (policyText (c .before .before .before .before .before .before .before .before .before .args .policy)) (room (c .before .before .before .before .before .before .before .before .before)) (c .before .before .write-policy .ensures))
+returns c =
+    let first = c .before .before .before .before in
+    let x = start first .args in
+    let number = first .before .before .write-number in
+    written-as (total-line (x .total) (x .policy))
+    (written-rest (number .ensures) (policyText (x .policy)) (room (start first)) (c .before .before .write-policy .ensures))
 
 add-result : tie.Need-add-result
-add-result c = omega (arith, returns c .count, c .before .before .before .before .before .before .before .before .before .pre)
+add-result c = omega (arith, returns c .count, start (c .before .before .before .before) .pre)
 
 same-length : tie.Need-same-length
 same-length c = search needs

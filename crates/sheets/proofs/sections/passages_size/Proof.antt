@@ -21,7 +21,8 @@ add-result c = search needs
 returns : tie.Need-returns
 returns c =
     let c₀ = c .before .before in
-    omega (arith, passages-length (c₀ .args .plan) (omega (arith, c₀ .pre .1, simp length-map at (c₀ .good .0 .1 .1 .1 .0 .1 .0 .1))), c .header-size .ensures .count, c .header-size .ensures .bound, c₀ .pre)
+    let count = passages-length (c₀ .args .plan) (omega (arith, c₀ .pre .1, simp length-map at (c₀ .good .0 .1 .1 .1 .0 .1 .0 .1))) in
+    omega (arith, count, c .header-size .ensures .count, c .header-size .ensures .bound, c₀ .pre)
 
 pub passages-size-spec : {M : Type 1} → statement M
 passages-size-spec =

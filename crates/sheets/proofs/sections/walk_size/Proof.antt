@@ -51,7 +51,9 @@ loop-less c = omega arith
 returns : tie.Need-returns Inv-loop μ-loop
 returns c =
     let c₀ = c .before .before .before .before in
-    rw (runs-text (c₀ .args .list) (enough c₀)) (record { count = all-counted (c .before .loop .inv) (c .loop-test .left); bound = omega (arith, c .before .loop .inv .bound, c .before .loop .inv .upto, c₀ .pre) })
+    let inv = c .before .loop .inv in
+    rw (runs-text (c₀ .args .list) (enough c₀))
+    (record { count = all-counted inv (c .loop-test .left); bound = omega (arith, inv .bound, inv .upto, c₀ .pre) })
 
 pub walk-size-spec : {M : Type 1} → statement M
 walk-size-spec =

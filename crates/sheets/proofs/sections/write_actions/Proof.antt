@@ -64,7 +64,9 @@ write-action-requires : tie.Need-write-action-requires Inv-loop μ-loop
 write-action-requires c κs = turn-room (c .before .before .before .loop .inv) _ (c .before .before .loop-test .taken)
 
 add-at : tie.Need-add-at Inv-loop μ-loop
-add-at c = omega (arith, turn-within (c .before .before .before .before .before .before .loop .inv) _ (c .before .before .before .before .before .loop-test .taken) (c .before .before .write-action .ensures))
+add-at c =
+    let turn = c .before .before .before .before .before in
+    omega (arith, turn-within (turn .before .loop .inv) _ (turn .loop-test .taken) (c .before .before .write-action .ensures))
 
 add-i : tie.Need-add-i Inv-loop μ-loop
 add-i c = omega arith

@@ -32,7 +32,8 @@ enough : (c : tie.Start Inv-loop μ-loop) → c .args .plan .aisles - 1 ≤ leng
 enough c = omega (arith, c .pre .1, simp length-map at (c .good .1 .0 .1 .1 .1 .0 .1 .0 .1))
 
 -- the section has room
-room : (c : tie.Start Inv-loop μ-loop) → length (header letterC (c .args .plan .aisles - 1) ++ concatOf textOf (take (c .args .plan .aisles - 1) (c .args .plan .stages))) ≤ length (now (c .args .sheet))
+room : (c : tie.Start Inv-loop μ-loop)
+    → length (header letterC (c .args .plan .aisles - 1) ++ concatOf textOf (take (c .args .plan .aisles - 1) (c .args .plan .stages))) ≤ length (now (c .args .sheet))
 room c = rw (passages-text (c .args .plan) (enough c)) at (c .pre .2)
 
 sub-count : tie.Need-sub-count Inv-loop μ-loop
@@ -67,7 +68,9 @@ write-passage-requires : tie.Need-write-passage-requires Inv-loop μ-loop
 write-passage-requires c κs = turn-room (c .before .before .before .loop .inv) _ (c .before .before .loop-test .taken)
 
 add-at : tie.Need-add-at Inv-loop μ-loop
-add-at c = omega (arith, turn-within (c .before .before .before .before .before .before .loop .inv) _ (c .before .before .before .before .before .loop-test .taken) (c .before .before .write-passage .ensures))
+add-at c =
+    let turn = c .before .before .before .before .before in
+    omega (arith, turn-within (turn .before .loop .inv) _ (turn .loop-test .taken) (c .before .before .write-passage .ensures))
 
 add-i : tie.Need-add-i Inv-loop μ-loop
 add-i c = omega arith

@@ -57,7 +57,9 @@ write-pick-requires : tie.Need-write-pick-requires Inv-loop μ-loop
 write-pick-requires c κs = turn-room (c .before .before .before .loop .inv) _ (c .before .before .loop-test .taken)
 
 add-at : tie.Need-add-at Inv-loop μ-loop
-add-at c = omega (arith, turn-within (c .before .before .before .before .before .before .loop .inv) _ (c .before .before .before .before .before .loop-test .taken) (c .before .before .write-pick .ensures))
+add-at c =
+    let turn = c .before .before .before .before .before in
+    omega (arith, turn-within (turn .before .loop .inv) _ (turn .loop-test .taken) (c .before .before .write-pick .ensures))
 
 add-i : tie.Need-add-i Inv-loop μ-loop
 add-i c = omega arith

@@ -1,5 +1,9 @@
 -- `sheets::sections::write_total` meets its contract: the section's first line, and its line in the rest of the space.
+use Prim.Native.Nat.{ℕ, _≤_}
 use native.Mathlib.Omega.{arith}
+use mathlib.Core.List.{List}
+use lib.ListN.{length}
+use denote.Ref.{now}
 use Rattle.rules.specs.JobFile.{header}
 use Rattle.rules.specs.Sheet.{letterT, totalText}
 use Rattle.sheets.proofs.Writing.{first-room, written-within, written-rest, rest-room}
@@ -7,11 +11,34 @@ use borrow.Author.Needs.{needs}
 use Rattle.sheets.proofs.sections.write_total.Statement.{statement}
 use Rattle.sheets.proofs.sections.write_total.Tie as tie
 
+-- the line behind the first one
+abbrev line : tie.Start → List ℕ
+line c = totalText (c .args .total) (c .args .policy)
+
+-- there is room for the first line
+room : (c : tie.Start) → length (header letterT 1) ≤ length (now (c .args .sheet))
+room c = first-room (header letterT 1) (line c) (c .pre)
+
+-- the start, seen from behind the first line
+abbrev start : tie.After-slice-known2 → tie.Start
+start c = c .before .before .before .before .before
+
 write-header-requires : tie.Need-write-header-requires
-write-header-requires c κs = let c₀ = c .before .before in first-room (header letterT 1) (totalText (c₀ .args .total) (c₀ .args .policy)) (c₀ .pre)
+write-header-requires c κs = room (c .before .before)
+
+returns : tie.Need-returns
+returns c =
+    let first = c .before .before .before .before in
+    written-rest (first .before .before .write-header .ensures) (line (start first)) (start first .pre) (c .before .before .write-total-line .ensures)
+
+add-result : tie.Need-add-result
+add-result c = omega (arith, returns c .count, start (c .before .before .before .before) .pre)
+
+same-length : tie.Need-same-length
+same-length c = search needs
 
 sub-write-total-line : tie.Need-sub-write-total-line
-sub-write-total-line c = let c₀ = c .before .before .before .before .before in written-within (c .before .before .write-header .ensures) (first-room (header letterT 1) (totalText (c₀ .args .total) (c₀ .args .policy)) (c₀ .pre))
+sub-write-total-line c = written-within (c .before .before .write-header .ensures) (room (start c))
 
 part-write-total-line-start : tie.Need-part-write-total-line-start
 part-write-total-line-start c = sub-write-total-line c
@@ -20,16 +47,9 @@ part-write-total-line-end : tie.Need-part-write-total-line-end
 part-write-total-line-end c = search needs
 
 write-total-line-requires : tie.Need-write-total-line-requires
-write-total-line-requires c κs = let c₀ = c .before .before .before .before .before .before in rest-room (c .before .before .before .write-header .ensures) (totalText (c₀ .args .total) (c₀ .args .policy)) (c₀ .pre)
-
-returns : tie.Need-returns
-returns c = let c₀ = c .before .before .before .before .before .before .before .before .before in written-rest (c .before .before .before .before .before .before .write-header .ensures) (totalText (c₀ .args .total) (c₀ .args .policy)) (c₀ .pre) (c .before .before .write-total-line .ensures)
-
-add-result : tie.Need-add-result
-add-result c = omega (arith, returns c .count, c .before .before .before .before .before .before .before .before .before .pre)
-
-same-length : tie.Need-same-length
-same-length c = search needs
+write-total-line-requires c κs =
+    let first = c .before in
+    rest-room (first .before .before .write-header .ensures) (line (start first)) (start first .pre)
 
 pub write-total-spec : {M : Type 1} → statement M
 write-total-spec =

@@ -57,7 +57,9 @@ write-run-requires : tie.Need-write-run-requires Inv-loop μ-loop
 write-run-requires c κs = turn-room (c .before .before .before .loop .inv) _ (c .before .before .loop-test .taken)
 
 add-at : tie.Need-add-at Inv-loop μ-loop
-add-at c = omega (arith, turn-within (c .before .before .before .before .before .before .loop .inv) _ (c .before .before .before .before .before .loop-test .taken) (c .before .before .write-run .ensures))
+add-at c =
+    let turn = c .before .before .before .before .before in
+    omega (arith, turn-within (turn .before .loop .inv) _ (turn .loop-test .taken) (c .before .before .write-run .ensures))
 
 add-i : tie.Need-add-i Inv-loop μ-loop
 add-i c = omega arith

@@ -62,7 +62,8 @@ add-sheet-2 : (t : ℕ) → write-number-lts.Need-add-sheet-2 (write-number-belo
 add-sheet-2 t c = omega arith
 
 -- there is room for the last digit behind the others
-last-digit : (t : ℕ) → (c : write-number-lts.After-slice-known2 (write-number-below t, write-number.Post) (write-number-at t) write-number.Post) → length (numeral (c .before .before .before .before .before .before .args .n / 10)) < length (now (c .before .before .before .before .before .before .args .sheet))
+last-digit : (t : ℕ) → (c : write-number-lts.After-slice-known2 (write-number-below t, write-number.Post) (write-number-at t) write-number.Post)
+    → let c₀ = c .before .before .before .before .before .before in length (numeral (c₀ .args .n / 10)) < length (now (c₀ .args .sheet))
 last-digit t c =
     let c₀ = c .before .before .before .before .before .before in
     omega (arith, tenth (c₀ .args .n) (c .before .before .before .before .if1 .left), c₀ .pre .1)

@@ -96,10 +96,12 @@ unfolding spacedText
 loop-again c =
     let d = c .before .before .before .before .before in
     let ns = now (d .before .before .before .before .args .numbers) in
-    (omega arith, rw (add-one (d .before .loop .i), texts-more spacedText ns [] (d .before .loop .i) 0 (d .loop-test .taken)) (rw append-assoc at (written-rest (spaced d) (numeral (number d)) (omega (arith, turn-room d)) (c .before .before .write-number .ensures))))
+    let written = written-rest (spaced d) (numeral (number d)) (omega (arith, turn-room d)) (c .before .before .write-number .ensures) in
+    (omega arith, rw (add-one (d .before .loop .i), texts-more spacedText ns [] (d .before .loop .i) 0 (d .loop-test .taken)) (rw append-assoc at written))
 
 -- there is room for the line feed
-end-room : (c : tie.After-loop Inv-loop μ-loop) → length (concatOf spacedText (take (c .before .loop .i) (now (c .before .before .before .before .args .numbers)))) < length (now (c .before .before .before .before .args .sheet))
+end-room : (c : tie.After-loop Inv-loop μ-loop) → let x = c .before .before .before .before .args in
+    length (concatOf spacedText (take (c .before .loop .i) (now (x .numbers)))) < length (now (x .sheet))
 end-room c =
     let ns = now (c .before .before .before .before .args .numbers) in
     omega (arith, texts-below spacedText ns [] (c .before .loop .i), with-end ns, c .before .before .before .before .pre)

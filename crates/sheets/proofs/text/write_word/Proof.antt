@@ -39,7 +39,9 @@ loop-again : tie.Need-loop-again Inv-loop μ-loop
 loop-again c =
     let at-loop = c .before .before in
     let word = now (at-loop .before .args .word) in
-    (omega arith, rw (add-one (at-loop .loop .i), take-suc word (at-loop .loop .i) 0 (c .before .loop-test .taken)) (rw add-one at (written-byte (at-loop .loop .inv .1) (getD word (at-loop .loop .i) 0) (next-byte (c .before)))))
+    let i = at-loop .loop .i in
+    let written = written-byte (at-loop .loop .inv .1) (getD word i 0) (next-byte (c .before)) in
+    (omega arith, rw (add-one i, take-suc word i 0 (c .before .loop-test .taken)) (rw add-one at written))
 
 same-length : tie.Need-same-length Inv-loop μ-loop
 same-length c = written-length (c .before .loop .inv .1) (rw length-take (omega (arith, c .before .before .pre)))
