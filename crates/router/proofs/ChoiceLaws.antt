@@ -1,7 +1,7 @@
 -- The ways that are compared, and what is chosen, from the parts that the code computes.
-use Prim.Native.Nat.{ℕ, suc, _+_, _*_, _≤_, _<_}
+use Prim.Native.Nat.{ℕ, _+_, _*_, _≤_, _<_}
 use native.Mathlib.Omega.{arith}
-use mathlib.Core.Path.{_≡_, refl, sym, _∙_, ap, ap₂, subst}
+use mathlib.Core.Path.{_≡_, sym, _∙_, ap, ap₂, subst}
 use mathlib.Core.List.{List}
 use mathlib.Core.Option.{some}
 use lib.ListN.{length, getD, take}
@@ -11,7 +11,6 @@ use Rattle.rules.specs.declared.Passage.{Passage}
 use Rattle.rules.specs.declared.Passage.the-variants.{P00}
 use Rattle.rules.specs.Plans.{backTreads, frontTreads}
 use Rattle.rules.specs.BestPlan.{actionsOf, passagesInOrder}
-use Rattle.optimum.specs.Least.{firstAt}
 use Rattle.optimum.specs.Routing.{sat}
 use Rattle.machine.specs.Steps.{passageOf}
 use Rattle.table.specs.declared.candidates.Candidate.{Candidate}
@@ -25,7 +24,7 @@ use Rattle.table.proofs.PassageLaws.{passage-tried, tried-length}
 use Rattle.router.specs.declared.choices.At.{At}
 use Rattle.router.specs.declared.choices.Taken.{Taken}
 use Rattle.router.specs.declared.choices.Crossed.{Crossed}
-use Rattle.router.specs.Choosing.{FirstRank, OfAisle, ActionTaken, PassageTaken, valueAt, stepTo, crossTo, wayOver, wayOn}
+use Rattle.router.specs.Choosing.{FirstRank, Attained, OfAisle, ActionTaken, PassageTaken, valueAt, stepTo, crossTo, wayOver, wayOn}
 use Rattle.router.proofs.FirstRanks.{rank-within}
 
 -- the action of a rank
@@ -67,7 +66,7 @@ module _ (x : Aisle) (after fronts backs : List ℕ) (at : At) where
   -- the action of the first rank is the first action
   pub action-taken : (value k : ℕ) (c : Candidate) (r : Taken)
       → FirstRank (wayOver x after fronts backs at) value (actionsOf (x .layout .cells)) Void k
-      → ((a : Action) × (firstAt (wayOver x after fronts backs at) value (actionsOf (x .layout .cells)) ≡ some a))
+      → Attained (wayOver x after fronts backs at) value (actionsOf (x .layout .cells))
       → c ≡ candidateOf (x .layout .cells) (ranked x k) → r .action ≡ actionOf c → r .at ≡ stepTo x fronts backs at c
       → r .rest ≡ valueAt after (r .at) → ActionTaken x after fronts backs at value r
   action-taken value k c r rank found c-is action-is at-is rest-is =
@@ -85,16 +84,20 @@ module _ (x : Aisle) (next : List ℕ) (at : At) where
   unfolding throughPassage
   way-on p to len rest r to-is len-is rest-is r-is = r-is ∙ ap₂ sat len-is (rest-is ∙ ap (valueAt next) to-is)
 
-  -- the passage of the first rank is the first passage
-  module _ (value p : ℕ) (five : x .tried ≤ 5) (rank : FirstRank (wayOn x next at) value (take (x .tried) passagesInOrder) P00 p) (found : (y : Passage) × (firstAt (wayOn x next at) value (take (x .tried) passagesInOrder) ≡ some y)) where
-    pub passage-below : p < x .tried
-    passage-below =
-        omega (arith, rank-within _ value P00 (take (x .tried) passagesInOrder) p rank found .0, tried-length (x .tried) five)
+-- the passage of the first rank is the first passage
+module _ (x : Aisle) (next : List ℕ) (a : Taken) (p : ℕ) (five : x .tried ≤ 5)
+    (rank : FirstRank (wayOn x next (a .at)) (a .rest) (take (x .tried) passagesInOrder) P00 p)
+    (found : Attained (wayOn x next (a .at)) (a .rest) (take (x .tried) passagesInOrder)) where
+  pub passage-below : p < x .tried
+  passage-below =
+      omega (arith, rank-within _ (a .rest) P00 (take (x .tried) passagesInOrder) p rank found .0, tried-length (x .tried) five)
 
-    pub passage-taken : (r : Crossed) → r .passage ≡ passageOf p → r .at ≡ crossTo x at (passageOf p) → PassageTaken x next at value r
-    passage-taken r passage-is at-is =
-        let passage : getD (take (x .tried) passagesInOrder) p P00 ≡ r .passage = passage-tried (x .tried) p passage-below five ∙ sym passage-is in
-        record {
-          first = rank-within _ value P00 (take (x .tried) passagesInOrder) p rank found .1 ∙ ap some passage;
-          leads = at-is ∙ ap (crossTo x at) (sym passage-is);
-        }
+  pub passage-taken : (r : Crossed) → r .stage .action ≡ a .action → r .stage .passage ≡ passageOf p → r .at ≡ crossTo x (a .at) (passageOf p)
+      → PassageTaken x next a r
+  passage-taken r action-is passage-is at-is =
+      let passage = passage-tried (x .tried) p passage-below five ∙ sym passage-is in
+      record {
+        behind = action-is;
+        first = rank-within _ (a .rest) P00 (take (x .tried) passagesInOrder) p rank found .1 ∙ ap some passage;
+        leads = at-is ∙ ap (crossTo x (a .at)) (sym passage-is);
+      }

@@ -3,7 +3,7 @@ use Prim.Native.Nat.{ℕ, zero, suc, _≤_, _<_}
 use native.Mathlib.Omega.{arith}
 use native.Mathlib.Nat.{eq-or-lt-of-le}
 use mathlib.Core.Logic.{⊎-elim}
-use mathlib.Core.Path.{_≡_, refl, sym, subst}
+use mathlib.Core.Path.{_≡_, refl}
 use mathlib.Core.List.{List, [], _∷_, List·Memᴰ, List·Memᴰ·head, List·Memᴰ·tail}
 use mathlib.Core.Bool.{Bool, true, false, cond}
 use mathlib.Core.Option.{none, some}
@@ -12,18 +12,24 @@ use borrow.Author.Tests.{eq-eqb, ne-eqb}
 use lib.ListN.{length, getD}
 use Rattle.rules.specs.Lists.{firstOf}
 use Rattle.optimum.specs.Least.{firstAt}
-use Rattle.router.specs.Choosing.{FirstRank}
+use Rattle.router.specs.Choosing.{FirstRank, Attained}
 
 -- nothing before rank k has the value
-abbrev pub NoneBefore : {A : Type 0} → (A → ℕ) → ℕ → List A → A → ℕ → Type 0
+abbrev NoneBefore : {A : Type 0} → (A → ℕ) → ℕ → List A → A → ℕ → Type 0
 NoneBefore f v xs d k = (i : ℕ) → i < k → f (getD xs i d) ≡ v → ⊥
 
-module _ {A : Type 0} (f : A → ℕ) (v : ℕ) (d : A) (xs : List A) (k : ℕ) (before : NoneBefore f v xs d k) where
-  pub rank-found : k < length xs → f (getD xs k d) ≡ v → FirstRank f v xs d k
-  rank-found h e = record { within = omega arith; before = before; attained = λ l. e }
+-- nothing from rank a on and before rank k has it
+abbrev pub NoneFrom : {A : Type 0} → (A → ℕ) → ℕ → List A → A → ℕ → ℕ → Type 0
+NoneFrom f v xs d a k = (i : ℕ) → i < k → a ≤ i → f (getD xs i d) ≡ v → ⊥
 
-  pub rank-none : k ≡ length xs → FirstRank f v xs d k
-  rank-none e = record { within = omega arith; before = before; attained = λ l. absurd (omega arith) }
+-- a search from the first rank on: it ends where the value is found, or behind the last
+module _ {A : Type 0} (f : A → ℕ) (v : ℕ) (d : A) (xs : List A) (k : ℕ) (none-yet : NoneFrom f v xs d 0 k) where
+  pub rank-found : k < length xs → f (getD xs k d) ≡ v → FirstRank f v xs d k
+  rank-found h e = record { within = omega arith; before = λ i l. none-yet i l (omega arith); attained = λ l. e }
+
+  pub rank-none : (n : ℕ) → n ≡ length xs → n ≤ k → FirstRank f v xs d n
+  rank-none n e h =
+      record { within = omega arith; before = λ i l. none-yet i (omega arith) (omega arith); attained = λ l. absurd (omega arith) }
 
 module _ {A : Type 0} (f : A → ℕ) (v : ℕ) (d : A) where
   -- a rank that attains the value is that of the first element found
@@ -41,7 +47,7 @@ module _ {A : Type 0} (f : A → ℕ) (v : ℕ) (d : A) where
       rw (ne-eqb (f x) v (before 0 (omega arith))) (none-found xs (λ i l. before (suc i) (omega arith)))
 
   -- where something attains the value, the first rank is that of what is found
-  pub rank-within : (xs : List A) (k : ℕ) → FirstRank f v xs d k → ((y : A) × (firstAt f v xs ≡ some y))
+  pub rank-within : (xs : List A) (k : ℕ) → FirstRank f v xs d k → Attained f v xs
       → (k < length xs) × (firstAt f v xs ≡ some (getD xs k d))
   rank-within xs k r found = ⊎-elim past here (eq-or-lt-of-le (r .within))
     where

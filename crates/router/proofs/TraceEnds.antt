@@ -1,32 +1,28 @@
 -- Where the trace starts, and what it comes to.
-use Prim.Native.Nat.{ℕ, zero, suc, _+_, _-_, _≤_, _<_}
+use Prim.Native.Nat.{ℕ, zero, suc, _+_, _-_, _≤_}
 use native.Mathlib.Omega.{arith}
 use mathlib.Core.Path.{_≡_, refl, sym, _∙_, ap, ap₂, subst}
 use mathlib.Core.List.{List, [], _∷_, _++_, map, append-nil, tail}
-use mathlib.Core.Bool.{true}
-use mathlib.Core.Option.{Option, none, some}
+use mathlib.Core.Option.{Option, some}
 use lib.ListN.{length, take}
 use lib.Seq.{take-take}
 use Rattle.rules.specs.declared.Action.{Action}
 use Rattle.rules.specs.declared.Passage.{Passage}
-use Rattle.rules.specs.declared.Passage.the-variants.{P00}
-use Rattle.rules.specs.Lists.{headOr}
 use Rattle.rules.specs.Jobs.{Job}
-use Rattle.rules.specs.Plans.{Plan, WellFormed, planLength}
+use Rattle.rules.specs.Plans.{WellFormed, planLength}
 use Rattle.rules.specs.Refusals.{Admitted, weight}
-use Rattle.rules.specs.BestPlan.{bestPlan, servingPlans}
+use Rattle.rules.specs.BestPlan.{bestPlan}
 use Rattle.rules.specs.Machine.{nothing}
 use Rattle.rules.proofs.Lists.{map-map}
 use Rattle.rules.proofs.Enumeration.{serving-plans}
 use Rattle.rules.proofs.Lengths.{plan-length-49920}
 use Rattle.tours.proofs.Existence.{serving-exists}
-use Rattle.optimum.specs.Table.{Rest, value, choose}
-use Rattle.optimum.specs.Demand.{radices, demandOf, codeOf, wholeDemand}
+use Rattle.optimum.specs.Table.{Rest, value}
+use Rattle.optimum.specs.Demand.{radices, demandOf, wholeDemand}
 use Rattle.optimum.specs.Routing.{routing, allActions, pairUp, restOf}
 use Rattle.optimum.proofs.Optimum.{tableValue, tableChoice, best-allowed, table-length, table-plan}
 use Rattle.optimum.proofs.Radix.{demand-of-code, whole-within}
 use Rattle.values.specs.declared.Stage.{Stage}
-use Rattle.values.specs.declared.PlanValue.{PlanValue}
 use Rattle.values.specs.Values.{planOf}
 use Rattle.router.specs.declared.trace.Trace.{Trace}
 use Rattle.router.specs.Tracing.{stagesRest, Traced}

@@ -1,7 +1,7 @@
 -- One more aisle of the best plan is read out of the table.
-use Prim.Native.Nat.{ℕ, suc, _-_, _≤_, _<_}
+use Prim.Native.Nat.{ℕ, suc, _-_, _<_}
 use native.Mathlib.Omega.{arith}
-use mathlib.Core.Path.{_≡_, refl, sym, _∙_, ap, ap₂, subst, subst₂}
+use mathlib.Core.Path.{_≡_, refl, sym, _∙_, ap, ap₂, subst}
 use mathlib.Core.List.{List, [], _∷_, _++_, map, append-assoc}
 use mathlib.Core.Option.{Option, none, some}
 use lib.ListN.{length, take, set, length-set}
@@ -17,7 +17,7 @@ use Rattle.rules.specs.Machine.{State, nothing, closed, atFront, atBack, odd, j
 use Rattle.rules.proofs.Lists.{map-append}
 use Rattle.rules.proofs.Enumeration.{actions-sound}
 use Rattle.optimum.specs.Least.{sumUpTo, firstAt}
-use Rattle.optimum.specs.Table.{Problem, Rest, passagesBehind, onFrom, overPassage, afterAction, overAction, value, firstPassage, firstAction, choose}
+use Rattle.optimum.specs.Table.{Problem, Rest, passagesBehind, onFrom, overPassage, overAction, value, firstPassage, firstAction, choose}
 use Rattle.optimum.specs.Demand.{gains, less, radices, demandOf, lessCode}
 use Rattle.optimum.specs.Routing.{noTour, sat, routing, allActions}
 use Rattle.optimum.proofs.Choice.{first-agree, first-at-cong, first-at-holds}
@@ -30,7 +30,7 @@ use Rattle.table.specs.declared.layers.Aisle.{Aisle}
 use Rattle.table.specs.Candidates.{candidateOf}
 use Rattle.table.specs.Rows.{nextAt}
 use Rattle.table.specs.Crossings.{AfterFilled}
-use Rattle.table.specs.TableHolds.{aisleOf, triedAt, values, AfterHolds}
+use Rattle.table.specs.TableHolds.{aisleOf, values, AfterHolds}
 use Rattle.table.proofs.Geometry.{within}
 use Rattle.table.proofs.StepLaws.{cross-of, step-code}
 use Rattle.table.proofs.PassageLaws.{state-small}
@@ -39,8 +39,8 @@ use Rattle.router.specs.declared.choices.At.{At}
 use Rattle.router.specs.declared.choices.Taken.{Taken}
 use Rattle.router.specs.declared.choices.Crossed.{Crossed}
 use Rattle.router.specs.declared.trace.Trace.{Trace}
-use Rattle.router.specs.Choosing.{ActionTaken, PassageTaken, valueAt, stepTo, wayOver, wayOn}
-use Rattle.router.specs.Tracing.{stagesRest, stateAt, demandAt, restFrom, Traced, TraceAsked}
+use Rattle.router.specs.Choosing.{Attained, ActionTaken, PassageTaken, stepTo, wayOver, wayOn}
+use Rattle.router.specs.Tracing.{stagesRest, withStage, stateAt, demandAt, restFrom, Traced, TraceAsked}
 use Rattle.router.proofs.FirstRanks.{first-member}
 
 -- a way on that leads somewhere started from something found
@@ -229,8 +229,8 @@ module _ {job : Job} {n here : ℕ} {t : Trace} {next after fronts backs : List 
         ∙ ap₂ (firstPassage (table job n) (left job n) (suc n)) (b .state-is) (b .demand-is)
         ∙ led-here .passage-first
 
-    module _ {p : Crossed} (crossed : PassageTaken aisle next (r .at) (r .rest) p) where
-      same-passage : p .passage ≡ led-here .passage
+    module _ {p : Crossed} (crossed : PassageTaken aisle next r p) where
+      same-passage : p .stage .passage ≡ led-here .passage
       same-passage = some-same (sym (crossed .first) ∙ first-passage)
 
       -- the state behind the passage
@@ -241,7 +241,7 @@ module _ {job : Job} {n here : ℕ} {t : Trace} {next after fronts backs : List 
       unfolding aisleOf
       state-number =
           ap (λ (x : At). x .state) (crossed .leads)
-          ∙ ap stateCode (cross-of job (suc n) (p .passage) (stateAt (r .at)) ∙ ap₂ (passageStep job (suc n)) same-passage (behind-taken .state-is))
+          ∙ ap stateCode (cross-of job (suc n) (p .stage .passage) (stateAt (r .at)) ∙ ap₂ (passageStep job (suc n)) same-passage (behind-taken .state-is))
 
       demand-number : demandAt job (p .at) ≡ demandAfter job n (t .at) (led-here .action)
       demand-number = ap (λ (x : At). demandAt job x) (crossed .leads) ∙ behind-taken .demand-is
@@ -257,18 +257,14 @@ module _ {job : Job} {n here : ℕ} {t : Trace} {next after fronts backs : List 
           let behind = part-below (actionLength (job .layout) (l .action)) here _ (action ∙ sym value-is) finite in
           part-below (passageLength (job .layout) (l .passage)) _ _ passage behind
 
-      -- the trace with the stage of the aisle
-      abbrev further : Trace
-      further = record { stages = set (t .stages) n (record { action = r .action; passage = p .passage }); at = p .at }
-
-      rest-whole : stagesRest (further .stages) (suc n) ++ led-here .others ≡ stagesRest (t .stages) n ++ asked .traced .rest
+      rest-whole : stagesRest (withStage t n p .stages) (suc n) ++ led-here .others ≡ stagesRest (t .stages) n ++ asked .traced .rest
       rest-whole =
-          ap (λ xs. xs ++ led-here .others) (stages-more (t .stages) n _ (omega (arith, asked .traced .sized, few)))
+          ap (λ xs. xs ++ led-here .others) (stages-more (t .stages) n (p .stage) (omega (arith, asked .traced .sized, few)))
           ∙ append-assoc (stagesRest (t .stages) n) _ (led-here .others)
-          ∙ ap₂ (λ x y. stagesRest (t .stages) n ++ ((x, y) ∷ led-here .others)) same-action same-passage
+          ∙ ap₂ (λ x y. stagesRest (t .stages) n ++ ((x, y) ∷ led-here .others)) (crossed .behind ∙ same-action) same-passage
           ∙ ap (λ xs. stagesRest (t .stages) n ++ xs) (led-here .parts)
 
-      trace-further : Traced job (suc n) further
+      trace-further : Traced job (suc n) (withStage t n p)
       trace-further =
           let more = asked .more in
           let state = ap stateOf state-number ∙ state-of-code state-past in
@@ -289,7 +285,7 @@ module _ {job : Job} {n here : ℕ} {x : Aisle} {t : Trace} {next after fronts b
   in-words = rw (h .numbers) at h
 
   -- some action attains the value here
-  pub action-there : (a : Action) × (firstAt (wayOver x after fronts backs (t .at)) here (actionsOf (x .layout .cells)) ≡ some a)
+  pub action-there : Attained (wayOver x after fronts backs (t .at)) here (actionsOf (x .layout .cells))
   action-there = rw (h .numbers) (led-here in-words asked .action, first-action in-words asked)
 
   module _ {r : Taken} (taken : ActionTaken x after fronts backs (t .at) here r) where
@@ -301,10 +297,9 @@ module _ {job : Job} {n here : ℕ} {x : Aisle} {t : Trace} {next after fronts b
     taken-lands = let b = behind-taken in-words asked taken-here in (b .state-low, b .demand-low)
 
     -- some passage attains what follows
-    pub passage-there : (p : Passage) × (firstAt (wayOn x next (r .at)) (r .rest) (take (x .tried) passagesInOrder) ≡ some p)
+    pub passage-there : Attained (wayOn x next (r .at)) (r .rest) (take (x .tried) passagesInOrder)
     passage-there = rw (h .numbers) (led-here in-words asked .passage, first-passage in-words asked taken-here)
 
     -- the trace goes on
-    pub trace-next : {p : Crossed} → PassageTaken x next (r .at) (r .rest) p
-        → Traced job (suc n) (record { stages = set (t .stages) n (record { action = r .action; passage = p .passage }); at = p .at })
+    pub trace-next : {p : Crossed} → PassageTaken x next r p → Traced job (suc n) (withStage t n p)
     trace-next crossed = trace-further in-words asked taken-here (rw (h .numbers) at crossed)

@@ -26,6 +26,10 @@ pub record FirstRank {A : Type 0} (f : A → ℕ) (v : ℕ) (xs : List A) (d : A
   pub before : (k : ℕ) → k < r → f (getD xs k d) ≡ v → ⊥
   pub attained : r < length xs → f (getD xs r d) ≡ v
 
+-- some element attains the value
+abbrev pub Attained : {A : Type 0} → (A → ℕ) → ℕ → List A → Type 0
+Attained {A = A} f v xs = (x : A) × (firstAt f v xs ≡ some x)
+
 -- what a row holds for a state and a demand; 'none' for the dead state
 abbrev pub valueAt : List ℕ → At → ℕ
 valueAt row at = nextAt row (at .state) (at .demand)
@@ -64,7 +68,8 @@ pub record ActionTaken (x : Aisle) (after fronts backs : List ℕ) (at : At) (va
   pub leads : r .at ≡ stepTo x fronts backs at (candidateOf (x .layout .cells) (r .action))
   pub rest : r .rest ≡ valueAt after (r .at)
 
--- the first passage that attains a value, and where it leads
-pub record PassageTaken (x : Aisle) (next : List ℕ) (at : At) (value : ℕ) (r : Crossed) : Type 0 where
-  pub first : firstAt (wayOn x next at) value (take (x .tried) passagesInOrder) ≡ some (r .passage)
-  pub leads : r .at ≡ crossTo x at (r .passage)
+-- the first passage that attains what follows an action, the stage of the two, and where it leads
+pub record PassageTaken (x : Aisle) (next : List ℕ) (a : Taken) (r : Crossed) : Type 0 where
+  pub behind : r .stage .action ≡ a .action
+  pub first : firstAt (wayOn x next (a .at)) (a .rest) (take (x .tried) passagesInOrder) ≡ some (r .stage .passage)
+  pub leads : r .at ≡ crossTo x (a .at) (r .stage .passage)

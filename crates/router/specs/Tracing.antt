@@ -3,23 +3,28 @@ use Prim.Native.Nat.{ℕ, suc, _-_, _≤_, _<_}
 use mathlib.Core.Path.{_≡_}
 use mathlib.Core.List.{List, _++_, map}
 use mathlib.Core.Option.{Option, some}
-use lib.ListN.{length, take}
+use lib.ListN.{length, take, set}
 use Rattle.rules.specs.Jobs.{Job}
 use Rattle.rules.specs.Machine.{State}
 use Rattle.rules.specs.Refusals.{weight}
 use Rattle.rules.specs.BestPlan.{bestPlan}
-use Rattle.optimum.specs.Table.{Problem, Rest, value, choose}
+use Rattle.optimum.specs.Table.{Rest, value, choose}
 use Rattle.optimum.specs.Demand.{radices, demandOf}
 use Rattle.optimum.specs.Routing.{noTour, routing, allActions, restOf}
 use Rattle.values.specs.declared.Stage.{Stage}
 use Rattle.machine.specs.States.{stateOf}
 use Rattle.table.specs.TableHolds.{RowHolds}
 use Rattle.router.specs.declared.choices.At.{At}
+use Rattle.router.specs.declared.choices.Crossed.{Crossed}
 use Rattle.router.specs.declared.trace.Trace.{Trace}
 
 -- the first n stages as a rest
 unfoldable pub stagesRest : List Stage → ℕ → Rest
 stagesRest stages n = map (λ (s : Stage). (s .action, s .passage)) (take n stages)
+
+-- a trace with the stage of the aisle behind the n that are seen
+abbrev pub withStage : Trace → ℕ → Crossed → Trace
+withStage t n p = record { stages = set (t .stages) n (p .stage); at = p .at }
 
 -- the state and the demand where a trace stands
 abbrev pub stateAt : At → State

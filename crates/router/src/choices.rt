@@ -7,26 +7,22 @@ use demand::digits::wide;
 use machine::action_step;
 use machine::passage_step;
 use rules::Action;
-use rules::Passage;
 use table::candidates::Candidate;
 use table::candidates::action_length;
 use table::candidates::keeps_halves;
 use table::layers::Aisle;
 use table::passages::passage_length;
+use values::Stage;
 ghost use Prim.Native.Nat.{_*_, _+_, _<_, _≤_};
 ghost use Rattle.machine.specs.Steps.{passageOf};
-ghost use Rattle.optimum.specs.Least.{firstAt};
 ghost use Rattle.optimum.specs.Routing.{sat};
-ghost use Rattle.router.specs.Choosing.{ActionAsked, ActionTaken, FirstRank, OfAisle, PassageTaken, crossTo, stepTo, valueAt, wayOn, wayOver};
+ghost use Rattle.router.specs.Choosing.{ActionAsked, ActionTaken, Attained, FirstRank, OfAisle, PassageTaken, crossTo, stepTo, valueAt, wayOn, wayOver};
 ghost use Rattle.rules.specs.BestPlan.{actionsOf, passagesInOrder};
 ghost use Rattle.rules.specs.declared.Action.the-variants.{Void};
-ghost use Rattle.rules.specs.declared.Action.{Action};
 ghost use Rattle.rules.specs.declared.Passage.the-variants.{P00};
-ghost use Rattle.rules.specs.declared.Passage.{Passage};
 ghost use Rattle.table.specs.Layers.{AisleReady};
 ghost use Rattle.table.specs.Crossings.{InRange, NextReady};
 ghost use lib.ListN.{getD, length, take};
-ghost use mathlib.Core.Option.{some};
 ghost use mathlib.Core.Path.{_≡_};
 
 // Where a trace stands: the number of the state, and that of the demand that is open.
@@ -42,9 +38,9 @@ pub struct Taken {
     pub rest: usize,
 }
 
-// A passage that is chosen, and where it leads.
+// The stage of an aisle whose passage is chosen too, and where that leads.
 pub struct Crossed {
-    pub passage: Passage,
+    pub stage: Stage,
     pub at: At,
 }
 
@@ -129,7 +125,7 @@ pub fn take_action<'a>(
     at: At,
     value: usize,
 ) -> Taken
-    requires { ⌜ ActionAsked x (now after) (now fronts) (now backs) at × ((a : Action) × (firstAt (wayOver x (now after) (now fronts) (now backs) at) value (actionsOf (x .layout .cells)) ≡ some a)) ⌝ }
+    requires { ⌜ ActionAsked x (now after) (now fronts) (now backs) at × Attained (wayOver x (now after) (now fronts) (now backs) at) value (actionsOf (x .layout .cells)) ⌝ }
     ensures { λ r. ⌜ ActionTaken x (now (after .entry)) (now (fronts .entry)) (now (backs .entry)) at value r ⌝ }
 {
     let cells = x.layout.cells;
@@ -180,13 +176,16 @@ fn choose_passage(next: &[u16], x: Aisle, at: At, value: usize) -> usize
     tried
 }
 
-// The first passage over which the way on has that value, which some passage has.
-pub fn take_passage(next: &[u16], x: Aisle, at: At, value: usize) -> Crossed
-    requires { ⌜ NextReady x (now next) (at .state) (at .demand) × ((p : Passage) × (firstAt (wayOn x (now next) at) value (take (x .tried) passagesInOrder) ≡ some p)) ⌝ }
-    ensures { λ r. ⌜ PassageTaken x (now (next .entry)) at value r ⌝ }
+// The first passage over which the way on behind an action has the least length, and the stage that the two make.
+pub fn take_passage(next: &[u16], x: Aisle, a: Taken) -> Crossed
+    requires { ⌜ NextReady x (now next) (a .at .state) (a .at .demand) × Attained (wayOn x (now next) (a .at)) (a .rest) (take (x .tried) passagesInOrder) ⌝ }
+    ensures { λ r. ⌜ PassageTaken x (now (next .entry)) a r ⌝ }
 {
-    let p = choose_passage(next, x, at, value);
+    let at = a.at;
+    let action = a.action;
+    let p = choose_passage(next, x, at, a.rest);
     let to = cross_to(x, at, p);
     let passage = passage_of(p);
-    Crossed { passage, at: to }
+    let stage = Stage { action, passage };
+    Crossed { stage, at: to }
 }

@@ -1,5 +1,6 @@
 // The plan that the table leads to, aisle by aisle.
 use crate::choices::At;
+use crate::choices::Crossed;
 use crate::choices::take_action;
 use crate::choices::take_passage;
 use crate::choices::value_at;
@@ -14,7 +15,7 @@ use table::rows::NUMBERS;
 use values::PlanValue;
 use values::Stage;
 ghost use Prim.Native.Nat.{_<_, _≤_, suc};
-ghost use Rattle.router.specs.Tracing.{TraceAsked, Traced};
+ghost use Rattle.router.specs.Tracing.{TraceAsked, Traced, withStage};
 ghost use Rattle.rules.specs.BestPlan.{bestPlan};
 ghost use Rattle.rules.specs.Jobs.{Job};
 ghost use Rattle.table.specs.Rows.{numbers, workArea};
@@ -33,6 +34,18 @@ pub struct Trace {
     pub at: At,
 }
 
+// A trace with the stage of the aisle behind the n that are seen.
+fn with_stage(t: Trace, n: usize, p: Crossed) -> Trace
+    requires { ⌜ n < 16 ⌝ }
+    ensures { λ r. ⌜ r ≡ withStage t n p ⌝ }
+{
+    let stage = p.stage;
+    let at = p.at;
+    let mut stages = t.stages;
+    stages[n] = stage;
+    Trace { stages, at }
+}
+
 // The trace over one more aisle, the one behind the n that are seen: out of the next row, and the table's value here.
 fn trace_aisle(next: &[u16], o: Order, n: usize, t: Trace, here: usize) -> Trace
     requires { ⌜ ((job : Job) × OrderOf job o × TraceAsked job n t (now next) here) × (numbers ≤ length (now next)) ⌝ }
@@ -48,14 +61,8 @@ fn trace_aisle(next: &[u16], o: Order, n: usize, t: Trace, here: usize) -> Trace
     fill_after(&mut after, next, x);
     let start = t.at;
     let a = take_action(&after, &fronts, &backs, x, start, here);
-    let mid = a.at;
-    let p = take_passage(next, x, mid, a.rest);
-    let action = a.action;
-    let passage = p.passage;
-    let mut stages = t.stages;
-    stages[n] = Stage { action, passage };
-    let at = p.at;
-    Trace { stages, at }
+    let p = take_passage(next, x, a);
+    with_stage(t, n, p)
 }
 
 // The same out of the work area: the row of the aisle has the value here, and behind the last aisle is the end.

@@ -1,6 +1,6 @@
 -- `router::route` meets its contract: the order is the job's, so what the table and the trace give of any job of the order holds of it.
 use borrow.Author.Needs.{needs}
-use Prim.Native.Nat.{suc, _+_, _*_, _-_, _≤_}
+use Prim.Native.Nat.{suc, _+_, _*_, _-_}
 use native.Mathlib.Omega.{arith}
 use mathlib.Core.Path.{_≡_, _∙_, ap}
 use lib.ListN.{getD, replicate}
@@ -29,16 +29,16 @@ read-plan-requires c κs =
     ((job, order .ensures, filled .ensures .0 job (order .ensures)), omega (arith, start .pre .2, filled .ensures .1))
 
 sub-wide : tie.Need-sub-wide
-sub-wide c = search needs
+sub-wide c = omega arith
 
 mul-wide : tie.Need-mul-wide
-mul-wide c = search needs
+mul-wide c = omega arith
 
 mul-wide-2 : tie.Need-mul-wide-2
-mul-wide-2 c = search needs
+mul-wide-2 c = omega arith
 
 slice-read-wide : tie.Need-slice-read-wide
-slice-read-wide c = search needs
+slice-read-wide c = omega arith
 
 wide-requires : tie.Need-wide-requires
 wide-requires c κs = search needs
@@ -47,7 +47,7 @@ clear-requires : tie.Need-clear-requires
 clear-requires c κs = search needs
 
 same-length : tie.Need-same-length
-same-length c = search needs
+same-length c = omega arith
 
 -- the length is the table's entry for the whole list before the first aisle
 returns : tie.Need-returns

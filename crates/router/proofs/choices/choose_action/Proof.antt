@@ -1,21 +1,20 @@
--- `router::choices::choose_action` meets its contract. The loop's invariant: over no action before rank k the way has the value.
-use Prim.Native.Nat.{_-_, _≤_, _<_}
+-- `router::choices::choose_action` meets its contract. The loop's invariant: from where it began, over no action before rank k
+-- the way has the value.
+use Prim.Native.Nat.{_-_}
 use native.Mathlib.Omega.{arith}
-use mathlib.Core.Path.{_≡_, sym, _∙_, subst}
+use mathlib.Core.Path.{sym, _∙_}
 use borrow.Author.Count.{below-more}
-use lib.ListN.{getD, length}
-use denote.Ref.{now}
 use Rattle.rules.specs.BestPlan.{actionsOf}
 use Rattle.rules.specs.declared.Action.the-variants.{Void}
 use Rattle.table.proofs.Geometry.{within}
 use Rattle.router.specs.Choosing.{wayOver}
-use Rattle.router.proofs.FirstRanks.{NoneBefore, rank-found, rank-none}
+use Rattle.router.proofs.FirstRanks.{NoneFrom, rank-found, rank-none}
 use Rattle.router.proofs.choices.choose_action.Statement.{statement}
 use Rattle.router.proofs.choices.choose_action.Tie as tie
 
 abbrev Inv-loop : tie.InvT-loop
 Inv-loop after fronts backs x at value cells count k₀ k =
-    (k ≤ count) × NoneBefore (wayOver x after fronts backs at) value (actionsOf (x .layout .cells)) Void k
+    NoneFrom (wayOver x after fronts backs at) value (actionsOf (x .layout .cells)) Void k₀ k
 
 abbrev μ-loop : tie.MeasureT-loop
 μ-loop after fronts backs x at value cells count k₀ k = count - k
@@ -26,7 +25,7 @@ action-count-requires c κs =
     let w = within (start .args .x .layout) (start .pre .ready .aisle .bounds) in omega arith
 
 loop-holds : tie.Need-loop-holds Inv-loop μ-loop
-loop-holds c = (omega arith, λ i l. absurd (omega arith))
+loop-holds c = λ i l h. absurd (omega arith)
 
 over-requires : tie.Need-over-requires Inv-loop μ-loop
 over-requires c κs =
@@ -37,7 +36,7 @@ returns : tie.Need-returns Inv-loop μ-loop
 returns c =
     let loop = c .before .before .before .loop in
     let count = c .before .before .before .before .action-count .ensures in
-    rank-found _ _ _ _ (loop .k) (loop .inv .1) (omega (arith, count)) (sym (c .before .over .ensures) ∙ c .if1 .taken)
+    rank-found _ _ _ _ (loop .k) (loop .inv) (omega (arith, count)) (sym (c .before .over .ensures) ∙ c .if1 .taken)
 
 add-k : tie.Need-add-k Inv-loop μ-loop
 add-k c = omega arith
@@ -48,13 +47,12 @@ loop-less c = omega arith
 loop-again : tie.Need-loop-again Inv-loop μ-loop
 loop-again c =
     let loop = c .before .before .before .loop in
-    (omega arith, below-more _ (loop .k) (loop .inv .1) (λ e. c .if1 .left (c .before .over .ensures ∙ e)))
+    below-more _ (loop .k) (loop .inv) (λ h e. c .if1 .left (c .before .over .ensures ∙ e))
 
 returns-2 : tie.Need-returns-2 Inv-loop μ-loop
 returns-2 c =
     let loop = c .before .loop in
-    let count = c .before .before .action-count in
-    rank-none _ _ _ _ (count .result) (λ i l. loop .inv .1 i (omega (arith, loop .inv .0))) (count .ensures)
+    let count = c .before .before .action-count in rank-none _ _ _ _ (loop .k) (loop .inv) (count .result) (count .ensures) (omega arith)
 
 pub choose-action-spec : {M : Type 1} → statement M
 choose-action-spec =

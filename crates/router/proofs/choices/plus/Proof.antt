@@ -1,12 +1,11 @@
 -- `router::choices::plus` meets its contract: by whether the sum is below 65,535.
-use borrow.Author.Needs.{needs}
 use native.Mathlib.Omega.{arith}
 use Rattle.optimum.specs.Least.{sumUpTo}
 use Rattle.router.proofs.choices.plus.Statement.{statement}
 use Rattle.router.proofs.choices.plus.Tie as tie
 
 add-sum : tie.Need-add-sum
-add-sum c = search needs
+add-sum c = omega arith
 
 returns : tie.Need-returns
 unfolding sumUpTo

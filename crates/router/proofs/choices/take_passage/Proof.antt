@@ -1,7 +1,7 @@
--- `router::choices::take_passage` meets its contract: some passage attains the value, so the first number is that of a passage.
+-- `router::choices::take_passage` meets its contract: some passage attains what follows, so the first number is that of a passage.
 use borrow.Author.Needs.{needs}
-use Prim.Native.Nat.{_<_}
 use native.Mathlib.Omega.{arith}
+use mathlib.Core.Path.{refl}
 use denote.Ref.{now}
 use Rattle.router.proofs.ChoiceLaws.{passage-below, passage-taken}
 use Rattle.router.proofs.choices.take_passage.Statement.{statement}
@@ -12,10 +12,10 @@ choose-passage-requires c κs = search needs
 
 cross-to-requires : tie.Need-cross-to-requires
 cross-to-requires c κs =
-    let start = c .before .before in
+    let start = c .before .before .before in
     let x = start .args in
     let next = start .pre .0 in
-    let low = passage-below (x .x) (now (x .next)) (x .at) (x .value) (c .choose-passage .result) (next .aisle .few) (c .choose-passage .ensures) (start .pre .1) in
+    let low = passage-below (x .x) (now (x .next)) (x .a) (c .choose-passage .result) (next .aisle .few) (c .choose-passage .ensures) (start .pre .1) in
     (next .aisle, next .state-below, omega (arith, next .aisle .few))
 
 passage-of-requires : tie.Need-passage-of-requires
@@ -23,11 +23,11 @@ passage-of-requires c κs = search needs
 
 returns : tie.Need-returns
 returns c =
-    let start = c .before .before .before .before in
+    let start = c .before .before .before .before .before in
     let x = start .args in
     let number = c .before .before .choose-passage in
-    passage-taken (x .x) (now (x .next)) (x .at) (x .value) (number .result) (start .pre .0 .aisle .few) (number .ensures) (start .pre .1) _
-    (c .passage-of .ensures) (c .before .cross-to .ensures)
+    passage-taken (x .x) (now (x .next)) (x .a) (number .result) (start .pre .0 .aisle .few) (number .ensures) (start .pre .1) _
+    refl (c .passage-of .ensures) (c .before .cross-to .ensures)
 
 pub take-passage-spec : {M : Type 1} → statement M
 take-passage-spec =

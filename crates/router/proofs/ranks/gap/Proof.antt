@@ -1,8 +1,8 @@
--- `router::ranks::gap` meets its contract.
+-- `router::ranks::gap` meets its contract. The loop's invariant, `GapLeft`: the rest of the number is to be found from cell h on.
 use native.Mathlib.Omega.{arith}
 use native.Mathlib.Numerals.{add-one}
-use Prim.Native.Nat.{suc, _+_, _*_, _-_, _≤_, _<_}
-use mathlib.Core.Path.{_≡_, refl, sym, _∙_, ap}
+use Prim.Native.Nat.{suc, _-_}
+use mathlib.Core.Path.{refl, sym, _∙_, ap}
 use Rattle.router.proofs.RankLaws.{GapLeft, gap-start, gap-next, gap-found, gap-once, gap-twice}
 use Rattle.table.specs.Candidates.{candidateOf}
 use Rattle.router.proofs.ranks.gap.Statement.{statement}
@@ -24,7 +24,10 @@ add-t8 : tie.Need-add-t8 Inv-loop μ-loop
 add-t8 c = omega arith
 
 returns : tie.Need-returns Inv-loop μ-loop
-returns c = sym (ap (candidateOf ((c .before .before .before) .args .cells)) (gap-found ((c .before .before .before) .args .cells) ((c .before .before .before) .args .g) (c .before .before .loop .h) (c .before .before .loop .rest) (c .before .before .loop .inv) (omega arith) (omega arith)))
+returns c =
+    let x = c .before .before .before .args in
+    let loop = c .before .before .loop in
+    sym (ap (candidateOf (x .cells)) (gap-found (x .cells) (x .g) (loop .h) (loop .rest) (loop .inv) (omega arith) (omega arith)))
 
 sub-rest : tie.Need-sub-rest Inv-loop μ-loop
 sub-rest c = omega arith
@@ -36,7 +39,9 @@ loop-less : tie.Need-loop-less Inv-loop μ-loop
 loop-less c = omega arith
 
 loop-again : tie.Need-loop-again Inv-loop μ-loop
-loop-again c = gap-next ((c .before .before .before) .args .cells) ((c .before .before .before) .args .g) (c .before .before .loop .h) (c .before .before .loop .rest) (c .before .before .loop .inv) (omega arith) (omega arith)
+loop-again c =
+    let x = c .before .before .before .args in
+    let loop = c .before .before .loop in gap-next (x .cells) (x .g) (loop .h) (loop .rest) (loop .inv) (omega arith) (omega arith)
 
 add-t11 : tie.Need-add-t11 Inv-loop μ-loop
 add-t11 c = omega arith
@@ -45,10 +50,18 @@ add-t12 : tie.Need-add-t12 Inv-loop μ-loop
 add-t12 c = omega arith
 
 returns-2 : tie.Need-returns-2 Inv-loop μ-loop
-returns-2 c = sym (ap (candidateOf ((c .before .before .before) .args .cells)) (gap-once ((c .before .before .before) .args .cells) ((c .before .before .before) .args .g) (c .before .before .loop .h) (c .before .before .loop .rest) (c .before .before .loop .inv) (omega arith) (c .if2 .taken)) ∙ rw (add-one ((c .before .before .before) .args .cells)) refl)
+returns-2 c =
+    let x = c .before .before .before .args in
+    let loop = c .before .before .loop in
+    let once = gap-once (x .cells) (x .g) (loop .h) (loop .rest) (loop .inv) (omega arith) (c .if2 .taken) in
+    sym (ap (candidateOf (x .cells)) once ∙ rw (add-one (x .cells)) refl)
 
 returns-3 : tie.Need-returns-3 Inv-loop μ-loop
-returns-3 c = sym (ap (candidateOf ((c .before .before .before) .args .cells)) (gap-twice ((c .before .before .before) .args .cells) ((c .before .before .before) .args .g) (c .before .before .loop .h) (c .before .before .loop .rest) (c .before .before .loop .inv) (omega arith) (c .if2 .left)) ∙ rw (add-one ((c .before .before .before) .args .cells)) refl)
+returns-3 c =
+    let x = c .before .before .before .args in
+    let loop = c .before .before .loop in
+    let twice = gap-twice (x .cells) (x .g) (loop .h) (loop .rest) (loop .inv) (omega arith) (c .if2 .left) in
+    sym (ap (candidateOf (x .cells)) twice ∙ rw (add-one (x .cells)) refl)
 
 pub gap-spec : {M : Type 1} → statement M
 gap-spec =

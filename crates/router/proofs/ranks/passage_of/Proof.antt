@@ -1,8 +1,7 @@
--- `router::ranks::passage_of` meets its contract.
+-- `router::ranks::passage_of` meets its contract: by the number.
 use borrow.Author.Needs.{needs}
 use native.Mathlib.Omega.{arith}
-use Prim.Native.Nat.{_+_, _*_, _≤_, _<_}
-use mathlib.Core.Path.{_≡_, sym, _∙_}
+use mathlib.Core.Path.{sym}
 use Rattle.router.proofs.Numbers.{last-passage}
 use Rattle.router.proofs.ranks.passage_of.Statement.{statement}
 use Rattle.router.proofs.ranks.passage_of.Tie as tie
@@ -20,7 +19,7 @@ returns-4 : tie.Need-returns-4
 returns-4 c = search needs
 
 returns-5 : tie.Need-returns-5
-returns-5 c = sym (last-passage ((c .before) .args .p) (omega (arith, (c .match) .rest)))
+returns-5 c = sym (last-passage (c .before .args .p) (omega (arith, c .match .rest)))
 
 pub passage-of-spec : {M : Type 1} → statement M
 passage-of-spec = tie.close (tie.spec returns returns-2 returns-3 returns-4 returns-5)

@@ -1,12 +1,12 @@
 -- `router::trace::read_plan` meets its contract. The loop's invariant: for any job of the order the first n aisles are traced.
-use Prim.Native.Nat.{suc, _-_, _≤_, _<_}
+use Prim.Native.Nat.{_-_, _≤_, _<_}
 use native.Mathlib.Omega.{arith}
 use native.Mathlib.Numerals.{add-one}
-use mathlib.Core.Path.{_≡_, refl, sym, _∙_, subst}
+use mathlib.Core.Path.{_≡_, refl, sym, subst}
 use Rattle.rules.specs.Jobs.{Job}
 use Rattle.table.specs.TableHolds.{OrderOf, TableFrom}
 use Rattle.table.proofs.Geometry.{within}
-use Rattle.table.proofs.TableFills.{order-aisles, order-few}
+use Rattle.table.proofs.TableFills.{order-aisles}
 use Rattle.router.specs.Tracing.{Traced}
 use Rattle.router.proofs.TraceEnds.{trace-start, trace-end}
 use Rattle.router.proofs.trace.read_plan.Statement.{statement}

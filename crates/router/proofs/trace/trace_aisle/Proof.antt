@@ -1,16 +1,14 @@
 -- `router::trace::trace_aisle` meets its contract: its parts make what the trace's laws ask for, and `trace-next` takes the trace on.
-use borrow.Author.Needs.{needs}
 use Prim.Native.Nat.{suc, _+_, _≤_, _<_}
 use native.Mathlib.Omega.{arith}
 use native.Mathlib.Numerals.{add-one}
-use mathlib.Core.Path.{_≡_, _∙_, ap, subst}
+use mathlib.Core.Path.{_≡_, sym, _∙_, ap, subst}
 use denote.Ref.{now}
 use Rattle.rules.specs.Jobs.{Job}
-use Rattle.demand.specs.Maps.{MapsAsked, MapsReady}
-use Rattle.table.specs.Crossings.{InRange}
+use Rattle.demand.specs.Maps.{MapsReady}
 use Rattle.table.specs.TableHolds.{OrderOf, aisleOf}
 use Rattle.table.proofs.TableFills.{order-aisles, order-few, maps-asked, same-weight, in-range, ready}
-use Rattle.router.specs.Tracing.{TraceAsked}
+use Rattle.router.specs.Tracing.{TraceAsked, Traced}
 use Rattle.router.proofs.TraceLaws.{Aisled, action-there, taken-lands, passage-there, trace-next}
 use Rattle.router.proofs.trace.trace_aisle.Statement.{statement}
 use Rattle.router.proofs.trace.trace_aisle.Tie as tie
@@ -55,10 +53,10 @@ add-j : tie.Need-add-j
 add-j c = let l = few (c .before) in omega arith
 
 slice-aggregate-fill-maps : tie.Need-slice-aggregate-fill-maps
-slice-aggregate-fill-maps c = search needs
+slice-aggregate-fill-maps c = omega arith
 
 slice-aggregate-fill-maps-2 : tie.Need-slice-aggregate-fill-maps-2
-slice-aggregate-fill-maps-2 c = search needs
+slice-aggregate-fill-maps-2 c = omega arith
 
 fill-maps-requires : tie.Need-fill-maps-requires
 fill-maps-requires c κs =
@@ -74,7 +72,7 @@ aisle-of-requires c κs =
     let l = in-order start (r .0) (r .1) (r .2) in ((r .0, r .1), l .0, l .1)
 
 slice-aggregate-fill-after : tie.Need-slice-aggregate-fill-after
-slice-aggregate-fill-after c = search needs
+slice-aggregate-fill-after c = omega arith
 
 fill-after-requires : tie.Need-fill-after-requires
 fill-after-requires c κs =
@@ -86,13 +84,13 @@ fill-after-requires c κs =
     record { aisle = range; after-long = omega arith; next-long = omega (arith, start .pre .1) }
 
 slice-aggregate-take-action : tie.Need-slice-aggregate-take-action
-slice-aggregate-take-action c = search needs
+slice-aggregate-take-action c = omega arith
 
 slice-aggregate-take-action-2 : tie.Need-slice-aggregate-take-action-2
-slice-aggregate-take-action-2 c = search needs
+slice-aggregate-take-action-2 c = omega arith
 
 slice-aggregate-take-action-3 : tie.Need-slice-aggregate-take-action-3
-slice-aggregate-take-action-3 c = search needs
+slice-aggregate-take-action-3 c = omega arith
 
 take-action-requires : tie.Need-take-action-requires
 take-action-requires c κs =
@@ -115,13 +113,12 @@ take-action-requires c κs =
 
 take-passage-requires : tie.Need-take-passage-requires
 take-passage-requires c κs =
-    let at-action = c .before in
-    let at-after = at-action .before .before .before .before .before .before in
+    let at-after = c .before .before .before .before .before .before in
     let at-aisle = at-after .before .before in
     let start = at-aisle .before .before .before .before .before .before .before in
     let r = start .pre .0 in
     let h = aisled at-after (r .0) (r .1) (r .2) in
-    let to = taken-lands h (r .2) (at-action .take-action .ensures) in
+    let to = taken-lands h (r .2) (c .take-action .ensures) in
     let light = r .1 .admitted .light in (
       record {
         aisle = in-range (r .0) _ (at-aisle .aisle-of .result) (h .numbers) (r .1 .admitted);
@@ -129,24 +126,21 @@ take-passage-requires c κs =
         demand = omega arith;
         state-below = to .0;
       },
-      passage-there h (r .2) (at-action .take-action .ensures),
+      passage-there h (r .2) (c .take-action .ensures),
     )
 
-mul-stages : tie.Need-mul-stages
-mul-stages c =
-    let at-after = c .before .before .before .before .before .before .before .before .before in
-    let l = few (at-after .before .before .before .before .before .before .before .before .before) in omega arith
-
-array-set-from-stages : tie.Need-array-set-from-stages
-array-set-from-stages c =
-    let at-after = c .before .before .before .before .before .before .before .before .before in
+with-stage-requires : tie.Need-with-stage-requires
+with-stage-requires c κs =
+    let at-after = c .before .before .before .before .before .before .before in
     few (at-after .before .before .before .before .before .before .before .before .before)
 
 returns : tie.Need-returns
 returns c =
-    let at-action = c .before .before .before .before in
+    let at-action = c .before .before in
     let at-after = at-action .before .before .before .before .before .before in
-    λ job of asked. trace-next (aisled at-after job of asked) asked (at-action .take-action .ensures) (c .before .before .take-passage .ensures)
+    λ job of asked.
+    subst (Traced job _) (sym (c .with-stage .ensures))
+    (trace-next (aisled at-after job of asked) asked (at-action .take-action .ensures) (c .before .take-passage .ensures))
 
 pub trace-aisle-spec : {M : Type 1} → statement M
 trace-aisle-spec =
@@ -164,6 +158,5 @@ trace-aisle-spec =
     slice-aggregate-take-action-3
     take-action-requires
     take-passage-requires
-    mul-stages
-    array-set-from-stages
+    with-stage-requires
     returns)

@@ -1,6 +1,6 @@
 -- `router::trace::trace_on` meets its contract: the rows are parts of the work area, and behind the last aisle is the end row.
 use borrow.Author.Needs.{needs}
-use Prim.Native.Nat.{ℕ, suc, _+_, _*_, _≤_, _<_}
+use Prim.Native.Nat.{ℕ, _+_, _*_, _≤_, _<_}
 use native.Mathlib.Omega.{arith}
 use mathlib.Core.Path.{_≡_, _∙_, ap}
 use lib.ListN.{length}
@@ -54,10 +54,10 @@ mul-value-at : tie.Need-mul-value-at
 mul-value-at c = let l = few (c .before .before) in omega arith
 
 sub-value-at : tie.Need-sub-value-at
-sub-value-at c = search needs
+sub-value-at c = omega arith
 
 part-value-at-start : tie.Need-part-value-at-start
-part-value-at-start c = search needs
+part-value-at-start c = omega arith
 
 part-value-at-end : tie.Need-part-value-at-end
 part-value-at-end c = let start = c .before .before in let l = few start in omega (arith, start .pre .2)
@@ -71,7 +71,7 @@ value-at-requires c κs =
     let demand = r .3 .demand-below in (omega arith, omega (arith, row-long start (start .args .n * numbers) (omega arith)))
 
 add-if1 : tie.Need-add-if1
-add-if1 c = search needs
+add-if1 c = omega arith
 
 add-end : tie.Need-add-end
 add-end c = let l = few (c .before .before .before .before .before .before) in omega arith
@@ -80,10 +80,10 @@ mul-trace-aisle : tie.Need-mul-trace-aisle
 mul-trace-aisle c = let l = few (c .before .before .before .before .before .before) in omega arith
 
 sub-trace-aisle : tie.Need-sub-trace-aisle
-sub-trace-aisle c = search needs
+sub-trace-aisle c = omega arith
 
 part-trace-aisle-start : tie.Need-part-trace-aisle-start
-part-trace-aisle-start c = search needs
+part-trace-aisle-start c = omega arith
 
 part-trace-aisle-end : tie.Need-part-trace-aisle-end
 part-trace-aisle-end c =
@@ -106,7 +106,7 @@ end-row-requires : tie.Need-end-row-requires
 end-row-requires c κs = search needs
 
 slice-aggregate-trace-aisle : tie.Need-slice-aggregate-trace-aisle
-slice-aggregate-trace-aisle c = search needs
+slice-aggregate-trace-aisle c = omega arith
 
 trace-aisle-requires-2 : tie.Need-trace-aisle-requires-2
 trace-aisle-requires-2 c κs =
