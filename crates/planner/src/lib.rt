@@ -22,7 +22,8 @@ fn finish(job: JobValue, shelf: Shelf, routed: Routed, sheet: &mut [u8]) -> Repl
     let layout = job.layout;
     let policy = job.policy;
     let plan = routed.plan;
-    let picks = picks::picks(job.lines, layout.cells, shelf, plan);
+    let lines = job.lines;
+    let picks = picks::picks(lines, layout.cells, shelf, plan);
     let runs = walks::walk_runs(layout, plan);
     let size = sheets::sheet::sheet_size(policy, routed.length, plan, picks, runs);
     if sheet.len() < size {
@@ -40,7 +41,7 @@ fn serve(job: JobValue, sheet: &mut [u8], work: &mut [u16]) -> Reply
     ensures { λ r. ⌜ now (work .exit) ≡ replicate (length (now (work .entry))) 0 ⌝ }
 {
     let shelf = demand::shelf::shelve(job);
-    let routed = router::route(job, work);
+    let routed = router::route(job, shelf, work);
     finish(job, shelf, routed, sheet)
 }
 

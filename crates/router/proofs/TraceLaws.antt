@@ -28,7 +28,7 @@ use Rattle.machine.proofs.StepLaws.{state-of-code}
 use Rattle.demand.specs.Maps.{MapsReady}
 use Rattle.table.specs.declared.layers.Aisle.{Aisle}
 use Rattle.table.specs.Candidates.{candidateOf}
-use Rattle.table.specs.Rows.{nextAt}
+use Rattle.rows.specs.Rows.{nextAt}
 use Rattle.table.specs.Crossings.{AfterFilled}
 use Rattle.table.specs.TableHolds.{aisleOf, values, AfterHolds}
 use Rattle.table.proofs.Geometry.{within}

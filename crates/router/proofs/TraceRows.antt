@@ -7,7 +7,7 @@ use borrow.Author.Tests.{lt-ltb}
 use lib.ListN.{take, drop}
 use Rattle.rules.specs.Jobs.{Job}
 use Rattle.rules.specs.Refusals.{weight}
-use Rattle.table.specs.Rows.{numbers, nextAt}
+use Rattle.rows.specs.Rows.{numbers, nextAt}
 use Rattle.table.specs.TableHolds.{RowHolds, TableFrom, endRow}
 use Rattle.table.proofs.TableFills.{end-holds}
 use Rattle.table.proofs.WorkRows.{row-read}

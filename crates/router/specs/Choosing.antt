@@ -13,7 +13,7 @@ use Rattle.machine.specs.Steps.{policyOf, crossOf}
 use Rattle.table.specs.declared.candidates.Candidate.{Candidate}
 use Rattle.table.specs.declared.layers.Aisle.{Aisle}
 use Rattle.table.specs.Candidates.{candidateOf}
-use Rattle.table.specs.Rows.{numbers, nextAt}
+use Rattle.rows.specs.Rows.{numbers, nextAt}
 use Rattle.table.specs.Crossings.{throughPassage}
 use Rattle.table.specs.Layers.{AisleReady, stepCode, leftCode, throughAction}
 use Rattle.router.specs.declared.choices.At.{At}

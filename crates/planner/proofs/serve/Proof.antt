@@ -3,6 +3,9 @@ use borrow.Author.Needs.{needs}
 use Rattle.planner.proofs.serve.Statement.{statement}
 use Rattle.planner.proofs.serve.Tie as tie
 
+shelve-requires : tie.Need-shelve-requires
+shelve-requires c κs = search needs
+
 route-requires : tie.Need-route-requires
 route-requires c κs = search needs
 
@@ -24,6 +27,7 @@ pub serve-spec : {M : Type 1} → statement M
 serve-spec =
     tie.close
     (tie.spec
+    shelve-requires
     route-requires
     finish-requires
     same-length

@@ -2,7 +2,7 @@
 use borrow.Author.Needs.{needs}
 use borrow.Author.Tests.{le-ltb, lt-ltb}
 use native.Mathlib.Omega.{arith}
-use Rattle.table.specs.Rows.{nextAt}
+use Rattle.rows.specs.Rows.{nextAt}
 use Rattle.router.proofs.choices.value_at.Statement.{statement}
 use Rattle.router.proofs.choices.value_at.Tie as tie
 

@@ -7,7 +7,7 @@ use lib.ListN.{length}
 use denote.Ref.{now}
 use borrow.Rule.Slice.PartMut.{mid-len}
 use Rattle.rules.specs.Jobs.{Job}
-use Rattle.table.specs.Rows.{numbers, workArea}
+use Rattle.rows.specs.Rows.{numbers, workArea}
 use Rattle.table.specs.TableHolds.{OrderOf, TableFrom}
 use Rattle.table.proofs.TableFills.{end-length, order-aisles, order-few}
 use Rattle.router.specs.Tracing.{Traced, TraceAsked}
