@@ -27,7 +27,7 @@ use Rattle.demand.specs.declared.digits.Digit.{Digit}
 use Rattle.demand.specs.declared.digits.Digits.{Digits}
 use Rattle.demand.specs.Digits.{noLine, noDigit, DigitOf, DigitsOf, Within, lessDigit, lessLine}
 use Rattle.demand.proofs.Filling.{below}
-use Rattle.demand.proofs.Shelving.{or-false}
+use Rattle.demand.proofs.Records.{or-false}
 
 -- the product of the first radices: at least 1, at most the product of all
 count-positive : {rs : List ℕ} → Positive rs → 1 ≤ count rs
@@ -262,7 +262,7 @@ line-less d zero n q h = absurd (omega arith)
 line-less d (suc l) n q h = let s : suc l - 1 ≡ l = omega arith in rw s refl
 
 -- what a cell leaves of a number, and that it can be taken from it, as the digits of a job have it
-module _ (job : Job) (d : Digits) (of : DigitsOf job d) where
+module _ {job : Job} {d : Digits} (of : DigitsOf job d) where
   pub less-line : (line n q : ℕ) → line ≤ length (job .lines) → q < 256 → lessLine d line n q ≡ lessAt (radices job) line n q
   less-line zero n q h b = refl
   less-line (suc l) n q h b = rw (of .digit-at l h .stride-is, of .digit-at l h .lacks-at q b) refl

@@ -11,10 +11,14 @@ use Rattle.optimum.specs.Demand.{radices, demandOf}
 use Rattle.demand.specs.declared.digits.Digit.{Digit}
 use Rattle.demand.specs.declared.digits.Digits.{Digits}
 
+-- the most demands that a list can have
+abbrev pub demands : ℕ
+demands = 256
+
 -- a line as a digit: the product of the radices before it, and what it lacks in each demand
 pub record DigitOf (job : Job) (l : ℕ) (x : Digit) : Type 0 where
   pub stride-is : x .stride ≡ productOf (λ r. r) (take l (radices job))
-  pub lacks-at : (q : ℕ) → q < 256 → getD (x .lacks) q 0 ≡ getD (demandOf (radices job) q) l 0
+  pub lacks-at : (q : ℕ) → q < demands → getD (x .lacks) q 0 ≡ getD (demandOf (radices job) q) l 0
 
 -- a digit that is not there
 abbrev pub noDigit : Digit
@@ -23,7 +27,7 @@ noDigit = record { stride = 0; lacks = [] }
 -- the digits of a job: a digit for each line, and the weight of the list
 pub record DigitsOf (job : Job) (d : Digits) : Type 0 where
   pub counted : d .weight ≡ weight (job .lines)
-  pub small : (1 ≤ d .weight) × (d .weight ≤ 256)
+  pub small : (1 ≤ d .weight) × (d .weight ≤ demands)
   pub digit-at : (l : ℕ) → l < length (job .lines) → DigitOf job l (getD (d .digit) l noDigit)
 
 -- a demand number after a cell that holds n for the line of a digit

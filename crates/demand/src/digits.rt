@@ -1,7 +1,7 @@
 // Open demand as a number: the order lines as its digits.
 use values::JobValue;
-ghost use Prim.Native.Nat.{_%_, _/_, _<_, _≤_, min, suc, ℕ};
-ghost use Rattle.demand.specs.Digits.{DigitsOf};
+ghost use Prim.Native.Nat.{_%_, _/_, _<_, _≤_, suc, ℕ};
+ghost use Rattle.demand.specs.Digits.{DigitsOf, demands};
 ghost use Rattle.values.specs.Values.{Sound, jobOf};
 ghost use lib.ListN.{getD};
 ghost use mathlib.Core.Path.{_≡_};
@@ -45,8 +45,8 @@ pub fn digits_of(job: JobValue) -> Digits
 
 // A digit, counted on: it is one more than in the number a stride before, and 0 again at the radix.
 fn digit_of(radix: usize, stride: usize) -> Digit
-    requires { ⌜ (1 ≤ radix) × (radix ≤ 256) × (1 ≤ stride) ⌝ }
-    ensures { λ r. ⌜ (r .stride ≡ stride) × ((q : ℕ) → q < 256 → getD (r .lacks) q 0 ≡ q / stride % radix) ⌝ }
+    requires { ⌜ (1 ≤ radix) × (radix ≤ demands) × (1 ≤ stride) ⌝ }
+    ensures { λ r. ⌜ (r .stride ≡ stride) × ((q : ℕ) → q < demands → getD (r .lacks) q 0 ≡ q / stride % radix) ⌝ }
 {
     let mut lacks = [0; DEMANDS];
     let mut q = stride;
@@ -59,7 +59,7 @@ fn digit_of(radix: usize, stride: usize) -> Digit
 
 // One more, and 0 again at the radix.
 fn next(x: u8, radix: usize) -> u8
-    requires { ⌜ (x < radix) × (radix ≤ 256) ⌝ }
+    requires { ⌜ (x < radix) × (radix ≤ demands) ⌝ }
     ensures { λ r. ⌜ r ≡ suc x % radix ⌝ }
 {
     let up = wide_digit(x) + 1;
@@ -67,7 +67,7 @@ fn next(x: u8, radix: usize) -> u8
 }
 
 // A digit as a wider number.
-pub fn wide_digit(x: u8) -> usize
+pub(crate) fn wide_digit(x: u8) -> usize
     ensures { λ r. ⌜ (r ≡ x) × (r ≤ 255) ⌝ }
 {
     x as usize

@@ -4,17 +4,24 @@ use crate::digits::Digit;
 use crate::digits::Digits;
 use crate::digits::wide;
 use crate::digits::wide_digit;
+use crate::shelf::cell_number;
 use values::Shelf;
-ghost use Prim.Native.Nat.{_-_, _≤_, min, suc, ℕ};
-ghost use Rattle.demand.specs.Digits.{Within, lessDigit, lessLine, noDigit};
-ghost use Rattle.demand.specs.Maps.{MapsAsked, MapsReady, RowAsked, RowBelow, RowSet, RowsTo, entry, heightAt, mapSize};
+ghost use Prim.Native.Nat.{_-_, _<_, _≤_, min, suc};
+ghost use Rattle.demand.specs.Digits.{Within, demands, lessDigit, lessLine, noDigit};
+ghost use Rattle.demand.specs.Maps.{MapsAsked, MapsReady, RowAsked, RowBelow, RowSet, RowsTo, entry, heightAt, heights, mapSize};
 ghost use Rattle.rules.specs.Jobs.{Job};
 ghost use lib.ListN.{getD, length};
 ghost use mathlib.Core.Path.{_≡_};
 
+// The heights of an aisle: its two ends, and 24 cells at most.
+pub const HEIGHTS: usize = 26;
+
+// The numbers of a map: a row of all demands for each height.
+pub const MAP: usize = HEIGHTS * DEMANDS;
+
 // A row of a map in which every demand stays as it is.
 fn plain_row(map: &mut [u16], to: usize, weight: usize)
-    requires { ⌜ (mapSize ≤ length (now map)) × (to ≤ 25) × (weight ≤ 256) ⌝ }
+    requires { ⌜ (mapSize ≤ length (now map)) × (to < heights) × (weight ≤ demands) ⌝ }
     ensures { λ r. ⌜ RowSet (now (map .entry)) (now (map .exit)) to weight (λ q. q) ⌝ }
 {
     let mut q = 0;
@@ -91,7 +98,7 @@ fn fill_map(map: &mut [u16], shelf: Shelf, d: Digits, cells: usize, j: usize, ba
     while n < cells {
         let from = height_at(back, cells, n);
         let to = height_at(back, cells, n + 1);
-        let at = (j - 1) * 24 + (to - 1);
+        let at = cell_number(j, to);
         map_row(map, to, from, d, shelf.line[at], shelf.quantity[at]);
         n += 1;
     }
@@ -107,7 +114,8 @@ pub fn fill_maps(
     j: usize,
 )
     requires { ⌜ (mapSize ≤ length (now fronts)) × (mapSize ≤ length (now backs)) × ((job : Job) × MapsAsked job shelf d cells j) ⌝ }
-    ensures { λ r. ⌜ ((job : Job) → MapsAsked job shelf d cells j → MapsReady job j (now (fronts .exit)) (now (backs .exit))) × (length (now (fronts .exit)) ≡ length (now (fronts .entry))) × (length (now (backs .exit)) ≡ length (now (backs .entry))) ⌝ }
+    ensures { λ r. ⌜ ((job : Job) → MapsAsked job shelf d cells j → MapsReady job j (now (fronts .exit)) (now (backs .exit)))
+        × (length (now (fronts .exit)) ≡ length (now (fronts .entry))) × (length (now (backs .exit)) ≡ length (now (backs .entry))) ⌝ }
 {
     fill_map(fronts, shelf, d, cells, j, false);
     fill_map(backs, shelf, d, cells, j, true);

@@ -1,7 +1,7 @@
 -- `demand::digits::digit_of` meets its contract: the digit in the numbers below q is there.
 use native.Mathlib.Omega.{arith}
 use native.Mathlib.Nat.{mod-lt}
-use Prim.Native.Nat.{ℕ, _+_, _-_, _/_, _%_, _≤_, _<_}
+use Prim.Native.Nat.{ℕ, _-_, _/_, _%_, _≤_, _<_}
 use mathlib.Core.Path.{_≡_, refl, _∙_}
 use lib.ListN.{length, getD, length-set}
 use Rattle.demand.proofs.Filling.{zero-at, filled-one}

@@ -1,7 +1,7 @@
 -- `demand::digits::next` meets its contract: below the radix one more is what is left of it, and of the radix nothing.
 use native.Mathlib.Omega.{arith}
 use native.Mathlib.Nat.{mod-eq-of-lt, mod-self}
-use Prim.Native.Nat.{suc, _+_, _%_, _<_}
+use Prim.Native.Nat.{suc, _%_, _<_}
 use mathlib.Core.Path.{_≡_, sym, _∙_, ap}
 use borrow.Author.Needs.{needs}
 use Rattle.demand.proofs.digits.next.Statement.{statement}

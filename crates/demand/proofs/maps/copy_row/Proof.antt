@@ -1,10 +1,10 @@
 -- `demand::maps::copy_row` meets its contract: the demands below q are there.
 use native.Mathlib.Omega.{arith}
-use Prim.Native.Nat.{_+_, _*_, _-_, _≤_, _<_}
-use mathlib.Core.Path.{_≡_, _∙_, subst}
+use Prim.Native.Nat.{_-_, _≤_, _<_}
 use lib.ListN.{length}
-use Rattle.demand.specs.Maps.{entry, RowSet}
-use Rattle.demand.proofs.Rows.{set-none, set-one, other-row}
+use Rattle.demand.specs.Digits.{demands}
+use Rattle.demand.specs.Maps.{heights, mapSize, entry, RowSet}
+use Rattle.demand.proofs.Rows.{row-none, row-next, row-whole, row-other}
 use Rattle.demand.proofs.maps.copy_row.Statement.{statement}
 use Rattle.demand.proofs.maps.copy_row.Tie as tie
 
@@ -16,14 +16,14 @@ abbrev μ-loop : tie.MeasureT-loop
 
 -- the numbers that the code computes with
 room : (c : tie.In-loop Inv-loop μ-loop)
-    → let x = c .before .before .args in let o = c .before .loop in (x .from ≤ 25) × (x .to ≤ 25) × (o .q < 256) × (6656 ≤ length (o .map))
+    → let x = c .before .before .args in let o = c .before .loop in (x .from < heights) × (x .to < heights) × (o .q < demands) × (mapSize ≤ length (o .map))
 room c =
     let r = c .before .before .pre in
     let o = c .before .loop in
     (r .from-in, r .to-in, omega (arith, r .light), omega (arith, r .long, o .inv .1 .kept))
 
 loop-holds : tie.Need-loop-holds Inv-loop μ-loop
-loop-holds c = let x = c .args in (omega arith, set-none (x .map .now) (x .to) (entry (x .map .now) (x .from)))
+loop-holds c = let x = c .args in (omega arith, row-none (x .map .now) (x .to) (entry (x .map .now) (x .from)))
 
 mul-map : tie.Need-mul-map Inv-loop μ-loop
 mul-map c = omega (arith, room c)
@@ -60,18 +60,15 @@ loop-again c =
     let start = c .before .before .before in
     let x = start .args in
     let o = c .before .before .loop in
-    let read = other-row (x .map .now) (o .map) (x .to) (o .q) (x .from) (o .q) (entry (x .map .now) (x .from)) (omega (arith, room (c .before))) (omega (arith, room (c .before))) (start .pre .apart) (o .inv .1) in
-    (omega arith, set-one (x .map .now) (o .map) (x .to) (o .q) (entry (o .map) (x .from) (o .q)) (entry (x .map .now) (x .from)) (omega (arith, room (c .before), o .inv .1 .kept)) (o .inv .1) read)
+    let seen = room (c .before) in
+    let read = row-other (o .inv .1) (x .from) (o .q) (start .pre .apart) (omega arith) (omega arith) in
+    (omega arith, row-next (o .inv .1) (entry (o .map) (x .from) (o .q)) (omega arith) read)
 
 same-length : tie.Need-same-length Inv-loop μ-loop
 same-length c = c .before .loop .inv .1 .kept
 
 returns : tie.Need-returns Inv-loop μ-loop
-returns c =
-    let x = c .before .before .args in
-    let o = c .before .loop in
-    let all : o .q ≡ x .weight = omega (arith, o .inv .0) in
-    subst (λ n. RowSet (x .map .now) (o .map) (x .to) n (entry (x .map .now) (x .from))) all (o .inv .1)
+returns c = let o = c .before .loop in row-whole (o .inv .1) (c .before .before .args .weight) (omega (arith, o .inv .0))
 
 pub copy-row-spec : {M : Type 1} → statement M
 copy-row-spec =

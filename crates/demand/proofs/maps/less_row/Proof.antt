@@ -1,14 +1,13 @@
 -- `demand::maps::less_row` meets its contract: the demands below q are there.
 use native.Mathlib.Omega.{arith}
 use native.Mathlib.Nat.{mul-le-mul-right}
-use Prim.Native.Nat.{ℕ, _+_, _*_, _-_, _≤_, _<_, min}
-use mathlib.Core.Path.{_≡_, sym, _∙_, ap, ap₂, subst}
+use Prim.Native.Nat.{_*_, _-_, _≤_, _<_, min}
+use mathlib.Core.Path.{_≡_, _∙_, ap}
 use lib.ListN.{length, getD}
 use borrow.Author.Needs.{needs}
-use Rattle.demand.specs.declared.digits.Digit.{Digit}
-use Rattle.demand.specs.Digits.{lessDigit}
-use Rattle.demand.specs.Maps.{entry, RowSet}
-use Rattle.demand.proofs.Rows.{set-none, set-one, other-row}
+use Rattle.demand.specs.Digits.{demands, lessDigit}
+use Rattle.demand.specs.Maps.{heights, mapSize, entry, RowSet}
+use Rattle.demand.proofs.Rows.{row-none, row-next, row-whole, row-other}
 use Rattle.demand.proofs.maps.less_row.Statement.{statement}
 use Rattle.demand.proofs.maps.less_row.Tie as tie
 
@@ -20,7 +19,8 @@ abbrev μ-loop : tie.MeasureT-loop
 
 -- the numbers that the code computes with
 room : (c : tie.In-loop Inv-loop μ-loop)
-    → let x = c .before .before .before .args in let o = c .before .loop in (x .from ≤ 25) × (x .to ≤ 25) × (o .q < 256) × (6656 ≤ length (o .map))
+    → let x = c .before .before .before .args in let o = c .before .loop in
+    (x .from < heights) × (x .to < heights) × (o .q < demands) × (mapSize ≤ length (o .map))
 room c =
     let r = c .before .before .before .pre .0 in
     let o = c .before .loop in
@@ -28,28 +28,33 @@ room c =
 
 -- the demand that is read is that of the other row, and below the weight
 demand : (c : tie.After-wide Inv-loop μ-loop)
-    → let x = c .before .before .before .before .before .args in let o = c .before .before .before .loop in (c .wide .result ≡ entry (x .map .now) (x .from) (o .q)) × (c .wide .result < x .weight)
+    → let x = c .before .before .before .before .before .args in let o = c .before .before .before .loop in
+    (c .wide .result ≡ entry (x .map .now) (x .from) (o .q)) × (c .wide .result < x .weight)
 demand c =
     let start = c .before .before .before .before .before in
     let x = start .args in
     let o = c .before .before .before .loop in
     let seen = room (c .before .before) in
-    let old = c .wide .ensures .0 ∙ other-row (x .map .now) (o .map) (x .to) (o .q) (x .from) (o .q) (λ k. lessDigit (x .t4) (x .n) (entry (x .map .now) (x .from) k)) (omega (arith, seen)) (omega (arith, seen)) (start .pre .0 .apart) (o .inv .1) in
-    (old, rw old (start .pre .2 (o .q) (omega arith)))
+    let read = row-other (o .inv .1) (x .from) (o .q) (start .pre .0 .apart) (omega arith) (omega arith) in
+    (c .wide .ensures .0 ∙ read, rw (c .wide .ensures .0 ∙ read) (start .pre .2 (o .q) (omega arith)))
 
 -- what is taken is in the demand
 taken-in : (c : tie.After-taken Inv-loop μ-loop)
-    → let x = c .before .before .before .before .before .before .before .before .args in let old = c .before .before .before .wide .result in (c .taken .result * x .t4 .stride ≤ old) × (old < 256)
+    → let x = c .before .before .before .before .before .before .before .before .args in let old = c .before .before .before .wide .result in
+    (c .taken .result * x .t4 .stride ≤ old) × (old < demands)
 taken-in c =
-    let start = c .before .before .before .before .before .before .before .before in
-    let x = start .args in
     let there = c .before .before .before in
+    let start = there .before .before .before .before .before in
+    let x = start .args in
     let old = there .wide .result in
     let low : c .taken .result ≤ getD (x .t4 .lacks) old 0 = omega (arith, c .taken .ensures, c .before .wide-digit .ensures .0) in
-    (omega (arith, mul-le-mul-right (x .t4 .stride) low, start .pre .1 old (demand there .1)), omega (arith, demand there .1, start .pre .0 .light))
+    let below = demand there .1 in
+    (omega (arith, mul-le-mul-right (x .t4 .stride) low, start .pre .1 old below), omega (arith, start .pre .0 .light))
 
 loop-holds : tie.Need-loop-holds Inv-loop μ-loop
-loop-holds c = let x = c .before .args in (omega arith, set-none (x .map .now) (x .to) (λ k. lessDigit (x .t4) (x .n) (entry (x .map .now) (x .from) k)))
+loop-holds c =
+    let x = c .before .args in
+    (omega arith, row-none (x .map .now) (x .to) (λ k. lessDigit (x .t4) (x .n) (entry (x .map .now) (x .from) k)))
 
 mul-wide : tie.Need-mul-wide Inv-loop μ-loop
 mul-wide c = omega (arith, room c)
@@ -104,24 +109,20 @@ loop-less c = omega arith
 
 loop-again : tie.Need-loop-again Inv-loop μ-loop
 loop-again c =
-    let start = c .before .before .before .before .before .before .before .before in
-    let x = start .args in
-    let o = c .before .before .before .before .before .before .loop in
     let there = c .before .before .before in
+    let x = there .before .before .before .before .before .args in
+    let o = there .before .before .before .loop in
     let old = there .wide .result in
-    let m = c .taken .result in
-    let less : old - m * x .t4 .stride ≡ lessDigit (x .t4) (x .n) old = ap (λ k. old - k * x .t4 .stride) (c .taken .ensures ∙ ap (λ k. min k (x .n)) (c .before .wide-digit .ensures .0)) in
-    (omega arith, set-one (x .map .now) (o .map) (x .to) (o .q) (old - m * x .t4 .stride) (λ k. lessDigit (x .t4) (x .n) (entry (x .map .now) (x .from) k)) (omega (arith, room (there .before .before), o .inv .1 .kept)) (o .inv .1) (less ∙ ap (lessDigit (x .t4) (x .n)) (demand there .0)))
+    let seen = room (there .before .before) in
+    let taken : c .taken .result ≡ min (getD (x .t4 .lacks) old 0) (x .n) = c .taken .ensures ∙ ap (λ k. min k (x .n)) (c .before .wide-digit .ensures .0) in
+    let left = ap (λ k. old - k * x .t4 .stride) taken ∙ ap (lessDigit (x .t4) (x .n)) (demand there .0) in
+    (omega arith, row-next (o .inv .1) (old - c .taken .result * x .t4 .stride) (omega arith) left)
 
 same-length : tie.Need-same-length Inv-loop μ-loop
 same-length c = c .before .loop .inv .1 .kept
 
 returns : tie.Need-returns Inv-loop μ-loop
-returns c =
-    let x = c .before .before .before .args in
-    let o = c .before .loop in
-    let all : o .q ≡ x .weight = omega (arith, o .inv .0) in
-    subst (λ n. RowSet (x .map .now) (o .map) (x .to) n (λ k. lessDigit (x .t4) (x .n) (entry (x .map .now) (x .from) k))) all (o .inv .1)
+returns c = let o = c .before .loop in row-whole (o .inv .1) (c .before .before .before .args .weight) (omega (arith, o .inv .0))
 
 pub less-row-spec : {M : Type 1} → statement M
 less-row-spec =

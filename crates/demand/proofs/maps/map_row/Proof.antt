@@ -1,13 +1,11 @@
 -- `demand::maps::map_row` meets its contract: a copy where the cell has no line, else less in the digit of its line.
 use native.Mathlib.Omega.{arith}
-use Prim.Native.Nat.{ℕ, suc, _-_, _≤_}
-use mathlib.Core.Path.{_≡_, refl, sym, _∙_, ap}
-use lib.ListN.{getD}
+use mathlib.Core.Path.{sym, ap}
 use borrow.Author.Needs.{needs}
-use Rattle.demand.specs.Digits.{noDigit, lessDigit, lessLine}
+use Rattle.demand.specs.Digits.{lessLine}
 use Rattle.demand.specs.Maps.{entry}
 use Rattle.demand.proofs.DigitLaws.{line-less}
-use Rattle.demand.proofs.Rows.{row-of}
+use Rattle.demand.proofs.Rows.{row-same}
 use Rattle.demand.proofs.maps.map_row.Statement.{statement}
 use Rattle.demand.proofs.maps.map_row.Tie as tie
 
@@ -35,9 +33,9 @@ returns : tie.Need-returns
 returns c =
     let copied = c .before .before in
     let x = copied .before .before .before .before .args in
-    row-of (x .map .now) (copied .copy-row .last .0) (x .to) (x .t4 .weight) (entry (x .map .now) (x .from)) (λ q. lessLine (x .t4) (x .line) (x .n) (entry (x .map .now) (x .from) q))
-    (λ q l. sym (ap (λ k. lessLine (x .t4) k (x .n) (entry (x .map .now) (x .from) q)) (copied .before .before .if1 .taken)))
-    (copied .copy-row .ensures)
+    let old = entry (x .map .now) (x .from) in
+    row-same (copied .copy-row .ensures) (λ q. lessLine (x .t4) (x .line) (x .n) (entry (x .map .now) (x .from) q))
+    (λ q l. sym (ap (λ k. lessLine (x .t4) k (x .n) (old q)) (copied .before .before .if1 .taken)))
 
 same-length-2 : tie.Need-same-length-2
 same-length-2 c = search needs
@@ -46,10 +44,9 @@ returns-2 : tie.Need-returns-2
 returns-2 c =
     let done = c .before .before in
     let x = done .before .before .before .before .before .args in
-    row-of (x .map .now) (done .less-row .last .0) (x .to) (x .t4 .weight) (λ q. lessDigit (getD (x .t4 .digit) (x .line - 1) noDigit) (x .n) (entry (x .map .now) (x .from) q))
-    (λ q. lessLine (x .t4) (x .line) (x .n) (entry (x .map .now) (x .from) q))
-    (λ q l. line-less (x .t4) (x .line) (x .n) (entry (x .map .now) (x .from) q) (omega arith))
-    (done .less-row .ensures)
+    let old = entry (x .map .now) (x .from) in
+    row-same (done .less-row .ensures) (λ q. lessLine (x .t4) (x .line) (x .n) (entry (x .map .now) (x .from) q))
+    (λ q l. line-less (x .t4) (x .line) (x .n) (old q) (omega arith))
 
 pub map-row-spec : {M : Type 1} → statement M
 map-row-spec =
