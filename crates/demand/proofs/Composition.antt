@@ -36,6 +36,7 @@ plus (n ∷ ns) (m ∷ ms) = (n + m) ∷ plus ns ms
 abbrev pub Parted : Bool → Bool → Bool → Type 0
 Parted p q r = (n : ℕ) → cond p n 0 ≡ cond q n 0 + cond r n 0
 
+-- a test that is parted is so under further tests, and the gains with it
 parted-under : (b d p q r : Bool) (n : ℕ) → Parted p q r → cond (b && (d && p)) n 0 ≡ cond (b && (d && q)) n 0 + cond (b && (d && r)) n 0
 parted-under true true p q r n h = h n
 parted-under true false p q r n h = refl
@@ -59,6 +60,7 @@ gains-parted job ok j p q r e =
         let (low, high) = stock-within job .0 ok .records s m .cell in
         parted-under (eqb (s .article) (l .article)) (eqb (s .aisle) j) (p (s .cell)) (q (s .cell)) (r (s .cell)) (s .quantity) (e (s .cell) low high)
 
+-- what is lacking after two vectors of gains
 less-plus : (q gs hs : List ℕ) → less q (plus gs hs) ≡ less (less q gs) hs
 less-plus [] gs hs = refl
 less-plus (n ∷ q) [] hs = refl

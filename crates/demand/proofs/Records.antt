@@ -19,6 +19,7 @@ use Rattle.rules.proofs.Lists.{any-false}
 use Rattle.rules.proofs.Admission.{same-cell, one-record-per-cell}
 use Rattle.demand.proofs.Composition.{stockWhere, gainsWhere}
 
+-- an or that is false is false on both sides
 pub or-false : (b d : Bool) → (b || d) ≡ false → (b ≡ false) × (d ≡ false)
 or-false true d h = absurd (true≢false h)
 or-false false d h = (refl, h)
@@ -71,6 +72,7 @@ cellAt j c = record { aisle = j; height = c }
 abbrev pub isAt : ℕ → ℕ → StockRecord → Bool
 isAt j c r = eqb (r .aisle) j && eqb (r .cell) c
 
+-- what the test says, and that a record is of its own cell
 pub is-at : (j c : ℕ) (r : StockRecord) → isAt j c r ≡ true → (r .aisle ≡ j) × (r .cell ≡ c)
 is-at j c r e = let parts = and-eq-true-iff (eqb (r .aisle) j) (eqb (r .cell) c) .0 e in (eqb-true (r .aisle) j (parts .0), eqb-true (r .cell) c (parts .1))
 

@@ -10,6 +10,7 @@ use lib.Seq.{getD-set-same, getD-set-other}
 use Rattle.demand.specs.Maps.{entry, RowSet}
 use Rattle.demand.proofs.Filling.{below}
 
+-- of two different numbers one is less
 pub less-or-more : (i k : ℕ) → (i ≡ k → ⊥) → (i < k) ⊎ (k < i)
 less-or-more i k ne = go (decLt i k)
   where

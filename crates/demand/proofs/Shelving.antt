@@ -108,6 +108,7 @@ pub record ShelvedTo (job : Job) (line quantity : List ℕ) (n : ℕ) : Type 0 w
   pub lines : Shelved (lineOf (job .lines)) (take n (job .stock)) line
   pub quantities : Shelved quantityOf (take n (job .stock)) quantity
 
+-- the shelf of no record, and that of all
 pub shelve-none : (job : Job) → ShelvedTo job (replicate 384 0) (replicate 384 0) 0
 shelve-none job =
     record {
@@ -161,6 +162,7 @@ module _ (v : JobValue) (sound : Sound v) (whole : length (v .stock) ≡ 384) (n
         quantities = rw p (shelved-next quantityOf quantity (t .quantity-length) (t .quantities));
       }
 
+-- the job has no more records than its value counts
 pub records-count : (v : JobValue) → length (jobOf v .stock) ≤ v .records
 unfolding jobOf
 records-count v = omega (arith, length-take (v .records) (v .stock))
