@@ -15,7 +15,7 @@ use Rattle.rules.specs.Refusals.{good, bad, checkBytes, workLimit, cleared, wor
 use Rattle.rules.specs.Sheet.{sheetText}
 use Rattle.rules.specs.Answers.{Answer, refused, served, answer}
 use Rattle.rules.proofs.Answering.{answer-area, answer-bad, answer-long, answer-served, file-refusal}
-use Rattle.sheets.specs.Written.{Written}
+use Rattle.lines.specs.Written.{Written}
 use Rattle.planner.specs.Answered.{written, Replied, Answered}
 
 module _ (job : Job) (before work : List ℕ) where

@@ -6,7 +6,7 @@ ghost use lib.ListN.{length, take};
 ghost use Rattle.io.specs.Counts.{Counts};
 ghost use Rattle.rules.specs.JobFile.{lineFeed, header, field};
 ghost use Rattle.rules.specs.Answers.{letterR, output};
-ghost use Rattle.sheets.specs.Written.{Written};
+ghost use Rattle.lines.specs.Written.{Written};
 
 // A text: the first `count` of its bytes.
 pub struct Text {
@@ -19,8 +19,8 @@ fn write_refusal(sheet: &mut [u8], number: usize) -> usize
     requires { ⌜ length (header letterR 1 ++ field lineFeed number) ≤ length (now sheet) ⌝ }
     ensures { λ r. ⌜ Written (header letterR 1 ++ field lineFeed number) (now (sheet .entry)) (now (sheet .exit)) r ⌝ }
 {
-    let start = sheets::lines::write_header(sheet, 82, 1);
-    let at = start + sheets::text::write_number(&mut sheet[start..], number);
+    let start = lines::write_header(sheet, 82, 1);
+    let at = start + lines::text::write_number(&mut sheet[start..], number);
     sheet[at] = 10;
     at + 1
 }

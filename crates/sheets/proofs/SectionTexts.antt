@@ -16,8 +16,8 @@ use Rattle.values.specs.declared.PlanValue.{PlanValue}
 use Rattle.values.specs.declared.PickList.{PickList}
 use Rattle.values.specs.declared.RunList.{RunList}
 use Rattle.values.specs.Values.{planOf, picksOfValue, runsOfValue}
-use Rattle.sheets.specs.Written.{Sized}
-use Rattle.sheets.proofs.Writing.{texts-more}
+use Rattle.lines.specs.Written.{Sized}
+use Rattle.lines.proofs.Writing.{texts-more}
 
 -- the first n elements of an array as a section
 section-take : {A : Type 0} (letter : ℕ) (f : A → List ℕ) (xs : List A) (n : ℕ) → n ≤ length xs → sectionText letter f (take n xs) ≡ header letter n ++ concatOf f (take n xs)

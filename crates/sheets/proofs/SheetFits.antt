@@ -34,8 +34,8 @@ use Rattle.rules.proofs.Lists.{sum-below, member-concat}
 use Rattle.rules.proofs.Numbers.{numeral-induction}
 use Rattle.rules.proofs.Lengths.{well-formed-fits, plan-length-49920}
 use Rattle.rules.proofs.Admission.{layout-within, stock-within}
-use Rattle.sheets.specs.Written.{policyText}
-use Rattle.sheets.proofs.Sizes.{digits-most, field-size, header-size, run-size, total-size, pick-size}
+use Rattle.lines.specs.Written.{policyText}
+use Rattle.lines.proofs.Sizes.{digits-most, field-size, header-size, run-size, total-size, pick-size}
 
 -- the length of lists, one behind the other
 concat-length : {A B : Type 0} (f : A → List B) (xs : List A) → length (concatOf f xs) ≡ sumOf (λ x. length (f x)) xs

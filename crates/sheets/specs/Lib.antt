@@ -1,3 +1,2 @@
 -- What the contracts of the sheet's writers are stated with.
 pub mod Parts
-pub mod Written

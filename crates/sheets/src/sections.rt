@@ -1,15 +1,15 @@
 // The sections: each is written into the space lent to it, and its byte count told, by a loop over its lines.
-use crate::lines::action_size;
-use crate::lines::header_size;
-use crate::lines::pick_size;
-use crate::lines::run_size;
-use crate::lines::total_line_size;
-use crate::lines::write_action;
-use crate::lines::write_header;
-use crate::lines::write_passage;
-use crate::lines::write_pick;
-use crate::lines::write_run;
-use crate::lines::write_total_line;
+use lines::action_size;
+use lines::header_size;
+use lines::pick_size;
+use lines::run_size;
+use lines::total_line_size;
+use lines::write_action;
+use lines::write_header;
+use lines::write_passage;
+use lines::write_pick;
+use lines::write_run;
+use lines::write_total_line;
 use rules::Policy;
 use values::PickList;
 use values::PlanValue;
@@ -20,7 +20,7 @@ ghost use lib.ListN.{length};
 ghost use Rattle.rules.specs.JobFile.{header, sectionText};
 ghost use Rattle.rules.specs.Sheet.{letterT, letterA, letterC, letterP, letterW, totalText, actionText, passageText, pickText, runText};
 ghost use Rattle.values.specs.Values.{planOf, picksOfValue, runsOfValue};
-ghost use Rattle.sheets.specs.Written.{Written, Sized};
+ghost use Rattle.lines.specs.Written.{Written, Sized};
 
 // Writes the T section.
 pub fn write_total(sheet: &mut [u8], total: usize, policy: Policy) -> usize

@@ -16,7 +16,7 @@ use values::RunList;
 ghost use Prim.Native.Nat.{_≤_};
 ghost use lib.ListN.{length};
 ghost use Rattle.sheets.specs.Parts.{sheetOfValues, CountsWithin};
-ghost use Rattle.sheets.specs.Written.{Written, Sized};
+ghost use Rattle.lines.specs.Written.{Written, Sized};
 
 // The byte count of the sheet.
 pub fn sheet_size(

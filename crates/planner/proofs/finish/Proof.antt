@@ -6,7 +6,7 @@ use denote.Ref.{now}
 use Rattle.rules.specs.Sheet.{sheetText}
 use Rattle.values.specs.Values.{jobOf}
 use Rattle.sheets.specs.Parts.{sheetOfValues}
-use Rattle.sheets.specs.Written.{Written}
+use Rattle.lines.specs.Written.{Written}
 use Rattle.planner.proofs.Replies.{replied-short, replied-written}
 use Rattle.planner.proofs.Routes.{picks-asked, routed-lawful, routed-counts, routed-sheet}
 use borrow.Author.Needs.{needs}

@@ -8,8 +8,8 @@ use denote.Ref.{now}
 use borrow.Rule.Slice.PartMut.{putMid}
 use Rattle.rules.specs.JobFile.{lineFeed, header, field, numeral}
 use Rattle.rules.specs.Answers.{letterR}
-use Rattle.sheets.specs.Written.{Written}
-use Rattle.sheets.proofs.Writing.{first-room, written-as, written-within, written-rest, rest-room, byte-room, written-byte, written-length}
+use Rattle.lines.specs.Written.{Written}
+use Rattle.lines.proofs.Writing.{first-room, written-as, written-within, written-rest, rest-room, byte-room, written-byte, written-length}
 use borrow.Author.Needs.{needs}
 use Rattle.route.proofs.text.write_refusal.Statement.{statement}
 use Rattle.route.proofs.text.write_refusal.Tie as tie

@@ -12,7 +12,7 @@ use Prim.Native.Nat.{ℕ}
 use mathlib.Core.List.{List}
 use Rattle.rules.specs.Sheet.{letterA, actionText}
 use Rattle.values.specs.declared.Stage.{Stage}
-use Rattle.sheets.proofs.Writing.{first-room, SoFar, none-so-far, all-so-far, so-far-within, so-far-length, turn-room, turn-within, turn-written}
+use Rattle.lines.proofs.Writing.{first-room, SoFar, none-so-far, all-so-far, so-far-within, so-far-length, turn-room, turn-within, turn-written}
 use Rattle.sheets.proofs.SectionTexts.{actions-text}
 use Rattle.sheets.proofs.sections.write_actions.Statement.{statement}
 use Rattle.sheets.proofs.sections.write_actions.Tie as tie

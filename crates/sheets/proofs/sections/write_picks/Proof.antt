@@ -9,7 +9,7 @@ use borrow.Author.Needs.{needs}
 use Rattle.rules.specs.Lists.{concatOf}
 use Rattle.rules.specs.JobFile.{header}
 use Rattle.rules.specs.Sheet.{letterP, pickText}
-use Rattle.sheets.proofs.Writing.{first-room, SoFar, none-so-far, all-so-far, so-far-within, so-far-length, turn-room, turn-within, turn-written}
+use Rattle.lines.proofs.Writing.{first-room, SoFar, none-so-far, all-so-far, so-far-within, so-far-length, turn-room, turn-within, turn-written}
 use Rattle.sheets.proofs.SectionTexts.{picks-text}
 use Rattle.sheets.proofs.sections.write_picks.Statement.{statement}
 use Rattle.sheets.proofs.sections.write_picks.Tie as tie

@@ -6,7 +6,7 @@ use lib.ListN.{length}
 use denote.Ref.{now}
 use Rattle.rules.specs.JobFile.{header}
 use Rattle.rules.specs.Sheet.{letterT, totalText}
-use Rattle.sheets.proofs.Writing.{first-room, written-within, written-rest, rest-room}
+use Rattle.lines.proofs.Writing.{first-room, written-within, written-rest, rest-room}
 use borrow.Author.Needs.{needs}
 use Rattle.sheets.proofs.sections.write_total.Statement.{statement}
 use Rattle.sheets.proofs.sections.write_total.Tie as tie

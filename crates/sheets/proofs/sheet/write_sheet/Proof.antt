@@ -10,9 +10,9 @@ use borrow.Rule.Slice.PartMut.{putMid}
 use Rattle.rules.specs.JobFile.{header, sectionText}
 use Rattle.rules.specs.Sheet.{letterT, letterA, letterC, letterP, letterW, totalText, actionText, passageText, pickText, runText}
 use Rattle.values.specs.Values.{planOf, picksOfValue, runsOfValue}
-use Rattle.sheets.specs.Written.{Written}
+use Rattle.lines.specs.Written.{Written}
 use Rattle.sheets.specs.Parts.{sheetOfParts, sheetOfValues}
-use Rattle.sheets.proofs.Writing.{first-room, written-as, written-within, written-rest, rest-room}
+use Rattle.lines.proofs.Writing.{first-room, written-as, written-within, written-rest, rest-room}
 use Rattle.sheets.proofs.sheet.write_sheet.Statement.{statement}
 use Rattle.sheets.proofs.sheet.write_sheet.Tie as tie
 

@@ -1,0 +1,2 @@
+-- What the contracts of the writers are stated with.
+pub mod Written
