@@ -1,5 +1,5 @@
 -- The turns of a kind of action, and all pairs of them in one sweep.
-use Prim.Native.Nat.{ℕ, zero, suc, _+_, _*_, _-_, _≤_, _<_}
+use Prim.Native.Nat.{ℕ, zero, suc, _+_, _*_, _≤_, _<_}
 use mathlib.Core.Path.{_≡_}
 use mathlib.Core.Logic.{_⊎_}
 use mathlib.Core.List.{List}
@@ -7,10 +7,10 @@ use mathlib.Core.Bool.{Bool, cond, not, _&&_, _||_}
 use lib.Dec.{ltb, leb, eqb}
 use lib.ListN.{length, getD}
 use Rattle.rules.specs.declared.Layout.{Layout}
-use Rattle.rules.specs.Store.{position, aisleLength}
 use Rattle.rules.specs.Policies.{inFrontHalf, inBackHalf}
 use Rattle.optimum.specs.Routing.{noTour, sat}
 use Rattle.table.specs.declared.layers.Turns.{Turns}
+use Rattle.table.specs.Candidates.{frontCost, backCost}
 use Rattle.rows.specs.Rows.{tab}
 
 -- the heights that the front part of a kind of action reaches: VOID and TOP have none, ONCE and TWICE pass all cells
@@ -28,18 +28,6 @@ backAt top (suc zero) i = eqb i top
 backAt top (suc (suc zero)) i = leb 1 i && ltb i top
 backAt top (suc (suc (suc zero))) i = leb 2 i && ltb i top
 backAt top (suc (suc (suc (suc n)))) i = eqb i top
-
--- what the two parts cost: there and back, or the whole aisle once or twice
-abbrev pub frontCost : Layout → ℕ → ℕ → ℕ
-frontCost z zero h = 2 * position z h
-frontCost z (suc zero) h = 2 * position z h
-frontCost z (suc (suc zero)) h = 2 * position z h
-frontCost z (suc (suc (suc zero))) h = 2 * position z h
-frontCost z (suc (suc (suc (suc zero)))) h = aisleLength z
-frontCost z (suc (suc (suc (suc (suc n))))) h = 2 * aisleLength z
-
-abbrev pub backCost : Layout → ℕ → ℕ
-backCost z i = 2 * (aisleLength z - position z i)
 
 -- what a turn costs; 'none' where the kind has none, or where it is to keep to its half and does not
 unfoldable pub frontTurn : Layout → ℕ → Bool → ℕ → ℕ

@@ -1,8 +1,8 @@
 // One aisle of the table: the ways over all its actions, a kind of action at a time.
-use crate::candidates::aisle_length;
+use crate::candidates::back_cost;
 use crate::candidates::back_half;
+use crate::candidates::front_cost;
 use crate::candidates::front_half;
-use crate::candidates::position_of;
 use demand::digits::DEMANDS;
 use machine::action_step;
 use rows::NONE;
@@ -18,7 +18,7 @@ ghost use Rattle.machine.specs.Steps.{bit};
 ghost use Rattle.table.specs.Crossings.{InRange};
 ghost use Rattle.table.specs.Layers.{AisleReady, PassDone, RowFilled, passHalves, passKind, passesOf, stepWith};
 ghost use Rattle.rows.specs.Rows.{RelaxReady, RelaxedRow, numbers};
-ghost use Rattle.table.specs.Turns.{SweepReady, SweptTo, TurnsOf, backAt, backTurn, frontAt, frontCost, frontTurn};
+ghost use Rattle.table.specs.Turns.{SweepReady, SweptTo, TurnsOf, backAt, backTurn, frontAt, frontTurn};
 ghost use Rattle.rules.specs.Store.{layoutInBounds};
 ghost use lib.ListN.{getD, length};
 ghost use mathlib.Core.Bool.{true};
@@ -85,20 +85,6 @@ fn back_at(top: usize, kind: usize, i: usize) -> bool
     }
 }
 
-// What the front part of an action costs.
-fn front_cost(z: Layout, kind: usize, h: usize) -> usize
-    requires { ⌜ layoutInBounds z ≡ true ⌝ }
-    ensures { λ r. ⌜ (r ≡ frontCost z kind h) × (r ≤ 1620) ⌝ }
-{
-    if kind < 4 {
-        return 2 * position_of(z, h);
-    }
-    if kind == 4 {
-        return aisle_length(z);
-    }
-    2 * aisle_length(z)
-}
-
 // The front turn of a kind at height h; with halves = 1 in the front half alone.
 fn front_turn(z: Layout, kind: usize, halves: usize, h: usize) -> u16
     requires { ⌜ (layoutInBounds z ≡ true) × (halves < 2) ⌝ }
@@ -116,7 +102,7 @@ fn back_turn(z: Layout, kind: usize, halves: usize, i: usize) -> u16
     ensures { λ r. ⌜ r ≡ backTurn z kind (bit halves) i ⌝ }
 {
     if back_at(z.cells + 1, kind, i) & ((halves == 0) | back_half(z, i)) {
-        return (2 * (aisle_length(z) - position_of(z, i))) as u16;
+        return back_cost(z, i) as u16;
     }
     NONE
 }
