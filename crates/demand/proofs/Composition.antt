@@ -3,23 +3,20 @@ use Prim.Native.Nat.{ℕ, suc, _+_, _≤_, _<_}
 use native.Mathlib.Omega.{arith}
 use native.Mathlib.Nat.{mul-suc, zero-mod, zero-div}
 use mathlib.Core.Path.{_≡_, refl, sym, _∙_, ap, ap₂}
-use mathlib.Core.List.{List, [], _∷_, map}
-use mathlib.Core.Bool.{Bool, true, false, cond, _&&_, _||_, and-eq-true-iff, true≢false}
-use lib.Dec.{eqb, leb}
+use mathlib.Core.List.{List, [], _∷_, map, List·Memᴰ}
+use mathlib.Core.Bool.{Bool, true, false, cond, _&&_, and-eq-true-iff, true≢false}
+use lib.Dec.{eqb}
 use lib.ListN.{length}
-use borrow.Author.Tests.{leb-true, le-leb, lt-leb, eqb-true, eq-eqb}
-use Rattle.rules.specs.declared.Action.{Action}
-use Rattle.rules.specs.declared.Action.the-variants.{Void, Bottom, Top, Gap, Once, Twice}
+use borrow.Author.Tests.{eqb-true, eq-eqb}
 use Rattle.rules.specs.declared.StockRecord.{StockRecord}
 use Rattle.rules.specs.declared.OrderLine.{OrderLine}
 use Rattle.rules.specs.Lists.{sumOf, productOf, allOf}
 use Rattle.rules.specs.Jobs.{Job}
-use Rattle.rules.specs.Plans.{Fits, passesCell}
 use Rattle.rules.specs.Refusals.{stockInBounds, weight}
 use Rattle.rules.proofs.Lists.{sum-agree, sum-plus}
 use Rattle.rules.proofs.Admission.{stock-within}
-use Rattle.optimum.specs.Demand.{supplyIn, gains, less, wholeDemand, met, radices, codeOf, demandOf, lessCode}
-use Rattle.optimum.proofs.Radix.{Positive, code-of-demand, less-code, radices-positive, gains-length, count-weight}
+use Rattle.optimum.specs.Demand.{gains, less, wholeDemand, met, radices, codeOf, demandOf, lessCode}
+use Rattle.optimum.proofs.Radix.{Positive, code-of-demand, less-code, radices-positive, count-weight}
 
 -- the stock of an article in those cells of aisle j of which a test holds, and what it supplies to each line
 abbrev pub stockWhere : List StockRecord → ℕ → (ℕ → Bool) → ℕ → ℕ
@@ -49,9 +46,18 @@ map-plus f g h e [] = refl
 map-plus f g h e (l ∷ ls) = ap₂ (λ x xs. x ∷ xs) (e l) (map-plus f g h e ls)
 
 -- a test that is parted at every cell of the store parts the gains
-pub gains-parted : (job : Job) → stockInBounds job ≡ true → (j : ℕ) (p q r : ℕ → Bool) → ((c : ℕ) → 1 ≤ c → c ≤ job .layout .cells → Parted (p c) (q c) (r c)) → gainsWhere job j p ≡ plus (gainsWhere job j q) (gainsWhere job j r)
+pub gains-parted : (job : Job) → stockInBounds job ≡ true → (j : ℕ) (p q r : ℕ → Bool)
+    → ((c : ℕ) → 1 ≤ c → c ≤ job .layout .cells → Parted (p c) (q c) (r c)) → gainsWhere job j p ≡ plus (gainsWhere job j q) (gainsWhere job j r)
 gains-parted job ok j p q r e =
-    map-plus _ _ _ (λ l. sum-agree _ _ (job .stock) (λ s m. (let w = stock-within job .0 ok .records s m .cell in parted-under (eqb (s .article) (l .article)) (eqb (s .aisle) j) (p (s .cell)) (q (s .cell)) (r (s .cell)) (s .quantity) (e (s .cell) w.0 w.1))) ∙ sum-plus _ _ (job .stock)) (job .lines)
+    map-plus _ _ _ (λ l. sum-agree _ _ (job .stock) (at-record l) ∙ sum-plus _ _ (job .stock)) (job .lines)
+  where
+    held : (ℕ → Bool) → OrderLine → StockRecord → ℕ
+    held p l s = cond (eqb (s .article) (l .article) && (eqb (s .aisle) j && p (s .cell))) (s .quantity) 0
+
+    at-record : (l : OrderLine) (s : StockRecord) → List·Memᴰ s (job .stock) → held p l s ≡ held q l s + held r l s
+    at-record l s m =
+        let (low, high) = stock-within job .0 ok .records s m .cell in
+        parted-under (eqb (s .article) (l .article)) (eqb (s .aisle) j) (p (s .cell)) (q (s .cell)) (r (s .cell)) (s .quantity) (e (s .cell) low high)
 
 less-plus : (q gs hs : List ℕ) → less q (plus gs hs) ≡ less (less q gs) hs
 less-plus [] gs hs = refl

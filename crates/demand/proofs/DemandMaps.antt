@@ -1,16 +1,15 @@
--- The maps of an aisle: one more number of a row, and one more cell.
-use Prim.Native.Nat.{ℕ, suc, _+_, _*_, _-_, _≤_, _<_}
+-- The maps of an aisle: what one more cell leaves of a demand, and the row of one more cell.
+use Prim.Native.Nat.{ℕ, suc, _+_, _-_, _≤_, _<_}
 use native.Mathlib.Omega.{arith}
 use native.Mathlib.Numerals.{add-one}
-use native.Mathlib.Decide.{ℕ-discrete, decLt}
-use mathlib.Core.Path.{_≡_, refl, sym, _∙_, ap, subst}
-use mathlib.Core.Logic.{_⊎_, inl, inr, ⊎-elim}
+use native.Mathlib.Decide.{ℕ-discrete}
+use mathlib.Core.Path.{_≡_, refl, sym, _∙_, ap, ap₂, subst}
+use mathlib.Core.Logic.{_⊎_, ⊎-elim}
 use mathlib.Core.List.{List, [], _∷_, map, List·Memᴰ}
 use mathlib.Core.Bool.{Bool, true, false, cond, _&&_, and-false}
 use mathlib.Core.Option.{Option, none, some}
 use lib.Dec.{eqb, leb}
-use lib.ListN.{length, getD, set, replicate, length-set}
-use lib.Seq.{getD-set-same, getD-set-other}
+use lib.ListN.{length, getD, replicate}
 use borrow.Author.Tests.{le-leb, lt-leb, eq-eqb, ne-eqb}
 use Rattle.rules.specs.declared.Action.{Action}
 use Rattle.rules.specs.declared.Action.the-variants.{Bottom, Top}
@@ -27,47 +26,14 @@ use Rattle.optimum.proofs.Radix.{less-code-below, radices-positive, gains-lengt
 use Rattle.values.specs.declared.Shelf.{Shelf}
 use Rattle.values.specs.Shelves.{lineOf, quantityOf, cellNumber}
 use Rattle.demand.specs.declared.digits.Digits.{Digits}
-use Rattle.demand.specs.Digits.{lessLine}
-use Rattle.demand.specs.Maps.{entry, RowSet, MapsAsked, RowOf, reach, heightAt, RowsTo, MapsReady}
+use Rattle.demand.specs.Digits.{demands, noDigit, Within, lessLine}
+use Rattle.demand.specs.Maps.{entry, RowSet, RowBelow, MapsAsked, RowOf, reach, heightAt, RowsTo, MapsReady}
 use Rattle.demand.proofs.Filling.{below}
+use Rattle.demand.proofs.Rows.{less-or-more, row-other}
 use Rattle.demand.proofs.Composition.{plus, Parted, gainsWhere, gains-parted, less-code-plus}
-use Rattle.demand.proofs.DigitLaws.{radices-length, less-code-none, lessAt, none-gained, less-article, less-line-code}
-use Rattle.demand.proofs.Shelving.{lines-below, supplied, cell-gains}
-
-less-or-more : (i k : ℕ) → (i ≡ k → ⊥) → (i < k) ⊎ (k < i)
-less-or-more i k ne = go (decLt i k)
-  where
-    go : Dec (i < k) → (i < k) ⊎ (k < i)
-    go (yes l) = inl l
-    go (no n) = inr (omega arith)
-
--- at first a row is as it was
-pub set-none : (map : List ℕ) (to : ℕ) (f : ℕ → ℕ) → RowSet map map to 0 f
-set-none map to f = record { kept = refl; done = λ q h. absurd (omega arith); rest = λ k h. refl }
-
--- one more number
-pub set-one : (map map′ : List ℕ) (to q v : ℕ) (f : ℕ → ℕ) → to * 256 + q < length map → RowSet map map′ to q f → v ≡ f q → RowSet map (set map′ (to * 256 + q) v) to (q + 1) f
-set-one map map′ to q v f room r e =
-    record {
-      kept = length-set map′ (to * 256 + q) v ∙ r .kept;
-      done = λ k h. ⊎-elim (λ l. getD-set-other map′ (to * 256 + q) (to * 256 + k) v 0 (λ p. omega arith) ∙ r .done k l) (λ p. here k p) (below k q h);
-      rest = λ k h. getD-set-other map′ (to * 256 + q) k v 0 (λ p. ⊎-elim (λ l. omega arith) (λ l. omega arith) h) ∙ r .rest k (⊎-elim (λ l. inl l) (λ l. inr (omega arith)) h);
-    }
-  where
-    here : (k : ℕ) → k ≡ q → getD (set map′ (to * 256 + q) v) (to * 256 + k) 0 ≡ f k
-    here k p = rw p (getD-set-same map′ (to * 256 + q) v 0 (omega (arith, r .kept)) ∙ e)
-
--- the same numbers by another function
-pub row-of : (map map′ : List ℕ) (to n : ℕ) (f g : ℕ → ℕ) → ((q : ℕ) → q < n → f q ≡ g q) → RowSet map map′ to n f → RowSet map map′ to n g
-row-of map map′ to n f g same r = record { kept = r .kept; done = λ q h. r .done q h ∙ same q h; rest = r .rest }
-
--- another row is not touched
-pub other-row : (map map′ : List ℕ) (to n from q : ℕ) (f : ℕ → ℕ) → n ≤ 256 → q < 256 → (from ≡ to → ⊥) → RowSet map map′ to n f → getD map′ (from * 256 + q) 0 ≡ getD map (from * 256 + q) 0
-other-row map map′ to n from q f small low ne r = r .rest (from * 256 + q) (go (less-or-more from to ne))
-  where
-    go : (from < to) ⊎ (to < from) → (from * 256 + q < to * 256) ⊎ (to * 256 + n ≤ from * 256 + q)
-    go (inl l) = inl (omega arith)
-    go (inr l) = inr (omega arith)
+use Rattle.demand.proofs.DigitLaws.{radices-length, less-code-none, lessAt, none-gained, less-article, less-line, digit-within}
+use Rattle.demand.proofs.Records.{supplied, cell-gains}
+use Rattle.demand.proofs.Shelving.{lines-below}
 
 -- one more cell in front, one more cell behind
 front-parted : (h c : ℕ) → Parted (leb c (suc h)) (leb c h) (eqb c (suc h))
@@ -91,21 +57,25 @@ back-parted i c n = go (ℕ-discrete c i)
         (less-or-more c i ne)
 
 -- a part that reaches no cell supplies nothing
-no-gains : (job : Job) (p : ℕ → Bool) (j : ℕ) → stockInBounds job ≡ true → ((c : ℕ) → 1 ≤ c → c ≤ job .layout .cells → p c ≡ false) → gainsWhere job j p ≡ replicate (length (job .lines)) 0
-no-gains job p j ok out = none-gained _ (job .lines) (λ l k. sum-agree _ (λ r. 0) (job .stock) (λ s m. nothing l s m) ∙ sum-zero (job .stock))
+no-gains : (job : Job) (p : ℕ → Bool) (j : ℕ) → stockInBounds job ≡ true
+    → ((c : ℕ) → 1 ≤ c → c ≤ job .layout .cells → p c ≡ false) → gainsWhere job j p ≡ replicate (length (job .lines)) 0
+no-gains job p j ok out =
+    none-gained _ (job .lines) (λ l k. sum-agree _ (λ r. 0) (job .stock) (λ s m. nothing l s m) ∙ sum-zero (job .stock))
   where
     sum-zero : (xs : List StockRecord) → sumOf (λ (r : StockRecord). 0) xs ≡ 0
     sum-zero [] = refl
     sum-zero (x ∷ xs) = omega (arith, sum-zero xs)
 
-    nothing : (l : OrderLine) (s : StockRecord) → List·Memᴰ s (job .stock) → cond (eqb (s .article) (l .article) && (eqb (s .aisle) j && p (s .cell))) (s .quantity) 0 ≡ 0
+    nothing : (l : OrderLine) (s : StockRecord) → List·Memᴰ s (job .stock)
+        → cond (eqb (s .article) (l .article) && (eqb (s .aisle) j && p (s .cell))) (s .quantity) 0 ≡ 0
     nothing l s m =
         let w = stock-within job .0 ok .records s m .cell in
         rw (out (s .cell) (w .0) (w .1), and-false (eqb (s .aisle) j), and-false (eqb (s .article) (l .article))) refl
 
 -- what the record of a cell leaves of a demand
 less-cell : (job : Job) → Admitted job → (o : Option StockRecord) (q : ℕ) → q < weight (job .lines)
-    → lessCode (radices job) (map (λ (l : OrderLine). supplied o (l .article)) (job .lines)) q ≡ lessAt (radices job) (lineOf (job .lines) o) (quantityOf o) q
+    → lessCode (radices job) (map (λ (l : OrderLine). supplied o (l .article)) (job .lines)) q
+    ≡ lessAt (radices job) (lineOf (job .lines) o) (quantityOf o) q
 unfolding radices
 less-cell job ok none q h =
     rw (none-gained (λ l. 0) (job .lines) (λ l m. refl), ← radices-length job) (less-code-none (radices-positive job) q (omega (arith, count-weight job)))
@@ -135,23 +105,38 @@ module _ (job : Job) (ok : stockInBounds job ≡ true) (j : ℕ) where
   unfolding gains supplyIn
   back-gains i = gains-parted job ok j (λ c. leb i c) (λ c. leb (suc i) c) (λ c. eqb c i) (λ c low high. back-parted i c)
 
-  next-gains : (back : Bool) (cells n : ℕ) → n < cells
-      → let c = heightAt back cells (n + 1) in gains job j (reach back c) ≡ plus (gains job j (reach back (heightAt back cells n))) (gainsWhere job j (λ k. eqb k c))
+  next-gains : (back : Bool) (cells n : ℕ) → n < cells → let c = heightAt back cells (n + 1) in
+      gains job j (reach back c) ≡ plus (gains job j (reach back (heightAt back cells n))) (gainsWhere job j (λ k. eqb k c))
   next-gains false cells n h = rw (add-one n) (front-gains n)
-  next-gains true cells n h = let e : suc cells - n ≡ suc (suc cells - (n + 1)) = omega arith in rw e (back-gains (suc cells - (n + 1)))
+  next-gains true cells n h =
+      let e : suc cells - n ≡ suc (suc cells - (n + 1)) = omega arith in
+      rw e (back-gains (suc cells - (n + 1)))
 
   -- at the first height none is reached
   first-gains : (back : Bool) → gains job j (reach back (heightAt back (job .layout .cells) 0)) ≡ replicate (length (job .lines)) 0
   unfolding gains supplyIn
   first-gains false = no-gains job (λ c. leb c 0) j ok (λ c low high. lt-leb c 0 low)
-  first-gains true = no-gains job (λ c. leb (suc (job .layout .cells) - 0) c) j ok (λ c low high. lt-leb (suc (job .layout .cells) - 0) c (omega arith))
+  first-gains true =
+      let last = suc (job .layout .cells) - 0 in
+      no-gains job (λ c. leb last c) j ok (λ c low high. lt-leb last c (omega arith))
 
-module _ (job : Job) (shelf : Shelf) (d : Digits) (cells j : ℕ) (asked : MapsAsked job shelf d cells j) where
+-- the line and the quantity of a cell
+abbrev pub lineAt : Shelf → ℕ → ℕ → ℕ
+lineAt shelf j c = getD (shelf .line) (cellNumber j c) 0
+
+abbrev pub quantityAt : Shelf → ℕ → ℕ → ℕ
+quantityAt shelf j c = getD (shelf .quantity) (cellNumber j c) 0
+
+-- the maps of an aisle that are asked for
+module _ {job : Job} {shelf : Shelf} {d : Digits} {cells j : ℕ} (asked : MapsAsked job shelf d cells j) where
   ok : stockInBounds job ≡ true
   ok = asked .admitted .stock
 
   counted : d .weight ≡ weight (job .lines)
   counted = asked .digits-of .counted
+
+  light : d .weight ≤ demands
+  light = asked .digits-of .small .1
 
   -- the numbers that the code computes with
   pub aisle-small : (1 ≤ cells) × (cells ≤ 24) × (1 ≤ j) × (j ≤ 16)
@@ -159,63 +144,74 @@ module _ (job : Job) (shelf : Shelf) (d : Digits) (cells j : ℕ) (asked : MapsA
       let z = layout-within (job .layout) .0 (asked .admitted .layout) in
       (omega (arith, asked .cells-are), omega (arith, asked .cells-are), asked .aisle .0, omega (arith, asked .aisle .1))
 
-  pub line-small : (c : ℕ) → 1 ≤ c → c ≤ cells → getD (shelf .line) (cellNumber j c) 0 ≤ 8
-  line-small c low high =
-      let z = aisle-small in
-      omega (arith, lines-below job shelf (asked .shelf-of) j c (z .2) (z .3) low (omega arith), list-within job .0 (asked .admitted .list) .count .1)
+  line-below : (c : ℕ) → 1 ≤ c → c ≤ cells → lineAt shelf j c ≤ length (job .lines)
+  line-below c low high = let z = aisle-small in lines-below (asked .shelf-of) j c (z .2) (z .3) low (omega arith)
+
+  pub line-digit : (c : ℕ) → 1 ≤ c → c ≤ cells → let line = lineAt shelf j c in
+      (line ≤ 8) × (1 ≤ line → Within (getD (d .digit) (line - 1) noDigit) (d .weight))
+  line-digit c low high =
+      let few = line-below c low high in
+      let eight = list-within job .0 (asked .admitted .list) .count .1 in
+      (omega arith, λ has. digit-within (asked .digits-of) (lineAt shelf j c - 1) (omega arith))
 
   -- the demands of a row are below the weight
-  pub row-below : (x : Action) (map : List ℕ) (row : ℕ) → RowOf job j x map row → (q : ℕ) → q < d .weight → entry map row q < d .weight
-  row-below x map row t q l =
-      omega (arith, t q (omega (arith, counted)), counted, count-weight job, less-code-below (gains job j x) (radices-positive job) (gains-length job j x) q)
+  less-below : (x : Action) (q : ℕ) → lessCode (radices job) (gains job j x) q < weight (job .lines)
+  less-below x q = omega (arith, count-weight job, less-code-below (gains job j x) (radices-positive job) (gains-length job j x) q)
+
+  pub row-below : (x : Action) (map : List ℕ) (row : ℕ) → RowOf job j x map row → RowBelow map row (d .weight)
+  row-below x map row t q l = omega (arith, t q (omega (arith, counted)), counted, less-below x q)
 
   -- what one more cell leaves of a demand
   cell-step : (x : Action) (c q v : ℕ) → 1 ≤ c → c ≤ cells → v ≡ lessCode (radices job) (gains job j x) q
-      → lessLine d (getD (shelf .line) (cellNumber j c) 0) (getD (shelf .quantity) (cellNumber j c) 0) v
-      ≡ lessCode (radices job) (plus (gains job j x) (gainsWhere job j (λ k. eqb k c))) q
+      → lessLine d (lineAt shelf j c) (quantityAt shelf j c) v ≡ lessCode (radices job) (plus (gains job j x) (gainsWhere job j (λ k. eqb k c))) q
   cell-step x c q v low high e =
       let z = aisle-small in
-      let rs = radices job in
       let o = recordAt (job .stock) (record { aisle = j; height = c }) in
-      let small : v < weight (job .lines) = rw e (omega (arith, count-weight job, less-code-below (gains job j x) (radices-positive job) (gains-length job j x) q)) in
-      less-line-code job d (asked .digits-of) (getD (shelf .line) (cellNumber j c) 0) (getD (shelf .quantity) (cellNumber j c) 0) v (lines-below job shelf (asked .shelf-of) j c (z .2) (z .3) low (omega arith))
-      ∙ rw (asked .shelf-of .line-at j c (z .2) (z .3) low (omega arith), asked .shelf-of .quantity-at j c (z .2) (z .3) low (omega arith)) (sym (less-cell job (asked .admitted) o v small))
-      ∙ ap (λ hs. lessCode rs hs v) (sym (cell-gains job (asked .admitted) j c))
-      ∙ ap (lessCode rs (gainsWhere job j (λ k. eqb k c))) e
-      ∙ sym (less-code-plus (gains job j x) (gainsWhere job j (λ k. eqb k c)) (radices-positive job) (gains-length job j x) q)
+      let here = gainsWhere job j (λ k. eqb k c) in
+      let line = asked .shelf-of .line-at j c (z .2) (z .3) low (omega arith) in
+      let quantity = asked .shelf-of .quantity-at j c (z .2) (z .3) low (omega arith) in
+      let small : v < weight (job .lines) = rw e (less-below x q) in
+      less-line (asked .digits-of) (lineAt shelf j c) (quantityAt shelf j c) v (line-below c low high) (omega (arith, counted, light))
+      ∙ ap₂ (λ l n. lessAt (radices job) l n v) line quantity
+      ∙ sym (less-cell job (asked .admitted) o v small)
+      ∙ ap (λ hs. lessCode (radices job) hs v) (sym (cell-gains job (asked .admitted) j c))
+      ∙ ap (lessCode (radices job) here) e
+      ∙ sym (less-code-plus (gains job j x) here (radices-positive job) (gains-length job j x) q)
 
   -- the first row of a map, and one more
   pub first-row : (back : Bool) (map map′ : List ℕ) → RowSet map map′ (heightAt back cells 0) (d .weight) (λ q. q) → RowsTo job cells j back 1 map′
   first-row back map map′ r k l q h =
       let first : k ≡ 0 = omega arith in
-      rw first
-      (r .done q (omega (arith, counted))
-      ∙ sym (ap (λ n. lessCode (radices job) (gains job j (reach back (heightAt back n 0))) q) (asked .cells-are) ∙ ap (λ gs. lessCode (radices job) gs q) (first-gains job ok j back)
-      ∙ rw (← radices-length job) (less-code-none (radices-positive job) q (omega (arith, count-weight job)))))
+      rw (first, asked .cells-are, first-gains job ok j back, ← radices-length job, less-code-none (radices-positive job) q (omega (arith, count-weight job)), ← asked .cells-are)
+      (r .done q (omega (arith, counted)))
 
-  pub next-row : (back : Bool) (map map′ : List ℕ) (n from to : ℕ) → n < cells → from ≡ heightAt back cells n → to ≡ heightAt back cells (n + 1) → RowsTo job cells j back (n + 1) map
-      → RowSet map map′ to (d .weight) (λ q. lessLine d (getD (shelf .line) (cellNumber j to) 0) (getD (shelf .quantity) (cellNumber j to) 0) (entry map from q))
-      → RowsTo job cells j back (n + 1 + 1) map′
-  next-row back map map′ n from to low f e t r k l q h = ⊎-elim kept (λ p. subst Here (e ∙ ap (heightAt back cells) (sym p)) here) (below k (n + 1) l)
-    where
-      Here : ℕ → Type 0
-      Here c = entry map′ c q ≡ lessCode (radices job) (gains job j (reach back c)) q
+  module _ (back : Bool) (map map′ : List ℕ) (n from to at : ℕ) (low : n < cells)
+      (from-is : from ≡ heightAt back cells n) (to-is : to ≡ heightAt back cells (n + 1)) (at-is : at ≡ cellNumber j to) where
+    pub next-row : RowsTo job cells j back (n + 1) map
+        → RowSet map map′ to (d .weight) (λ q. lessLine d (getD (shelf .line) at 0) (getD (shelf .quantity) at 0) (entry map from q))
+        → RowsTo job cells j back (n + 1 + 1) map′
+    next-row t r k l q h = ⊎-elim kept (λ p. subst Here (to-is ∙ ap (heightAt back cells) (sym p)) here) (below k (n + 1) l)
+      where
+        Here : ℕ → Type 0
+        Here c = entry map′ c q ≡ lessCode (radices job) (gains job j (reach back c)) q
 
-      here : Here to
-      here =
-          let there = rw (← e) at (height-in back cells n low) in
-          r .done q (omega (arith, counted))
-          ∙ cell-step (reach back (heightAt back cells n)) to q (entry map from q) (there .0) (there .1) (rw f (t n (omega arith) q h))
-          ∙ ap (λ gs. lessCode (radices job) gs q) (sym (rw (← e) at (next-gains job ok j back cells n low)))
+        here : Here to
+        here =
+            let (one, all) = rw (← to-is) at (height-in back cells n low) in
+            let more = rw (← to-is) at (next-gains job ok j back cells n low) in
+            r .done q (omega (arith, counted))
+            ∙ ap (λ k. lessLine d (getD (shelf .line) k 0) (getD (shelf .quantity) k 0) (entry map from q)) at-is
+            ∙ cell-step (reach back (heightAt back cells n)) to q (entry map from q) one all (rw from-is (t n (omega arith) q h))
+            ∙ ap (λ gs. lessCode (radices job) gs q) (sym more)
 
-      kept : k < n + 1 → Here (heightAt back cells k)
-      kept b =
-          other-row map map′ to (d .weight) (heightAt back cells k) q _ (asked .digits-of .small .1) (omega (arith, counted, asked .digits-of .small .1))
-          (λ p. heights-differ back cells k (n + 1) b (omega arith) (p ∙ e)) r
-          ∙ t k b q h
+        kept : k < n + 1 → Here (heightAt back cells k)
+        kept b =
+            let other : heightAt back cells k ≡ to → ⊥ = λ p. heights-differ back cells k (n + 1) b (omega arith) (p ∙ to-is) in
+            row-other r (heightAt back cells k) q other light (omega (arith, counted, light)) ∙ t k b q h
 
 -- the rows of both maps
-pub maps-ready : (job : Job) (cells j : ℕ) (fronts backs : List ℕ) → cells ≡ job .layout .cells → RowsTo job cells j false (suc cells) fronts → RowsTo job cells j true (suc cells) backs → MapsReady job j fronts backs
+pub maps-ready : (job : Job) (cells j : ℕ) (fronts backs : List ℕ) → cells ≡ job .layout .cells
+    → RowsTo job cells j false (suc cells) fronts → RowsTo job cells j true (suc cells) backs → MapsReady job j fronts backs
 maps-ready job cells j fronts backs e f b =
     record {
       front = λ h q l k. f h (omega arith) q k;

@@ -1,8 +1,8 @@
 -- Lists that are filled from the front, one number at a time.
-use Prim.Native.Nat.{ℕ, _+_, _≤_, _<_}
+use Prim.Native.Nat.{ℕ, zero, suc, _+_, _≤_, _<_}
 use native.Mathlib.Omega.{arith}
 use native.Mathlib.Nat.{eq-or-lt-of-le}
-use mathlib.Core.Path.{_≡_, sym, _∙_, ap}
+use mathlib.Core.Path.{_≡_, refl, sym, _∙_, ap}
 use mathlib.Core.Logic.{_⊎_, inl, inr, ⊎-elim}
 use mathlib.Core.List.{List}
 use lib.ListN.{length, getD, set, replicate, length-replicate, getD-replicate}
@@ -14,6 +14,12 @@ below k i h = ⊎-elim (λ e. inr e) (λ l. inl l) (eq-or-lt-of-le (small k i h)
   where
     small : (k i : ℕ) → k < i + 1 → k ≤ i
     small k i h = omega arith
+
+-- a list of zeros, in it and past its end
+pub zero-at : (n k : ℕ) → getD {A = ℕ} (replicate n 0) k 0 ≡ 0
+zero-at zero k = refl
+zero-at (suc n) zero = refl
+zero-at (suc n) (suc k) = zero-at n k
 
 -- one more entry of a list that is filled from the front
 pub filled-one : (f : ℕ → ℕ) (xs : List ℕ) (i v : ℕ) → i < length xs → ((k : ℕ) → k < i → getD xs k 0 ≡ f k) → v ≡ f i → (k : ℕ) → k < i + 1 → getD (set xs i v) k 0 ≡ f k

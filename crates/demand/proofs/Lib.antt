@@ -1,5 +1,7 @@
 pub mod Filling
-pub mod DigitLaws
-pub mod Shelving
-pub mod DemandMaps
 pub mod Composition
+mod Records
+mod Shelving
+mod DigitLaws
+mod Rows
+mod DemandMaps

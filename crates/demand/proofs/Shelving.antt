@@ -1,11 +1,11 @@
--- The shelf of a job: one more record on it, what a cell supplies to the lines, and whether an aisle holds a listed article.
-use Prim.Native.Nat.{ℕ, zero, suc, _+_, _-_, _*_, _/_, _≤_, _<_}
+-- The shelf of a job: the line of an article, one more record, and whether an aisle holds a listed article.
+use Prim.Native.Nat.{ℕ, zero, suc, _+_, _-_, _/_, _≤_, _<_}
 use native.Mathlib.Omega.{arith}
 use native.Mathlib.Numerals.{add-one}
 use native.Mathlib.Decide.{ℕ-discrete}
-use mathlib.Core.Path.{_≡_, refl, sym, _∙_, ap, fun-ext}
-use mathlib.Core.List.{List, [], _∷_, _++_, map, List·Memᴰ, List·Memᴰ·head, List·Memᴰ·tail}
-use mathlib.Core.Bool.{Bool, true, false, cond, _&&_, _||_, and-false, and-true, and-eq-true-iff, true≢false}
+use mathlib.Core.Path.{_≡_, refl, sym, _∙_, ap}
+use mathlib.Core.List.{List, [], _∷_, _++_, List·Memᴰ}
+use mathlib.Core.Bool.{Bool, true, false, cond, _&&_, _||_}
 use mathlib.Core.Option.{Option, none, some}
 use lib.Dec.{eqb}
 use lib.ListN.{length, getD, take, drop, set, replicate, length-set, length-take}
@@ -13,64 +13,20 @@ use lib.Seq.{getD-set-same, getD-set-other, getD-take, take-all, take-suc, drop-
 use borrow.Author.Tests.{eqb-true, eq-eqb, ne-eqb}
 use Rattle.rules.specs.declared.StockRecord.{StockRecord}
 use Rattle.rules.specs.declared.OrderLine.{OrderLine}
-use Rattle.rules.specs.Lists.{anyOf, anyTwo, firstOf}
-use Rattle.rules.specs.Store.{Point}
+use Rattle.rules.specs.Lists.{anyOf}
 use Rattle.rules.specs.Jobs.{Job, listed, holdsListed}
 use Rattle.rules.specs.Picks.{recordAt}
-use Rattle.rules.specs.Refusals.{sameCell, Admitted, RecordWithin}
+use Rattle.rules.specs.Refusals.{sameCell, Admitted}
 use Rattle.rules.proofs.Lists.{any-false, any-true}
-use Rattle.rules.proofs.Admission.{stock-within, layout-within, one-record-per-cell}
+use Rattle.rules.proofs.Admission.{stock-within, layout-within}
 use Rattle.machine.specs.Steps.{bit}
 use Rattle.values.specs.declared.JobValue.{JobValue}
 use Rattle.values.specs.declared.Shelf.{Shelf}
 use Rattle.values.specs.Values.{jobOf, Sound}
 use Rattle.values.specs.Shelves.{lineFrom, lineOf, quantityOf, cellNumber, ShelfOf}
 use Rattle.demand.specs.Digits.{noLine}
-use Rattle.demand.proofs.Composition.{stockWhere, gainsWhere}
-
-pub or-false : (b d : Bool) → (b || d) ≡ false → (b ≡ false) × (d ≡ false)
-or-false true d h = absurd (true≢false h)
-or-false false d h = (refl, h)
-
-module _ {A : Type 0} where
-  -- what stands at a place of the list is a member
-  pub at-member : (d : A) (xs : List A) (i : ℕ) → i < length xs → List·Memᴰ (getD xs i d) xs
-  at-member d [] i h = absurd (omega arith)
-  at-member d (x ∷ xs) zero h = List·Memᴰ·head refl
-  at-member d (x ∷ xs) (suc i) h = List·Memᴰ·tail (at-member d xs i (omega arith))
-
-  -- where no two are alike, none in front of a place is like what stands there
-  none-before : (alike : A → A → Bool) (d : A) (xs : List A) (n : ℕ) → n < length xs → anyTwo alike xs ≡ false → anyOf (λ x. alike x (getD xs n d)) (take n xs) ≡ false
-  none-before alike d [] n h e = absurd (omega arith)
-  none-before alike d (x ∷ xs) zero h e = refl
-  none-before alike d (x ∷ xs) (suc n) h e =
-      let parts = or-false (anyOf (alike x) xs) (anyTwo alike xs) e in
-      rw (any-false (alike x) xs .0 (parts .0) (getD xs n d) (at-member d xs n (omega arith))) (none-before alike d xs n (omega arith) (parts .1))
-
-  -- the first element of which a test holds: a member; none where the test holds of none; with one more, at the end
-  first-member : (t : A → Bool) (xs : List A) (x : A) → firstOf t xs ≡ some x → List·Memᴰ x xs × (t x ≡ true)
-  first-member t [] x e = let z : _≡_ {A = ℕ} 0 1 = cc in absurd (omega arith)
-  first-member t (y ∷ ys) x e = go (t y) refl e (first-member t ys x)
-    where
-      go : (b : Bool) → t y ≡ b → cond b (some y) (firstOf t ys) ≡ some x → (firstOf t ys ≡ some x → List·Memᴰ x ys × (t x ≡ true)) → List·Memᴰ x (y ∷ ys) × (t x ≡ true)
-      go true h e rest = let same : x ≡ y = cc in (List·Memᴰ·head same, ap t same ∙ h)
-      go false h e rest = let r = rest e in (List·Memᴰ·tail (r .0), r .1)
-
-  first-none : (t : A → Bool) (xs : List A) → firstOf t xs ≡ none → anyOf t xs ≡ false
-  first-none t [] e = refl
-  first-none t (y ∷ ys) e = go (t y) e (first-none t ys)
-    where
-      go : (b : Bool) → cond b (some y) (firstOf t ys) ≡ none → (firstOf t ys ≡ none → anyOf t ys ≡ false) → (b || anyOf t ys) ≡ false
-      go true k rest = let z : _≡_ {A = ℕ} 0 1 = cc in absurd (omega arith)
-      go false k rest = rest k
-
-  first-other : (t : A → Bool) (xs : List A) (y : A) → t y ≡ false → firstOf t (xs ++ (y ∷ [])) ≡ firstOf t xs
-  first-other t [] y e = rw e refl
-  first-other t (x ∷ xs) y e = ap (cond (t x) (some x)) (first-other t xs y e)
-
-  first-last : (t : A → Bool) (xs : List A) (y : A) → anyOf t xs ≡ false → t y ≡ true → firstOf t (xs ++ (y ∷ [])) ≡ some y
-  first-last t [] y e h = rw h refl
-  first-last t (x ∷ xs) y e h = let parts = or-false (t x) (anyOf t xs) e in rw (parts .0) (first-last t xs y (parts .1) h)
+use Rattle.demand.proofs.Filling.{zero-at}
+use Rattle.demand.proofs.Records.{at-member, none-before, first-member, first-other, first-last, cellAt, isAt, is-at, at-itself, its-record}
 
 -- the line of an article, as the code looks for it: at the next line, or behind it; on no line behind the last
 pub line-here : (lines : List OrderLine) (l a : ℕ) → l < length lines → getD lines l noLine .article ≡ a → lineFrom l (drop l lines) a ≡ l + 1
@@ -84,7 +40,10 @@ line-listed : (lines : List OrderLine) (k a : ℕ) → bit (lineFrom k lines a) 
 line-listed [] k a = refl
 line-listed (l ∷ ls) k a = go (eqb (l .article) a) (line-listed ls (suc k) a)
   where
-    go : (b : Bool) → bit (lineFrom (suc k) ls a) ≡ anyOf (λ (l : OrderLine). eqb (l .article) a) ls → bit (cond b (suc k) (lineFrom (suc k) ls a)) ≡ (b || anyOf (λ (l : OrderLine). eqb (l .article) a) ls)
+    later : Bool
+    later = anyOf (λ (l : OrderLine). eqb (l .article) a) ls
+
+    go : (b : Bool) → bit (lineFrom (suc k) ls a) ≡ later → bit (cond b (suc k) (lineFrom (suc k) ls a)) ≡ (b || later)
     go true e = refl
     go false e = e
 
@@ -95,20 +54,6 @@ line-below (l ∷ ls) k a = go (eqb (l .article) a) (line-below ls (suc k) a)
     go : (b : Bool) → lineFrom (suc k) ls a ≤ suc k + length ls → cond b (suc k) (lineFrom (suc k) ls a) ≤ k + suc (length ls)
     go true e = omega arith
     go false e = omega arith
-
--- a cell of the store
-abbrev cellAt : ℕ → ℕ → Point
-cellAt j c = record { aisle = j; height = c }
-
--- whether a record is of a cell
-abbrev isAt : ℕ → ℕ → StockRecord → Bool
-isAt j c r = eqb (r .aisle) j && eqb (r .cell) c
-
-is-at : (j c : ℕ) (r : StockRecord) → isAt j c r ≡ true → (r .aisle ≡ j) × (r .cell ≡ c)
-is-at j c r e = let parts = and-eq-true-iff (eqb (r .aisle) j) (eqb (r .cell) c) .0 e in (eqb-true (r .aisle) j (parts .0), eqb-true (r .cell) c (parts .1))
-
-at-itself : (r : StockRecord) → isAt (r .aisle) (r .cell) r ≡ true
-at-itself r = rw (eq-eqb (r .aisle) (r .aisle) refl, eq-eqb (r .cell) (r .cell) refl) refl
 
 -- a record that is not there
 abbrev pub noRecord : StockRecord
@@ -128,18 +73,14 @@ pub record RecordSmall (r : StockRecord) : Type 0 where
 pub shelved-none : (f : Option StockRecord → ℕ) → f none ≡ 0 → Shelved f [] (replicate 384 0)
 unfolding recordAt
 shelved-none f e j c j1 j16 c1 c24 = zero-at 384 (cellNumber j c) ∙ sym e
-  where
-    zero-at : (n k : ℕ) → getD {A = ℕ} (replicate n 0) k 0 ≡ 0
-    zero-at zero k = refl
-    zero-at (suc n) zero = refl
-    zero-at (suc n) (suc k) = zero-at n k
 
 -- different cells stand at different places
 apart : (j c i d : ℕ) → 1 ≤ j → 1 ≤ c → c ≤ 24 → 1 ≤ i → 1 ≤ d → d ≤ 24 → cellNumber j c ≡ cellNumber i d → (j ≡ i) × (c ≡ d)
 apart j c i d h1 h2 h3 h4 h5 h6 e = let q : cellNumber j c / 24 ≡ cellNumber i d / 24 = ap (λ n. n / 24) e in (omega arith, omega arith)
 
 -- one more record, the first of its cell
-module _ (f : Option StockRecord → ℕ) (stock : List StockRecord) (r : StockRecord) (w : RecordSmall r) (new : anyOf (isAt (r .aisle) (r .cell)) stock ≡ false) (xs : List ℕ) (long : length xs ≡ 384) where
+module _ (f : Option StockRecord → ℕ) (stock : List StockRecord) (r : StockRecord) (w : RecordSmall r)
+    (new : anyOf (isAt (r .aisle) (r .cell)) stock ≡ false) (xs : List ℕ) (long : length xs ≡ 384) where
   abbrev at : ℕ
   at = cellNumber (r .aisle) (r .cell)
 
@@ -207,38 +148,25 @@ module _ (v : JobValue) (sound : Sound v) (whole : length (v .stock) ≡ 384) (n
         rw (← record-read) (none-before sameCell noRecord (jobOf v .stock) n record-there (sound .admitted .cells-once)) in
         rw (add-one n, take-suc (jobOf v .stock) n noRecord record-there, record-read) (shelved-more f (take n (jobOf v .stock)) r record-small new xs long t)
 
-  pub shelve-next : (line quantity : List ℕ) (x : ℕ) → let r = getD (v .stock) n noRecord in x ≡ lineFrom 0 (take (v .orders) (v .lines)) (r .article)
-      → ShelvedTo (jobOf v) line quantity n
-      → ShelvedTo (jobOf v) (set line (cellNumber (r .aisle) (r .cell)) x) (set quantity (cellNumber (r .aisle) (r .cell)) (r .quantity)) (n + 1)
+  pub shelve-next : (line quantity : List ℕ) (at x : ℕ) → let r = getD (v .stock) n noRecord in
+      at ≡ cellNumber (r .aisle) (r .cell) → x ≡ lineFrom 0 (take (v .orders) (v .lines)) (r .article)
+      → ShelvedTo (jobOf v) line quantity n → ShelvedTo (jobOf v) (set line at x) (set quantity at (r .quantity)) (n + 1)
   unfolding jobOf
-  shelve-next line quantity x e t =
+  shelve-next line quantity at x p e t =
       let r = getD (v .stock) n noRecord in
-      let at = cellNumber (r .aisle) (r .cell) in
       record {
         line-length = length-set line at x ∙ t .line-length;
         quantity-length = length-set quantity at (r .quantity) ∙ t .quantity-length;
-        lines = rw e (shelved-next (lineOf (jobOf v .lines)) line (t .line-length) (t .lines));
-        quantities = shelved-next quantityOf quantity (t .quantity-length) (t .quantities);
+        lines = rw (p, e) (shelved-next (lineOf (jobOf v .lines)) line (t .line-length) (t .lines));
+        quantities = rw p (shelved-next quantityOf quantity (t .quantity-length) (t .quantities));
       }
 
 pub records-count : (v : JobValue) → length (jobOf v .stock) ≤ v .records
 unfolding jobOf
 records-count v = omega (arith, length-take (v .records) (v .stock))
 
--- a record of a stock in which no two are of one cell is the record of its cell
-its-record : (job : Job) → Admitted job → (r : StockRecord) → List·Memᴰ r (job .stock) → recordAt (job .stock) (cellAt (r .aisle) (r .cell)) ≡ some r
-unfolding recordAt
-its-record job ok r m = go (recordAt (job .stock) (cellAt (r .aisle) (r .cell))) refl
-  where
-    go : (o : Option StockRecord) → recordAt (job .stock) (cellAt (r .aisle) (r .cell)) ≡ o → recordAt (job .stock) (cellAt (r .aisle) (r .cell)) ≡ some r
-    go none e = absurd (true≢false (sym (at-itself r) ∙ any-false (isAt (r .aisle) (r .cell)) (job .stock) .0 (first-none _ (job .stock) e) r m))
-    go (some s) e =
-        let (k, there) = first-member (isAt (r .aisle) (r .cell)) (job .stock) s e in
-        let same = is-at (r .aisle) (r .cell) s there in
-        e ∙ ap some (one-record-per-cell job (ok .cells-once) s r k m (same .0) (same .1))
-
 -- whether an aisle holds a listed article
-module _ (job : Job) (ok : Admitted job) (shelf : Shelf) (of : ShelfOf job shelf) (j : ℕ) (low : 1 ≤ j) (high : j ≤ 16) where
+module _ {job : Job} {shelf : Shelf} (ok : Admitted job) (of : ShelfOf job shelf) (j : ℕ) (low : 1 ≤ j) (high : j ≤ 16) where
   -- it does where one of its cells has a line
   pub holds-some : (c : ℕ) → 1 ≤ c → c ≤ 24 → 0 < getD (shelf .line) (cellNumber j c) 0 → holdsListed job j ≡ true
   unfolding holdsListed listed recordAt
@@ -267,44 +195,14 @@ module _ (job : Job) (ok : Admitted job) (shelf : Shelf) (of : ShelfOf job shelf
           let w = stock-within job .0 (ok .stock) .records r m in
           let z = layout-within (job .layout) .0 (ok .layout) in
           let own : recordAt (job .stock) (cellAt j (r .cell)) ≡ some r = rw (← eqb-true (r .aisle) j e) (its-record job ok r m) in
-          let line : getD (shelf .line) (cellNumber j (r .cell)) 0 ≡ lineFrom 0 (job .lines) (r .article) = of .line-at j (r .cell) low high (w .cell .0) (omega arith) ∙ ap (lineOf (job .lines)) own in
+          let line : getD (shelf .line) (cellNumber j (r .cell)) 0 ≡ lineFrom 0 (job .lines) (r .article) =
+          of .line-at j (r .cell) low high (w .cell .0) (omega arith) ∙ ap (lineOf (job .lines)) own in
           sym (line-listed (job .lines) 0 (r .article)) ∙ ap bit (sym line ∙ none-there (r .cell) (w .cell .0) (w .cell .1))
 
 -- the line of a cell is one of the lines, counted from 1, or 0
-pub lines-below : (job : Job) (shelf : Shelf) → ShelfOf job shelf → (j c : ℕ) → 1 ≤ j → j ≤ 16 → 1 ≤ c → c ≤ 24 → getD (shelf .line) (cellNumber j c) 0 ≤ length (job .lines)
-lines-below job shelf of j c j1 j16 c1 c24 = go (recordAt (job .stock) (cellAt j c)) (of .line-at j c j1 j16 c1 c24)
+pub lines-below : {job : Job} {shelf : Shelf} → ShelfOf job shelf → (j c : ℕ) → 1 ≤ j → j ≤ 16 → 1 ≤ c → c ≤ 24 → getD (shelf .line) (cellNumber j c) 0 ≤ length (job .lines)
+lines-below {job} {shelf} of j c j1 j16 c1 c24 = go (recordAt (job .stock) (cellAt j c)) (of .line-at j c j1 j16 c1 c24)
   where
     go : (o : Option StockRecord) → getD (shelf .line) (cellNumber j c) 0 ≡ lineOf (job .lines) o → getD (shelf .line) (cellNumber j c) 0 ≤ length (job .lines)
     go none e = omega arith
     go (some r) e = omega (arith, line-below (job .lines) 0 (r .article))
-
--- what the record of a cell supplies of an article
-abbrev pub supplied : Option StockRecord → ℕ → ℕ
-supplied none a = 0
-supplied (some r) a = cond (eqb (r .article) a) (r .quantity) 0
-
--- where no two records are of one cell, the stock of an article in a cell is that of the cell's record
-cell-supply : (stock : List StockRecord) → anyTwo sameCell stock ≡ false → (j c a : ℕ) → stockWhere stock j (λ k. eqb k c) a ≡ supplied (recordAt stock (cellAt j c)) a
-unfolding recordAt sameCell
-cell-supply [] once j c a = refl
-cell-supply (r ∷ rs) once j c a = go (isAt j c r) refl (cell-supply rs (parts .1) j c a)
-  where
-    parts : (anyOf (sameCell r) rs ≡ false) × (anyTwo sameCell rs ≡ false)
-    parts = or-false (anyOf (sameCell r) rs) (anyTwo sameCell rs) once
-
-    alone : isAt j c r ≡ true → (o : Option StockRecord) → recordAt rs (cellAt j c) ≡ o → o ≡ none
-    alone e none p = refl
-    alone e (some s) p =
-        let (m, there) = first-member (isAt j c) rs s p in
-        let here = is-at j c r e in
-        let same = is-at j c s there in
-        absurd (true≢false (sym (rw (eq-eqb (r .aisle) (s .aisle) (here .0 ∙ sym (same .0)), eq-eqb (r .cell) (s .cell) (here .1 ∙ sym (same .1))) refl) ∙ any-false (sameCell r) rs .0 (parts .0) s m))
-
-    go : (b : Bool) → isAt j c r ≡ b → stockWhere rs j (λ k. eqb k c) a ≡ supplied (recordAt rs (cellAt j c)) a
-        → cond (eqb (r .article) a && b) (r .quantity) 0 + stockWhere rs j (λ k. eqb k c) a ≡ supplied (cond b (some r) (recordAt rs (cellAt j c))) a
-    go true e rest = rw (rest, alone e (recordAt rs (cellAt j c)) refl, and-true (eqb (r .article) a)) (omega arith)
-    go false e rest = rw (rest, and-false (eqb (r .article) a)) (omega arith)
-
--- what a cell supplies to each line
-pub cell-gains : (job : Job) → Admitted job → (j c : ℕ) → gainsWhere job j (λ k. eqb k c) ≡ map (λ (l : OrderLine). supplied (recordAt (job .stock) (cellAt j c)) (l .article)) (job .lines)
-cell-gains job ok j c = ap (λ (g : OrderLine → ℕ). map g (job .lines)) (fun-ext (λ l. cell-supply (job .stock) (ok .cells-once) j c (l .article)))

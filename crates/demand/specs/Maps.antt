@@ -13,21 +13,37 @@ use Rattle.optimum.specs.Demand.{gains, radices, lessCode}
 use Rattle.values.specs.declared.Shelf.{Shelf}
 use Rattle.values.specs.Shelves.{ShelfOf}
 use Rattle.demand.specs.declared.digits.Digits.{Digits}
-use Rattle.demand.specs.Digits.{DigitsOf}
+use Rattle.demand.specs.Digits.{demands, DigitsOf}
 
--- a map has 26 rows of 256 numbers: for each height, a cell or an end of the aisle, each demand
+-- the heights of an aisle: its two ends, and 24 cells at most
+abbrev pub heights : ℕ
+heights = 26
+
+-- the numbers of a map: a row of all demands for each height
 abbrev pub mapSize : ℕ
-mapSize = 6656
+mapSize = heights * demands
 
 -- what a map has for a demand in a row
 abbrev pub entry : List ℕ → ℕ → ℕ → ℕ
-entry map row q = getD map (row * 256 + q) 0
+entry map row q = getD map (row * demands + q) 0
 
 -- n numbers of a row are those of a function; nothing else changes
 pub record RowSet (map map′ : List ℕ) (to n : ℕ) (f : ℕ → ℕ) : Type 0 where
   pub kept : length map′ ≡ length map
   pub done : (q : ℕ) → q < n → entry map′ to q ≡ f q
-  pub rest : (k : ℕ) → (k < to * 256) ⊎ (to * 256 + n ≤ k) → getD map′ k 0 ≡ getD map k 0
+  pub rest : (k : ℕ) → (k < to * demands) ⊎ (to * demands + n ≤ k) → getD map′ k 0 ≡ getD map k 0
+
+-- a row to be filled out of another one
+pub record RowAsked (map : List ℕ) (to from n : ℕ) : Type 0 where
+  pub long : mapSize ≤ length map
+  pub to-in : to < heights
+  pub from-in : from < heights
+  pub apart : from ≡ to → ⊥
+  pub light : n ≤ demands
+
+-- the demands of a row are below n
+abbrev pub RowBelow : List ℕ → ℕ → ℕ → Type 0
+RowBelow map row n = (q : ℕ) → q < n → entry map row q < n
 
 -- what the maps of aisle j are made from: the shelf and the digits of a job, and the number of its cells
 pub record MapsAsked (job : Job) (shelf : Shelf) (d : Digits) (cells j : ℕ) : Type 0 where

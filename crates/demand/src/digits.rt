@@ -1,15 +1,23 @@
 // Open demand as a number: the order lines as its digits.
 use values::JobValue;
-ghost use Prim.Native.Nat.{_*_, _+_, _<_, _≤_, min, ℕ};
-ghost use Rattle.demand.specs.Digits.{DigitsOf, PlaceOf, lessDigit};
+ghost use Prim.Native.Nat.{_%_, _/_, _<_, _≤_, suc, ℕ};
+ghost use Rattle.demand.specs.Digits.{DigitsOf, demands};
 ghost use Rattle.values.specs.Values.{Sound, jobOf};
 ghost use lib.ListN.{getD};
 ghost use mathlib.Core.Path.{_≡_};
 
-// The order lines as digits, the first line the lowest: the radix of each, the product of the radices before it, and the weight of the list.
+// The most demands that a list can have: no list is heavier.
+pub const DEMANDS: usize = 256;
+
+// An order line as a digit: the product of the radices before it, and for each demand number the digit, what the line lacks there.
+pub struct Digit {
+    pub stride: usize,
+    pub lacks: [u8; DEMANDS],
+}
+
+// The order lines as digits, the first line the lowest, and the weight of the list.
 pub struct Digits {
-    pub radix: [usize; 8],
-    pub stride: [usize; 8],
+    pub digit: [Digit; 8],
     pub weight: usize,
 }
 
@@ -18,72 +26,52 @@ pub fn digits_of(job: JobValue) -> Digits
     requires { ⌜ Sound job ⌝ }
     ensures { λ r. ⌜ DigitsOf (jobOf job) r ⌝ }
 {
-    let mut radix = [1; 8];
-    let mut stride = [1; 8];
+    let none = Digit {
+        stride: 0,
+        lacks: [0; DEMANDS],
+    };
+    let mut digit = [none; 8];
     let mut weight = 1;
     let mut l = 0;
     while l < job.orders {
         let line = job.lines[l];
-        radix[l] = line.quantity + 1;
-        stride[l] = weight;
-        weight *= line.quantity + 1;
+        let radix = line.quantity + 1;
+        digit[l] = digit_of(radix, weight);
+        weight *= radix;
         l += 1;
     }
-    Digits {
-        radix: radix,
-        stride: stride,
-        weight: weight,
-    }
+    Digits { digit, weight }
 }
 
-// Where a number stands in a digit: what is below the digit, and the digit itself.
-pub struct Place {
-    pub low: usize,
-    pub digit: usize,
-}
-
-// The place of the next number, by counting on.
-fn next_place(p: Place, radix: usize, stride: usize) -> Place
-    requires { ⌜ (p .low < stride) × (p .digit < radix) ⌝ }
-    ensures { λ r. ⌜ ((q : ℕ) → PlaceOf radix stride q p → PlaceOf radix stride (q + 1) r) ⌝ }
+// A digit, counted on: it is one more than in the number a stride before, and 0 again at the radix.
+fn digit_of(radix: usize, stride: usize) -> Digit
+    requires { ⌜ (1 ≤ radix) × (radix ≤ demands) × (1 ≤ stride) ⌝ }
+    ensures { λ r. ⌜ (r .stride ≡ stride) × ((q : ℕ) → q < demands → getD (r .lacks) q 0 ≡ q / stride % radix) ⌝ }
 {
-    let low = p.low + 1;
-    let digit = p.digit;
-    if low < stride {
-        return Place { low, digit };
-    }
-    let up = digit + 1;
-    if up < radix {
-        return Place { low: 0, digit: up };
-    }
-    Place { low: 0, digit: 0 }
-}
-
-// What a cell that holds n takes from a digit.
-fn taken(digit: usize, n: usize) -> usize
-    ensures { λ r. ⌜ r ≡ min digit n ⌝ }
-{
-    if digit < n { digit } else { n }
-}
-
-// For each demand number what is left of it after a cell that holds n for a line.
-pub fn less_table(radix: usize, stride: usize, n: usize, weight: usize) -> [u16; DEMANDS]
-    requires { ⌜ (1 ≤ radix) × (1 ≤ stride) × (weight ≤ 256) ⌝ }
-    ensures { λ r. ⌜ ((q : ℕ) → q < weight → getD r q 0 ≡ lessDigit radix stride n q) ⌝ }
-{
-    let mut out = [0u16; DEMANDS];
-    let mut p = Place { low: 0, digit: 0 };
-    let mut q = 0;
-    while q < weight {
-        out[q] = (q - taken(p.digit, n) * stride) as u16;
-        p = next_place(p, radix, stride);
+    let mut lacks = [0; DEMANDS];
+    let mut q = stride;
+    while q < DEMANDS {
+        lacks[q] = next(lacks[q - stride], radix);
         q += 1;
     }
-    out
+    Digit { stride, lacks }
 }
 
-// The most demands that a list can have, and the numbers of a row: eight states for each demand.
-pub const DEMANDS: usize = 256;
+// One more, and 0 again at the radix.
+fn next(x: u8, radix: usize) -> u8
+    requires { ⌜ (x < radix) × (radix ≤ demands) ⌝ }
+    ensures { λ r. ⌜ r ≡ suc x % radix ⌝ }
+{
+    let up = wide_digit(x) + 1;
+    if up < radix { up as u8 } else { 0 }
+}
+
+// A digit as a wider number.
+pub(crate) fn wide_digit(x: u8) -> usize
+    ensures { λ r. ⌜ (r ≡ x) × (r ≤ 255) ⌝ }
+{
+    x as usize
+}
 
 // A number of the table as a wider one.
 pub fn wide(x: u16) -> usize

@@ -1,19 +1,27 @@
 // The maps of an aisle: for each demand what is left of it behind a part of an aisle.
 use crate::digits::DEMANDS;
+use crate::digits::Digit;
 use crate::digits::Digits;
-use crate::digits::less_table;
 use crate::digits::wide;
+use crate::digits::wide_digit;
+use crate::shelf::cell_number;
 use values::Shelf;
-ghost use Prim.Native.Nat.{_*_, _+_, _<_, _≤_, suc, ℕ};
-ghost use Rattle.demand.specs.Digits.{Usable, lessLine};
-ghost use Rattle.demand.specs.Maps.{MapsAsked, MapsReady, RowSet, RowsTo, heightAt, mapSize};
+ghost use Prim.Native.Nat.{_-_, _<_, _≤_, min, suc};
+ghost use Rattle.demand.specs.Digits.{Within, demands, lessDigit, lessLine, noDigit};
+ghost use Rattle.demand.specs.Maps.{MapsAsked, MapsReady, RowAsked, RowBelow, RowSet, RowsTo, entry, heightAt, heights, mapSize};
 ghost use Rattle.rules.specs.Jobs.{Job};
 ghost use lib.ListN.{getD, length};
 ghost use mathlib.Core.Path.{_≡_};
 
+// The heights of an aisle: its two ends, and 24 cells at most.
+pub const HEIGHTS: usize = 26;
+
+// The numbers of a map: a row of all demands for each height.
+pub const MAP: usize = HEIGHTS * DEMANDS;
+
 // A row of a map in which every demand stays as it is.
 fn plain_row(map: &mut [u16], to: usize, weight: usize)
-    requires { ⌜ (mapSize ≤ length (now map)) × (to ≤ 25) × (weight ≤ 256) ⌝ }
+    requires { ⌜ (mapSize ≤ length (now map)) × (to < heights) × (weight ≤ demands) ⌝ }
     ensures { λ r. ⌜ RowSet (now (map .entry)) (now (map .exit)) to weight (λ q. q) ⌝ }
 {
     let mut q = 0;
@@ -25,8 +33,8 @@ fn plain_row(map: &mut [u16], to: usize, weight: usize)
 
 // A row of a map like another one.
 fn copy_row(map: &mut [u16], to: usize, from: usize, weight: usize)
-    requires { ⌜ (mapSize ≤ length (now map)) × (to ≤ 25) × (from ≤ 25) × (from ≡ to → ⊥) × (weight ≤ 256) ⌝ }
-    ensures { λ r. ⌜ RowSet (now (map .entry)) (now (map .exit)) to weight (λ q. getD (now (map .entry)) (from * 256 + q) 0) ⌝ }
+    requires { ⌜ RowAsked (now map) to from weight ⌝ }
+    ensures { λ r. ⌜ RowSet (now (map .entry)) (now (map .exit)) to weight (λ q. entry (now (map .entry)) from q) ⌝ }
 {
     let mut q = 0;
     while q < weight {
@@ -35,30 +43,38 @@ fn copy_row(map: &mut [u16], to: usize, from: usize, weight: usize)
     }
 }
 
-// A row of a map behind another one: its demands looked up in a table.
-fn look_up(map: &mut [u16], to: usize, from: usize, table: &[u16; DEMANDS], weight: usize)
-    requires { ⌜ (mapSize ≤ length (now map)) × (to ≤ 25) × (from ≤ 25) × (from ≡ to → ⊥) × (weight ≤ 256) × ((q : ℕ) → q < weight → getD (now map) (from * 256 + q) 0 < 256) ⌝ }
-    ensures { λ r. ⌜ RowSet (now (map .entry)) (now (map .exit)) to weight (λ q. getD (now (table .entry)) (getD (now (map .entry)) (from * 256 + q) 0) 0) ⌝ }
+// What a cell that holds n takes from a digit.
+fn taken(digit: usize, n: usize) -> usize
+    ensures { λ r. ⌜ r ≡ min digit n ⌝ }
+{
+    if digit < n { digit } else { n }
+}
+
+// A row of a map behind another one: its demands after one more cell, which holds n for the line of a digit.
+fn less_row(map: &mut [u16], to: usize, from: usize, x: Digit, n: usize, weight: usize)
+    requires { ⌜ RowAsked (now map) to from weight × Within x weight × RowBelow (now map) from weight ⌝ }
+    ensures { λ r. ⌜ RowSet (now (map .entry)) (now (map .exit)) to weight (λ q. lessDigit x n (entry (now (map .entry)) from q)) ⌝ }
 {
     let mut q = 0;
     while q < weight {
         let old = wide(map[from * DEMANDS + q]);
-        map[to * DEMANDS + q] = table[old];
+        let lacks = wide_digit(x.lacks[old]);
+        map[to * DEMANDS + q] = (old - taken(lacks, n) * x.stride) as u16;
         q += 1;
     }
 }
 
 // A row of a map behind another one: its demands after one more cell.
 fn map_row(map: &mut [u16], to: usize, from: usize, d: Digits, line: usize, n: usize)
-    requires { ⌜ (mapSize ≤ length (now map)) × (to ≤ 25) × (from ≤ 25) × (from ≡ to → ⊥) × Usable d × (d .weight ≤ 256) × (line ≤ 8) × ((q : ℕ) → q < d .weight → getD (now map) (from * 256 + q) 0 < d .weight) ⌝ }
-    ensures { λ r. ⌜ RowSet (now (map .entry)) (now (map .exit)) to (d .weight) (λ q. lessLine d line n (getD (now (map .entry)) (from * 256 + q) 0)) ⌝ }
+    requires { ⌜ RowAsked (now map) to from (d .weight) × RowBelow (now map) from (d .weight) × (line ≤ 8) × (1 ≤ line → Within (getD (d .digit) (line - 1) noDigit) (d .weight)) ⌝ }
+    ensures { λ r. ⌜ RowSet (now (map .entry)) (now (map .exit)) to (d .weight) (λ q. lessLine d line n (entry (now (map .entry)) from q)) ⌝ }
 {
     let weight = d.weight;
     if line == 0 {
         copy_row(map, to, from, weight);
     } else {
-        let table = less_table(d.radix[line - 1], d.stride[line - 1], n, weight);
-        look_up(map, to, from, &table, weight);
+        let x = d.digit[line - 1];
+        less_row(map, to, from, x, n, weight);
     }
 }
 
@@ -82,7 +98,7 @@ fn fill_map(map: &mut [u16], shelf: Shelf, d: Digits, cells: usize, j: usize, ba
     while n < cells {
         let from = height_at(back, cells, n);
         let to = height_at(back, cells, n + 1);
-        let at = (j - 1) * 24 + (to - 1);
+        let at = cell_number(j, to);
         map_row(map, to, from, d, shelf.line[at], shelf.quantity[at]);
         n += 1;
     }
@@ -98,7 +114,8 @@ pub fn fill_maps(
     j: usize,
 )
     requires { ⌜ (mapSize ≤ length (now fronts)) × (mapSize ≤ length (now backs)) × ((job : Job) × MapsAsked job shelf d cells j) ⌝ }
-    ensures { λ r. ⌜ ((job : Job) → MapsAsked job shelf d cells j → MapsReady job j (now (fronts .exit)) (now (backs .exit))) × (length (now (fronts .exit)) ≡ length (now (fronts .entry))) × (length (now (backs .exit)) ≡ length (now (backs .entry))) ⌝ }
+    ensures { λ r. ⌜ ((job : Job) → MapsAsked job shelf d cells j → MapsReady job j (now (fronts .exit)) (now (backs .exit)))
+        × (length (now (fronts .exit)) ≡ length (now (fronts .entry))) × (length (now (backs .exit)) ≡ length (now (backs .entry))) ⌝ }
 {
     fill_map(fronts, shelf, d, cells, j, false);
     fill_map(backs, shelf, d, cells, j, true);

@@ -6,10 +6,18 @@ ghost use Prim.Native.Nat.{_<_, _≤_};
 ghost use Rattle.machine.specs.Steps.{bit};
 ghost use Rattle.rules.specs.Jobs.{Job, holdsListed};
 ghost use Rattle.rules.specs.Refusals.{Admitted};
-ghost use Rattle.values.specs.Shelves.{ShelfOf, lineFrom};
+ghost use Rattle.values.specs.Shelves.{ShelfOf, cellNumber, lineFrom};
 ghost use Rattle.values.specs.Values.{Sound, jobOf};
 ghost use lib.ListN.{take};
 ghost use mathlib.Core.Path.{_≡_};
+
+// Where a cell stands on the shelf: 24 cells for each aisle.
+pub(crate) fn cell_number(aisle: usize, cell: usize) -> usize
+    requires { ⌜ (1 ≤ aisle) × (aisle ≤ 16) × (1 ≤ cell) × (cell ≤ 24) ⌝ }
+    ensures { λ r. ⌜ (r ≡ cellNumber aisle cell) × (r < 384) ⌝ }
+{
+    (aisle - 1) * 24 + (cell - 1)
+}
 
 // The number + 1 of the line of an article; 0 if it is on no line.
 fn line_of(lines: [OrderLine; 8], orders: usize, article: usize) -> usize
@@ -37,7 +45,7 @@ pub fn shelve(job: JobValue) -> Shelf
     let mut n = 0;
     while n < job.records {
         let r = job.stock[n];
-        let at = (r.aisle - 1) * 24 + (r.cell - 1);
+        let at = cell_number(r.aisle, r.cell);
         line[at] = line_of(job.lines, job.orders, r.article);
         quantity[at] = r.quantity;
         n += 1;
@@ -53,9 +61,9 @@ pub fn holds_listed(shelf: Shelf, cells: usize, j: usize) -> usize
     requires { ⌜ (cells ≤ 24) × (1 ≤ j) × (j ≤ 16) ⌝ }
     ensures { λ r. ⌜ (r < 2) × ((job : Job) → Admitted job → ShelfOf job shelf → cells ≡ job .layout .cells → j ≤ job .layout .aisles → bit r ≡ holdsListed job j) ⌝ }
 {
-    let mut c = 0;
-    while c < cells {
-        let at = (j - 1) * 24 + c;
+    let mut c = 1;
+    while c <= cells {
+        let at = cell_number(j, c);
         if shelf.line[at] > 0 {
             return 1;
         }

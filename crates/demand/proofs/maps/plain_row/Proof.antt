@@ -1,9 +1,11 @@
--- `demand::maps::plain_row` meets its contract.
+-- `demand::maps::plain_row` meets its contract: the demands below q are there.
 use native.Mathlib.Omega.{arith}
-use Prim.Native.Nat.{_-_, _≤_}
-use mathlib.Core.Path.{_≡_, refl, subst}
-use Rattle.demand.specs.Maps.{RowSet}
-use Rattle.demand.proofs.DemandMaps.{set-none, set-one}
+use Prim.Native.Nat.{_-_, _≤_, _<_}
+use mathlib.Core.Path.{refl}
+use lib.ListN.{length}
+use Rattle.demand.specs.Digits.{demands}
+use Rattle.demand.specs.Maps.{heights, mapSize, RowSet}
+use Rattle.demand.proofs.Rows.{row-none, row-next, row-whole}
 use Rattle.demand.proofs.maps.plain_row.Statement.{statement}
 use Rattle.demand.proofs.maps.plain_row.Tie as tie
 
@@ -13,38 +15,45 @@ Inv-loop map₀ to weight q₀ map q = (q ≤ weight) × RowSet map₀ map to q 
 abbrev μ-loop : tie.MeasureT-loop
 μ-loop map₀ to weight q₀ map q = weight - q
 
+-- the numbers that the code computes with
+room : (c : tie.In-loop Inv-loop μ-loop) → let x = c .before .before .args in let o = c .before .loop in (x .to < heights) × (o .q < demands) × (mapSize ≤ length (o .map))
+room c =
+    let r = c .before .before .pre in
+    let o = c .before .loop in
+    (r .1, omega (arith, r .2), omega (arith, r .0, o .inv .1 .kept))
+
 loop-holds : tie.Need-loop-holds Inv-loop μ-loop
-loop-holds c = (omega arith, set-none ((c) .args .map .now) ((c) .args .to) (λ n. n))
+loop-holds c = let x = c .args in (omega arith, row-none (x .map .now) (x .to) (λ n. n))
 
 cast-map : tie.Need-cast-map Inv-loop μ-loop
-cast-map c = omega (arith, (c .before .before) .pre .0, (c .before .before) .pre .1, (c .before .before) .pre .2, (c .before .loop) .inv .0)
+cast-map c = omega (arith, room c)
 
 mul-map : tie.Need-mul-map Inv-loop μ-loop
-mul-map c = omega (arith, (c .before .before) .pre .0, (c .before .before) .pre .1, (c .before .before) .pre .2, (c .before .loop) .inv .0)
+mul-map c = omega (arith, room c)
 
 add-map : tie.Need-add-map Inv-loop μ-loop
-add-map c = omega (arith, (c .before .before) .pre .0, (c .before .before) .pre .1, (c .before .before) .pre .2, (c .before .loop) .inv .0)
+add-map c = omega (arith, room c)
 
 mul-map-2 : tie.Need-mul-map-2 Inv-loop μ-loop
-mul-map-2 c = omega (arith, (c .before .before) .pre .0, (c .before .before) .pre .1, (c .before .before) .pre .2, (c .before .loop) .inv .0)
+mul-map-2 c = omega (arith, room c)
 
 slice-write-map : tie.Need-slice-write-map Inv-loop μ-loop
-slice-write-map c = omega (arith, (c .before .before) .pre .0, (c .before .before) .pre .1, (c .before .before) .pre .2, (c .before .loop) .inv .0, (c .before .loop) .inv .1 .kept)
+slice-write-map c = omega (arith, room c)
 
 add-q : tie.Need-add-q Inv-loop μ-loop
-add-q c = omega (arith, (c .before .before) .pre .0, (c .before .before) .pre .1, (c .before .before) .pre .2, (c .before .loop) .inv .0)
+add-q c = omega (arith, room c)
 
 loop-less : tie.Need-loop-less Inv-loop μ-loop
 loop-less c = omega arith
 
 loop-again : tie.Need-loop-again Inv-loop μ-loop
-loop-again c = (omega arith, set-one ((c .before .before) .args .map .now) ((c .before .loop) .map) ((c .before .before) .args .to) ((c .before .loop) .q) ((c .before .loop) .q) (λ n. n) (omega (arith, (c .before .before) .pre .0, (c .before .before) .pre .1, (c .before .before) .pre .2, (c .before .loop) .inv .0)) ((c .before .loop) .inv .1) refl)
+loop-again c = let o = c .before .loop in (omega arith, row-next (o .inv .1) (o .q) (omega (arith, room c)) refl)
 
 same-length : tie.Need-same-length Inv-loop μ-loop
-same-length c = (c .before .loop) .inv .1 .kept
+same-length c = c .before .loop .inv .1 .kept
 
 returns : tie.Need-returns Inv-loop μ-loop
-returns c = let e : ((c .before .loop) .q) ≡ (c .before .before) .args .weight = omega (arith, (c .before .loop) .inv .0) in subst (λ n. RowSet ((c .before .before) .args .map .now) ((c .before .loop) .map) ((c .before .before) .args .to) n (λ n. n)) e ((c .before .loop) .inv .1)
+returns c = let o = c .before .loop in row-whole (o .inv .1) (c .before .before .args .weight) (omega (arith, o .inv .0))
 
 pub plain-row-spec : {M : Type 1} → statement M
 plain-row-spec =

@@ -1,9 +1,9 @@
 -- `demand::shelf::line_of` meets its contract: the line is the first one from l on.
 use native.Mathlib.Omega.{arith}
-use Prim.Native.Nat.{_+_, _-_, _≤_, _<_}
+use Prim.Native.Nat.{_-_, _≤_}
 use mathlib.Core.Path.{_≡_, refl, sym, _∙_, ap}
 use mathlib.Core.List.{List, []}
-use lib.ListN.{length, take, drop, length-take, drop-of-length-le}
+use lib.ListN.{length, getD, take, drop, length-take, drop-of-length-le}
 use lib.Seq.{getD-take}
 use Rattle.rules.specs.declared.OrderLine.{OrderLine}
 use Rattle.values.specs.Shelves.{lineFrom}
@@ -25,6 +25,13 @@ lines-long c =
     let whole : length (c .args .t1) ≡ 8 = c .good .0 .1 .0 .1 in
     omega (arith, length-take (c .args .orders) (c .args .t1), c .pre)
 
+-- the line that is read is the next one to look at
+line-read : (c : tie.In-loop Inv-loop μ-loop) → let x = c .before .before .args in let l = c .before .loop .l in
+    getD (take (x .orders) (x .t1)) l noLine .article ≡ getD (x .t1) l noLine .article
+line-read c =
+    let x = c .before .before .args in
+    ap (λ (k : OrderLine). k .article) (getD-take (x .orders) (x .t1) (c .before .loop .l) noLine (omega arith))
+
 loop-holds : tie.Need-loop-holds Inv-loop μ-loop
 loop-holds c = (omega arith, refl)
 
@@ -39,12 +46,12 @@ add-result c = omega arith
 
 returns : tie.Need-returns Inv-loop μ-loop
 returns c =
-    let start = c .before .before .before .before .before in
+    let inside = c .before .before .before in
+    let start = inside .before .before in
+    let o = inside .before .loop in
     let x = start .args in
-    let l = c .before .before .before .before .loop .l in
-    let lines = take (x .orders) (x .t1) in
-    let read = getD-take (x .orders) (x .t1) l noLine (omega arith) in
-    sym (c .before .before .before .before .loop .inv .1 ∙ line-here lines l (x .article) (omega (arith, lines-long start)) (ap (λ (k : OrderLine). k .article) read ∙ c .if1 .taken))
+    let here = line-here (take (x .orders) (x .t1)) (o .l) (x .article) (omega (arith, lines-long start)) (line-read inside ∙ c .if1 .taken) in
+    sym (o .inv .1 ∙ here)
 
 add-l : tie.Need-add-l Inv-loop μ-loop
 add-l c = omega arith
@@ -54,12 +61,13 @@ loop-less c = omega arith
 
 loop-again : tie.Need-loop-again Inv-loop μ-loop
 loop-again c =
-    let start = c .before .before .before .before .before in
+    let inside = c .before .before .before in
+    let start = inside .before .before in
+    let o = inside .before .loop in
     let x = start .args in
-    let l = c .before .before .before .before .loop .l in
     let lines = take (x .orders) (x .t1) in
-    let read = getD-take (x .orders) (x .t1) l noLine (omega arith) in
-    (omega arith, c .before .before .before .before .loop .inv .1 ∙ line-behind lines l (x .article) (omega (arith, lines-long start)) (λ e. c .if1 .left (sym (ap (λ (k : OrderLine). k .article) read) ∙ e)))
+    let other : getD lines (o .l) noLine .article ≡ x .article → ⊥ = λ e. c .if1 .left (sym (line-read inside) ∙ e) in
+    (omega arith, o .inv .1 ∙ line-behind lines (o .l) (x .article) (omega (arith, lines-long start)) other)
 
 returns-2 : tie.Need-returns-2 Inv-loop μ-loop
 returns-2 c =

@@ -1,7 +1,7 @@
--- `demand::digits::taken` meets its contract by its test.
+-- `demand::maps::taken` meets its contract by its test.
 use native.Mathlib.Omega.{arith}
-use Rattle.demand.proofs.digits.taken.Statement.{statement}
-use Rattle.demand.proofs.digits.taken.Tie as tie
+use Rattle.demand.proofs.maps.taken.Statement.{statement}
+use Rattle.demand.proofs.maps.taken.Tie as tie
 
 returns : tie.Need-returns
 returns c = omega arith
