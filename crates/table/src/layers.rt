@@ -4,6 +4,7 @@ use crate::candidates::back_half;
 use crate::candidates::front_cost;
 use crate::candidates::front_half;
 use demand::digits::DEMANDS;
+use demand::maps::HEIGHTS;
 use machine::action_step;
 use rows::NONE;
 use rows::NUMBERS;
@@ -15,9 +16,11 @@ use rows::relax_row;
 use rules::Layout;
 ghost use Prim.Native.Nat.{_*_, _+_, _<_, _≤_, ℕ};
 ghost use Rattle.machine.specs.Steps.{bit};
+ghost use Rattle.demand.specs.Digits.{demands};
+ghost use Rattle.demand.specs.Maps.{heights};
 ghost use Rattle.table.specs.Crossings.{InRange};
 ghost use Rattle.table.specs.Layers.{AisleReady, PassDone, RowFilled, passHalves, passKind, passesOf, stepWith};
-ghost use Rattle.rows.specs.Rows.{RelaxReady, RelaxedRow, numbers};
+ghost use Rattle.rows.specs.Rows.{RelaxReady, RelaxedRow, numbers, states};
 ghost use Rattle.table.specs.Turns.{SweepReady, SweptTo, TurnsOf, backAt, backTurn, frontAt, frontTurn};
 ghost use Rattle.rules.specs.Store.{layoutInBounds};
 ghost use lib.ListN.{getD, length};
@@ -38,15 +41,15 @@ pub struct Aisle {
 // What the turns of a kind of action cost, by the cell that the front and the back part reach: 65,535 where it has none.
 // `top` is the height of the back crossing.
 pub struct Turns {
-    pub front: [u16; 26],
-    pub back: [u16; 26],
+    pub front: [u16; HEIGHTS],
+    pub back: [u16; HEIGHTS],
     pub top: usize,
 }
 
 // The state after a kind of action, for each of eight states.
 fn steps_of(x: Aisle, kind: usize, halves: usize) -> [usize; STATES]
     requires { ⌜ InRange x × (kind < 6) × (halves < 2) ⌝ }
-    ensures { λ r. ⌜ ((s : ℕ) → s < 8 → getD r s 0 ≡ stepWith x kind (bit halves) s) ⌝ }
+    ensures { λ r. ⌜ ((s : ℕ) → s < states → getD r s 0 ≡ stepWith x kind (bit halves) s) ⌝ }
 {
     let policy = x.policy;
     let holds = x.holds;
@@ -112,8 +115,8 @@ fn turns_of(z: Layout, kind: usize, halves: usize) -> Turns
     requires { ⌜ (layoutInBounds z ≡ true) × (halves < 2) ⌝ }
     ensures { λ r. ⌜ TurnsOf z kind (bit halves) r ⌝ }
 {
-    let mut front = [NONE; 26];
-    let mut back = [NONE; 26];
+    let mut front = [NONE; HEIGHTS];
+    let mut back = [NONE; HEIGHTS];
     let top = z.cells + 1;
     let mut h = 0;
     while h <= top {
@@ -133,8 +136,8 @@ fn relax_turn<'a>(
     cost: u16,
     weight: usize,
 )
-    requires { ⌜ (h ≤ 25) × RelaxReady (now row) (now perm) (now map) (h * 256) weight ⌝ }
-    ensures { λ r. ⌜ RelaxedRow (now (row .entry)) (now (row .exit)) (now (perm .entry)) (now (map .entry)) (h * 256) cost weight ⌝ }
+    requires { ⌜ (h < heights) × RelaxReady (now row) (now perm) (now map) (h * demands) weight ⌝ }
+    ensures { λ r. ⌜ RelaxedRow (now (row .entry)) (now (row .exit)) (now (perm .entry)) (now (map .entry)) (h * demands) cost weight ⌝ }
 {
     if cost < NONE {
         relax_row(row, perm, map, h * DEMANDS, cost, weight);
