@@ -7,18 +7,23 @@ use mathlib.Core.Bool.{Bool, true, false, cond}
 use lib.Dec.{ltb}
 use lib.ListN.{length, getD}
 use Rattle.optimum.specs.Routing.{noTour, sat}
+use Rattle.demand.specs.Digits.{demands}
 
--- the numbers of a row: eight states for each of 256 demands
+-- the states that a row has places for; the dead state, 8, has none
+abbrev pub states : ℕ
+states = 8
+
+-- the numbers of a row: its states for each demand
 abbrev pub numbers : ℕ
-numbers = 2048
+numbers = demands * states
 
--- the numbers of the work area: sixteen rows
+-- the numbers of the work area: a row for each of sixteen aisles
 abbrev pub workArea : ℕ
-workArea = 32768
+workArea = 16 * numbers
 
 -- what a row of the table holds for a state and a demand
 abbrev pub tab : List ℕ → ℕ → ℕ → ℕ
-tab row s q = getD row (q * 8 + s) 0
+tab row s q = getD row (q * states + s) 0
 
 -- the first n of eight numbers: the shorter of a state's value and the way of that cost
 abbrev pub Shorter : List ℕ → ℕ → List ℕ → ℕ → ℕ → List ℕ → ℕ → Type 0
@@ -33,27 +38,27 @@ pub record StoredTo (row row′ some : List ℕ) (at n : ℕ) : Type 0 where
 
 -- what relaxing a row needs: lists that are long enough, demands that stay below the weight
 pub record RelaxReady (row perm map : List ℕ) (base weight : ℕ) : Type 0 where
-  pub small : weight ≤ 256
-  pub row-long : weight * 8 ≤ length row
-  pub perm-long : weight * 8 ≤ length perm
+  pub small : weight ≤ demands
+  pub row-long : weight * states ≤ length row
+  pub perm-long : weight * states ≤ length perm
   pub map-long : base + weight ≤ length map
   pub below : (q : ℕ) → q < weight → getD map (base + q) 0 < weight
 
 -- the first n demands of a row have the shorter of their values and the way of that cost; nothing else changes
 pub record RelaxedRow (row row′ perm map : List ℕ) (base cost n : ℕ) : Type 0 where
   pub kept : length row′ ≡ length row
-  pub done : (s q : ℕ) → s < 8 → q < n → tab row′ s q ≡ min (tab row s q) (sat cost (tab perm s (getD map (base + q) 0)))
-  pub rest : (k : ℕ) → n * 8 ≤ k → getD row′ k 0 ≡ getD row k 0
+  pub done : (s q : ℕ) → s < states → q < n → tab row′ s q ≡ min (tab row s q) (sat cost (tab perm s (getD map (base + q) 0)))
+  pub rest : (k : ℕ) → n * states ≤ k → getD row′ k 0 ≡ getD row k 0
 
 -- the value of a state in a row; none of the dead one
 unfoldable pub nextAt : List ℕ → ℕ → ℕ → ℕ
-nextAt next s q = cond (ltb s 8) (tab next s q) noTour
+nextAt next s q = cond (ltb s states) (tab next s q) noTour
 
 -- for the first n demands a row has at state s the value of state `to` in another; the other states are as they were
 pub record StateSet (perm perm′ after : List ℕ) (s to n : ℕ) : Type 0 where
   pub kept : length perm′ ≡ length perm
   pub done : (q : ℕ) → q < n → tab perm′ s q ≡ nextAt after to q
-  pub rest : (q t : ℕ) → t < 8 → (t ≡ s → ⊥) → tab perm′ t q ≡ tab perm t q
+  pub rest : (q t : ℕ) → t < states → (t ≡ s → ⊥) → tab perm′ t q ≡ tab perm t q
 
 -- for the first n states a row has the value of the state that a step leads to
 pub record Permuted (perm perm′ after steps : List ℕ) (weight n : ℕ) : Type 0 where
@@ -62,5 +67,5 @@ pub record Permuted (perm perm′ after steps : List ℕ) (weight n : ℕ) : Typ
 
 -- whether a step leads on from one of the eight states
 abbrev pub LivesAs : List ℕ → Bool → Type 0
-LivesAs steps true = (s : ℕ) × (s < 8) × (getD steps s 0 < 8)
-LivesAs steps false = (s : ℕ) → s < 8 → 8 ≤ getD steps s 0
+LivesAs steps true = (s : ℕ) × (s < states) × (getD steps s 0 < states)
+LivesAs steps false = (s : ℕ) → s < states → states ≤ getD steps s 0

@@ -1,18 +1,22 @@
 // Rows of the table. The length from demand q in state s on stands at q * 8 + s, so that a demand's eight states
 // are side by side; 65,535 is 'none'. The states: 0 nothing yet, 1 closed, 2 at the front, 3 at the back, 4 odd,
 // 5 joined, 6 split, 7 ending; 8 is dead and has no number.
+use demand::digits::DEMANDS;
 use demand::digits::wide;
 ghost use Prim.Native.Nat.{_*_, _+_, _<_, _≤_, min, ℕ};
-ghost use Rattle.optimum.specs.Routing.{sat};
-ghost use Rattle.rows.specs.Rows.{LivesAs, Permuted, RelaxReady, RelaxedRow, Shorter, StateSet, StoredTo, nextAt};
+ghost use Rattle.demand.specs.Digits.{demands};
+ghost use Rattle.optimum.specs.Routing.{noTour, sat};
+ghost use Rattle.rows.specs.Rows.{LivesAs, Permuted, RelaxReady, RelaxedRow, Shorter, StateSet, StoredTo, nextAt, states};
 ghost use lib.ListN.{getD, length};
 ghost use mathlib.Core.Path.{_≡_};
 
-// The states that a row has places for, the numbers of a row, and the number that stands for no tour.
+// The states that a row has places for.
 pub const STATES: usize = 8;
 
-pub const NUMBERS: usize = 2048;
+// The numbers of a row: its states for each demand.
+pub const NUMBERS: usize = DEMANDS * STATES;
 
+// What stands for no tour.
 pub const NONE: u16 = 65535;
 
 // The sum, at most 65,535.
@@ -36,8 +40,8 @@ fn lesser(a: u16, b: u16) -> u16
 // For each of eight states the shorter of its value and the way of that cost. All are read before any is written:
 // the compiler then takes the eight at once.
 fn shorter<'a>(row: &'a [u16], at: usize, perm: &'a [u16], from: usize, cost: u16) -> [u16; STATES]
-    requires { ⌜ (at + 8 ≤ length (now row)) × (from + 8 ≤ length (now perm)) ⌝ }
-    ensures { λ r. ⌜ Shorter (now (row .entry)) at (now (perm .entry)) from cost r 8 ⌝ }
+    requires { ⌜ (at + states ≤ length (now row)) × (from + states ≤ length (now perm)) ⌝ }
+    ensures { λ r. ⌜ Shorter (now (row .entry)) at (now (perm .entry)) from cost r states ⌝ }
 {
     let mut out = [0u16; STATES];
     let mut s = 0;
@@ -50,8 +54,8 @@ fn shorter<'a>(row: &'a [u16], at: usize, perm: &'a [u16], from: usize, cost: u1
 
 // Eight numbers into a row.
 fn put(row: &mut [u16], at: usize, v: [u16; STATES])
-    requires { ⌜ at + 8 ≤ length (now row) ⌝ }
-    ensures { λ r. ⌜ StoredTo (now (row .entry)) (now (row .exit)) v at 8 ⌝ }
+    requires { ⌜ at + states ≤ length (now row) ⌝ }
+    ensures { λ r. ⌜ StoredTo (now (row .entry)) (now (row .exit)) v at states ⌝ }
 {
     let mut s = 0;
     while s < STATES {
@@ -84,7 +88,7 @@ pub fn relax_row<'a>(
 // The first n numbers of a row are 'none'.
 pub fn fill_none(row: &mut [u16], n: usize)
     requires { ⌜ n ≤ length (now row) ⌝ }
-    ensures { λ r. ⌜ ((k : ℕ) → k < n → getD (now (row .exit)) k 0 ≡ 65535) × (length (now (row .exit)) ≡ length (now (row .entry))) ⌝ }
+    ensures { λ r. ⌜ ((k : ℕ) → k < n → getD (now (row .exit)) k 0 ≡ noTour) × (length (now (row .exit)) ≡ length (now (row .entry))) ⌝ }
 {
     let mut i = 0;
     while i < n {
@@ -95,7 +99,7 @@ pub fn fill_none(row: &mut [u16], n: usize)
 
 // The value of a state in a row; none of the dead one, 8.
 fn step_value(after: &[u16], to: usize, q: usize) -> u16
-    requires { ⌜ (q < 256) × (q * 8 + 8 ≤ length (now after)) ⌝ }
+    requires { ⌜ (q < demands) × (q * states + states ≤ length (now after)) ⌝ }
     ensures { λ r. ⌜ r ≡ nextAt (now (after .entry)) to q ⌝ }
 {
     if to < STATES {
@@ -106,7 +110,7 @@ fn step_value(after: &[u16], to: usize, q: usize) -> u16
 
 // One state of a row: the values of the state that a step leads to.
 fn permute_state(perm: &mut [u16], after: &[u16], s: usize, to: usize, weight: usize)
-    requires { ⌜ (weight ≤ 256) × (s < 8) × (weight * 8 ≤ length (now perm)) × (weight * 8 ≤ length (now after)) ⌝ }
+    requires { ⌜ (weight ≤ demands) × (s < states) × (weight * states ≤ length (now perm)) × (weight * states ≤ length (now after)) ⌝ }
     ensures { λ r. ⌜ StateSet (now (perm .entry)) (now (perm .exit)) (now (after .entry)) s to weight ⌝ }
 {
     let mut q = 0;
@@ -118,8 +122,8 @@ fn permute_state(perm: &mut [u16], after: &[u16], s: usize, to: usize, weight: u
 
 // A row as a step sees it: for each state the value of the state that it leads to.
 pub fn permute(perm: &mut [u16], after: &[u16], steps: [usize; STATES], weight: usize)
-    requires { ⌜ (weight ≤ 256) × (weight * 8 ≤ length (now perm)) × (weight * 8 ≤ length (now after)) ⌝ }
-    ensures { λ r. ⌜ Permuted (now (perm .entry)) (now (perm .exit)) (now (after .entry)) steps weight 8 ⌝ }
+    requires { ⌜ (weight ≤ demands) × (weight * states ≤ length (now perm)) × (weight * states ≤ length (now after)) ⌝ }
+    ensures { λ r. ⌜ Permuted (now (perm .entry)) (now (perm .exit)) (now (after .entry)) steps weight states ⌝ }
 {
     let mut s = 0;
     while s < STATES {

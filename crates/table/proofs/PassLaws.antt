@@ -19,14 +19,14 @@ use Rattle.optimum.specs.Routing.{sat, leastOf}
 use Rattle.table.specs.declared.layers.Aisle.{Aisle}
 use Rattle.table.specs.declared.layers.Turns.{Turns}
 use Rattle.machine.specs.Steps.{bit}
-use Rattle.table.specs.Candidates.{candidateOf, actionOfParts, candidateLength, candidateHalves}
+use Rattle.table.specs.Candidates.{candidateOf, actionOfParts, frontCost, backCost, candidateLength, candidateHalves}
 use Rattle.rows.specs.Rows.{tab, nextAt}
-use Rattle.table.specs.Turns.{frontAt, backAt, frontCost, backCost, frontTurn, backTurn, TurnsOf, turnWay, SweepReady, SweptTo}
+use Rattle.table.specs.Turns.{frontAt, backAt, frontTurn, backTurn, TurnsOf, turnWay, SweepReady, SweptTo}
 use Rattle.table.specs.Layers.{stepWith, leftCode, throughCandidate, throughAction, wayWith, AisleReady, passHalves, passKind, passesOf, OfPass, PassDone, RowFilled}
-use Rattle.table.proofs.Geometry.{within}
+use Rattle.table.proofs.Geometry.{within, halves-parts, parts-halves}
 use Rattle.demand.proofs.Filling.{below}
 use Rattle.table.proofs.Bridge.{least-is}
-use Rattle.table.proofs.TurnLaws.{PairOf, pair-action, action-pair, length-parts, halves-parts, parts-halves}
+use Rattle.table.proofs.TurnLaws.{PairOf, pair-action, action-pair}
 use Rattle.table.proofs.ActionRows.{candidate-parts, way-is, way-dead, way-true, way-any}
 
 -- an aisle that is ready lets all its turns be swept
@@ -89,7 +89,7 @@ module _ (x : Aisle) (row after fronts backs steps : List ℕ) (kind halves : �
     pair-way : (s q : ℕ) (a : Action) → let c = candidateOf cells a in s < 8 → q < x .weight → Fits cells a → c .kind ≡ kind
         → frontTest (c .front) ≡ true → backTest (c .back) ≡ true
         → turnWay perm fronts backs (t .front) (t .back) s q (c .front) (c .back) ≡ wayWith x after fronts backs (bit halves) s q a
-    unfolding wayWith leftCode
+    unfolding wayWith leftCode candidateLength
     pair-way s q a l h f same u v = ap₂ sat cost value
       where
         front : ℕ
@@ -105,7 +105,6 @@ module _ (x : Aisle) (row after fronts backs steps : List ℕ) (kind halves : �
         cost =
             let p = action-pair cells a f in
             ap₂ _+_ (front-is front true (omega (arith, p .order, p .high)) u ∙ ap (λ k. frontCost (x .layout) k front) (sym same)) (back-is back true (p .high) v)
-            ∙ sym (length-parts (x .layout) a)
 
         below-weight : left < x .weight
         below-weight =
@@ -134,7 +133,7 @@ module _ (x : Aisle) (row after fronts backs steps : List ℕ) (kind halves : �
         keep : ((not (bit halves) || f) ≡ true) × ((not (bit halves) || b) ≡ true)
         keep =
             ⊎-elim (λ e. (ap (λ n. not (bit n) || f) e, ap (λ n. not (bit n) || b) e))
-            (λ e. let u = halves-parts (x .layout) a e in (or-true (not (bit halves)) f (u .0), or-true (not (bit halves)) b (u .1)))
+            (λ e. let u = halves-parts (x .layout) (candidateOf cells a) e in (or-true (not (bit halves)) f (u .0), or-true (not (bit halves)) b (u .1)))
             (o .keeps)
 
     module _ (row′ : List ℕ) (swept : SweptTo row row′ perm fronts backs (t .front) (t .back) (t .top) (x .weight) 0) where
@@ -185,7 +184,7 @@ module _ (x : Aisle) (row after fronts backs steps : List ℕ) (kind halves : �
           keeps n =
               let half = sym (ap (λ n. not (bit n) || inFrontHalf (x .layout) h) n) ∙ fs .1 in
               let other = sym (ap (λ n. not (bit n) || inBackHalf (x .layout) i) n) ∙ bs .1 in
-              parts-halves (x .layout) a (subst (λ k. k < 4) (sym (p .kind-is)) (low-kind n))
+              parts-halves (x .layout) (candidateOf cells a) (subst (λ k. k < 4) (sym (p .kind-is)) (low-kind n))
               (subst (λ k. inFrontHalf (x .layout) k ≡ true) (sym (p .front-is)) half)
               (subst (λ k. inBackHalf (x .layout) k ≡ true) (sym (p .back-is)) other)
 

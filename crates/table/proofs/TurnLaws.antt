@@ -1,20 +1,16 @@
 -- The turns of a kind of action stand for its actions.
-use Prim.Native.Nat.{ℕ, zero, suc, _+_, _*_, _≤_, _<_}
+use Prim.Native.Nat.{ℕ, zero, suc, _+_, _≤_, _<_}
 use native.Mathlib.Omega.{arith}
 use mathlib.Core.Path.{_≡_, refl, sym, _∙_, ap, ap₂}
 use mathlib.Core.Bool.{Bool, true, false, cond, not, _&&_, _||_, and-eq-true-iff}
 use lib.Dec.{ltb, leb, eqb}
 use borrow.Author.Tests.{ltb-true, leb-true, eqb-true, lt-ltb, le-leb, eq-eqb, ne-eqb}
-use Rattle.rules.specs.declared.Layout.{Layout}
 use Rattle.rules.specs.declared.Action.{Action}
 use Rattle.rules.specs.declared.Action.the-variants.{Void, Bottom, Top, Gap, Once, Twice}
-use Rattle.rules.specs.Store.{position, aisleLength}
 use Rattle.rules.specs.Plans.{Fits}
-use Rattle.rules.specs.Policies.{inFrontHalf, inBackHalf}
-use Rattle.rules.proofs.Lengths.{position-front, position-back}
 use Rattle.machine.specs.Steps.{bit}
-use Rattle.table.specs.Candidates.{candidateOf, actionOfParts, candidateLength, candidateHalves}
-use Rattle.table.specs.Turns.{frontAt, backAt, frontCost, backCost}
+use Rattle.table.specs.Candidates.{candidateOf, actionOfParts}
+use Rattle.table.specs.Turns.{frontAt, backAt}
 
 -- the last cases by number
 pub front-past : (cells kind h : ℕ) → 4 ≤ kind → frontAt cells kind h ≡ eqb h cells
@@ -30,21 +26,6 @@ back-past top (suc zero) i l = absurd (omega arith)
 back-past top (suc (suc zero)) i l = absurd (omega arith)
 back-past top (suc (suc (suc zero))) i l = absurd (omega arith)
 back-past top (suc (suc (suc (suc kind)))) i l = refl
-
-pub parts-cost : (z : Layout) (kind h : ℕ) → kind < 4 → frontCost z kind h ≡ 2 * position z h
-parts-cost z zero h l = refl
-parts-cost z (suc zero) h l = refl
-parts-cost z (suc (suc zero)) h l = refl
-parts-cost z (suc (suc (suc zero))) h l = refl
-parts-cost z (suc (suc (suc (suc kind)))) h l = absurd (omega arith)
-
-pub twice-cost : (z : Layout) (kind h : ℕ) → 5 ≤ kind → frontCost z kind h ≡ 2 * aisleLength z
-twice-cost z zero h l = absurd (omega arith)
-twice-cost z (suc zero) h l = absurd (omega arith)
-twice-cost z (suc (suc zero)) h l = absurd (omega arith)
-twice-cost z (suc (suc (suc zero))) h l = absurd (omega arith)
-twice-cost z (suc (suc (suc (suc zero)))) h l = absurd (omega arith)
-twice-cost z (suc (suc (suc (suc (suc kind))))) h l = refl
 
 -- the test of a turn, as the code asks it
 not-bit : (n : ℕ) → not (bit n) ≡ eqb n 0
@@ -121,41 +102,3 @@ action-pair cells Once f =
     record { at-front = eq-eqb cells cells refl; at-back = eq-eqb (suc cells) (cells + 1) (omega arith); order = omega arith; high = omega arith }
 action-pair cells Twice f =
     record { at-front = eq-eqb cells cells refl; at-back = eq-eqb (suc cells) (cells + 1) (omega arith); order = omega arith; high = omega arith }
-
--- the length of an action is that of its parts
-pub length-parts : (z : Layout) (a : Action) → let c = candidateOf (z .cells) a in candidateLength z c ≡ frontCost z (c .kind) (c .front) + backCost z (c .back)
-unfolding candidateLength
-length-parts z Void = refl
-length-parts z (Bottom i) = refl
-length-parts z (Top i) = refl
-length-parts z (Gap h i) = refl
-length-parts z Once = omega (arith, position-back z (suc (z .cells)) (omega arith))
-length-parts z Twice = omega (arith, position-back z (suc (z .cells)) (omega arith))
-
--- a part that is not there keeps to its half
-front-none : (z : Layout) → inFrontHalf z 0 ≡ true
-unfolding inFrontHalf
-front-none z = le-leb (2 * position z 0) (aisleLength z) (omega (arith, position-front z))
-
-back-none : (z : Layout) → inBackHalf z (suc (z .cells)) ≡ true
-unfolding inBackHalf
-back-none z = le-leb (aisleLength z) (2 * position z (suc (z .cells))) (omega (arith, position-back z (suc (z .cells)) (omega arith)))
-
--- an action keeps to the halves where both its parts do
-pub halves-parts : (z : Layout) (a : Action) → let c = candidateOf (z .cells) a in candidateHalves z c ≡ true → (inFrontHalf z (c .front) ≡ true) × (inBackHalf z (c .back) ≡ true)
-unfolding candidateHalves
-halves-parts z Void e = (front-none z, back-none z)
-halves-parts z (Bottom i) e = (e, back-none z)
-halves-parts z (Top i) e = (front-none z, e)
-halves-parts z (Gap h i) e = and-eq-true-iff (inFrontHalf z h) (inBackHalf z i) .0 e
-halves-parts z Once e = let no : _≡_ {A = ℕ} 0 1 = cc in absurd (omega arith)
-halves-parts z Twice e = let no : _≡_ {A = ℕ} 0 1 = cc in absurd (omega arith)
-
-pub parts-halves : (z : Layout) (a : Action) → let c = candidateOf (z .cells) a in c .kind < 4 → inFrontHalf z (c .front) ≡ true → inBackHalf z (c .back) ≡ true → candidateHalves z c ≡ true
-unfolding candidateHalves
-parts-halves z Void l f b = refl
-parts-halves z (Bottom i) l f b = f
-parts-halves z (Top i) l f b = b
-parts-halves z (Gap h i) l f b = ap₂ _&&_ f b
-parts-halves z Once l f b = absurd (omega arith)
-parts-halves z Twice l f b = absurd (omega arith)

@@ -1,7 +1,8 @@
 -- A candidate action as numbers: its kind, the cell that its front part reaches and the cell that its back part reaches.
 use Prim.Native.Nat.{ℕ, zero, suc, _+_, _*_, _-_}
 use mathlib.Core.List.{List, [], _∷_, _++_, map}
-use mathlib.Core.Bool.{Bool, true, false, _&&_}
+use mathlib.Core.Bool.{Bool, cond, _&&_}
+use lib.Dec.{ltb, eqb}
 use Rattle.rules.specs.declared.Layout.{Layout}
 use Rattle.rules.specs.declared.Action.{Action}
 use Rattle.rules.specs.declared.Action.the-variants.{Void, Bottom, Top, Gap, Once, Twice}
@@ -31,28 +32,21 @@ actionOfParts (suc (suc (suc (suc (suc n))))) h i = Twice
 unfoldable pub actionOf : Candidate → Action
 actionOf c = actionOfParts (c .kind) (c .front) (c .back)
 
--- the length of a candidate: both parts there and back, or the whole aisle once or twice
-abbrev pub lengthOfParts : Layout → ℕ → ℕ → ℕ → ℕ
-lengthOfParts z zero h i = 2 * position z h + 2 * (aisleLength z - position z i)
-lengthOfParts z (suc zero) h i = 2 * position z h + 2 * (aisleLength z - position z i)
-lengthOfParts z (suc (suc zero)) h i = 2 * position z h + 2 * (aisleLength z - position z i)
-lengthOfParts z (suc (suc (suc zero))) h i = 2 * position z h + 2 * (aisleLength z - position z i)
-lengthOfParts z (suc (suc (suc (suc zero)))) h i = aisleLength z
-lengthOfParts z (suc (suc (suc (suc (suc n))))) h i = 2 * aisleLength z
+-- what the front part of a kind of action costs: there and back, or the whole aisle once or twice
+unfoldable pub frontCost : Layout → ℕ → ℕ → ℕ
+frontCost z kind h = cond (ltb kind 4) (2 * position z h) (cond (eqb kind 4) (aisleLength z) (2 * aisleLength z))
 
+-- what the back part costs: there and back, from the back crossing
+abbrev pub backCost : Layout → ℕ → ℕ
+backCost z i = 2 * (aisleLength z - position z i)
+
+-- the length of a candidate; a part that is not there costs nothing
 unfoldable pub candidateLength : Layout → Candidate → ℕ
-candidateLength z c = lengthOfParts z (c .kind) (c .front) (c .back)
+candidateLength z c = frontCost z (c .kind) (c .front) + backCost z (c .back)
 
--- whether a candidate keeps to the halves
-abbrev pub halvesOfParts : Layout → ℕ → ℕ → ℕ → Bool
-halvesOfParts z zero h i = true
-halvesOfParts z (suc zero) h i = inFrontHalf z h
-halvesOfParts z (suc (suc zero)) h i = inBackHalf z i
-halvesOfParts z (suc (suc (suc zero))) h i = inFrontHalf z h && inBackHalf z i
-halvesOfParts z (suc (suc (suc (suc n)))) h i = false
-
+-- whether a candidate keeps to the halves: it is walked there and back, and so do both its parts
 unfoldable pub candidateHalves : Layout → Candidate → Bool
-candidateHalves z c = halvesOfParts z (c .kind) (c .front) (c .back)
+candidateHalves z c = ltb (c .kind) 4 && (inFrontHalf z (c .front) && inBackHalf z (c .back))
 
 -- the GAPs of an aisle whose front part reaches cell h
 unfoldable pub gapsAt : ℕ → ℕ → List Action

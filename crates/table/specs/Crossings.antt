@@ -12,14 +12,15 @@ use Rattle.optimum.specs.Routing.{sat, leastOf}
 use Rattle.machine.specs.States.{stateCode, stateOf}
 use Rattle.machine.specs.Steps.{policyOf, passageOf, crossOf}
 use Rattle.table.specs.declared.layers.Aisle.{Aisle}
-use Rattle.rows.specs.Rows.{tab, nextAt}
+use Rattle.demand.specs.Digits.{demands}
+use Rattle.rows.specs.Rows.{states, tab, nextAt}
 
 -- an aisle's numbers are in range
 pub record InRange (x : Aisle) : Type 0 where
   pub bounds : layoutInBounds (x .layout) ≡ true
   pub policy-below : x .policy < 5
   pub holds-below : x .holds < 2
-  pub small : x .weight ≤ 256
+  pub small : x .weight ≤ demands
   pub side-below : x .side < 3
   pub few : x .tried ≤ 5
 
@@ -43,21 +44,21 @@ leastAfter x next s q = leastOver x next s q (x .tried)
 -- what the ways on from a state and a demand need: a next row that is long enough, numbers in range
 pub record NextReady (x : Aisle) (next : List ℕ) (s q : ℕ) : Type 0 where
   pub aisle : InRange x
-  pub long : q * 8 + 8 ≤ length next
-  pub demand : q < 256
+  pub long : q * states + states ≤ length next
+  pub demand : q < demands
   pub state-below : s < 9
 
 -- what the row behind the actions needs: rows that are long enough, numbers in range
 pub record CrossingReady (x : Aisle) (after next : List ℕ) : Type 0 where
   pub aisle : InRange x
-  pub after-long : x .weight * 8 ≤ length after
-  pub next-long : x .weight * 8 ≤ length next
+  pub after-long : x .weight * states ≤ length after
+  pub next-long : x .weight * states ≤ length next
 
 -- each number of a row is the lesser of what it was and the way on over a passage, by number; nothing else changes
 pub record PassageTried (x : Aisle) (after after′ next : List ℕ) (passage : ℕ) : Type 0 where
   pub kept : length after′ ≡ length after
-  pub done : (s q : ℕ) → s < 8 → q < x .weight → tab after′ s q ≡ min (tab after s q) (throughPassage x next s q (passageOf passage))
-  pub rest : (k : ℕ) → x .weight * 8 ≤ k → getD after′ k 0 ≡ getD after k 0
+  pub done : (s q : ℕ) → s < states → q < x .weight → tab after′ s q ≡ min (tab after s q) (throughPassage x next s q (passageOf passage))
+  pub rest : (k : ℕ) → x .weight * states ≤ k → getD after′ k 0 ≡ getD after k 0
 
 -- the row behind the actions holds the least over the passages that are tried
 abbrev pub AfterFilled : Aisle → List ℕ → List ℕ → Type 0

@@ -1,5 +1,5 @@
 -- One aisle of the table as the code computes it, from the row behind the actions and the maps of the aisle.
-use Prim.Native.Nat.{ℕ, suc, _+_, _*_, _-_, _/_, _≤_, _<_}
+use Prim.Native.Nat.{ℕ, suc, _*_, _-_, _/_, _≤_, _<_}
 use mathlib.Core.Path.{_≡_}
 use mathlib.Core.Logic.{_⊎_}
 use mathlib.Core.List.{List}
@@ -15,7 +15,8 @@ use Rattle.table.specs.declared.layers.Aisle.{Aisle}
 use Rattle.machine.specs.States.{stateCode, stateOf}
 use Rattle.machine.specs.Steps.{policyOf, sampleAction, bit, stepOf}
 use Rattle.table.specs.Candidates.{candidateOf, candidateLength, candidateHalves}
-use Rattle.rows.specs.Rows.{tab, nextAt}
+use Rattle.demand.specs.Maps.{entry, mapSize}
+use Rattle.rows.specs.Rows.{states, tab, nextAt}
 use Rattle.table.specs.Crossings.{InRange}
 
 -- the number of the state after a kind of action, with the answer of the half rule given
@@ -30,7 +31,7 @@ stepCode x c s =
 
 -- the number of the demand after a candidate
 unfoldable pub leftCode : List ℕ → List ℕ → Candidate → ℕ → ℕ
-leftCode fronts backs c q = getD backs (c .back * 256 + getD fronts (c .front * 256 + q) 0) 0
+leftCode fronts backs c q = entry backs (c .back) (entry fronts (c .front) q)
 
 -- the way over a candidate: its length and what the row behind the actions holds
 unfoldable pub throughCandidate : Aisle → (ℕ → ℕ → ℕ) → List ℕ → List ℕ → ℕ → ℕ → Candidate → ℕ
@@ -43,10 +44,10 @@ throughAction x after fronts backs s q a = throughCandidate x after fronts backs
 -- an aisle's numbers are in range, and its maps lead to demands below the weight
 pub record AisleReady (x : Aisle) (fronts backs : List ℕ) : Type 0 where
   pub aisle : InRange x
-  pub fronts-long : 6656 ≤ length fronts
-  pub backs-long : 6656 ≤ length backs
-  pub front-below : (h q : ℕ) → h ≤ x .layout .cells → q < x .weight → getD fronts (h * 256 + q) 0 < x .weight
-  pub back-below : (i q : ℕ) → 1 ≤ i → i ≤ suc (x .layout .cells) → q < x .weight → getD backs (i * 256 + q) 0 < x .weight
+  pub fronts-long : mapSize ≤ length fronts
+  pub backs-long : mapSize ≤ length backs
+  pub front-below : (h q : ℕ) → h ≤ x .layout .cells → q < x .weight → entry fronts h q < x .weight
+  pub back-below : (i q : ℕ) → 1 ≤ i → i ≤ suc (x .layout .cells) → q < x .weight → entry backs i q < x .weight
 
 -- the way over an action, with the answer of the half rule given
 unfoldable pub wayWith : Aisle → List ℕ → List ℕ → List ℕ → Bool → ℕ → ℕ → Action → ℕ
@@ -74,12 +75,12 @@ pub record OfPass (x : Aisle) (kind halves : ℕ) (a : Action) : Type 0 where
 -- a row after a pass: no way over one of its actions is shorter, nothing grew, and each number is as it was or the way over an action
 pub record PassDone (x : Aisle) (row row′ after fronts backs : List ℕ) (kind halves : ℕ) : Type 0 where
   pub kept : length row′ ≡ length row
-  pub low : (s q : ℕ) (a : Action) → s < 8 → q < x .weight → OfPass x kind halves a → tab row′ s q ≤ wayWith x after fronts backs (bit halves) s q a
-  pub less : (s q : ℕ) → s < 8 → q < x .weight → tab row′ s q ≤ tab row s q
-  pub one : (s q : ℕ) → s < 8 → q < x .weight → (tab row′ s q ≡ tab row s q) ⊎ ((a : Action) × Fits (x .layout .cells) a × (tab row′ s q ≡ throughAction x (nextAt after) fronts backs s q a))
-  pub rest : (k : ℕ) → x .weight * 8 ≤ k → getD row′ k 0 ≡ getD row k 0
+  pub low : (s q : ℕ) (a : Action) → s < states → q < x .weight → OfPass x kind halves a → tab row′ s q ≤ wayWith x after fronts backs (bit halves) s q a
+  pub less : (s q : ℕ) → s < states → q < x .weight → tab row′ s q ≤ tab row s q
+  pub one : (s q : ℕ) → s < states → q < x .weight → (tab row′ s q ≡ tab row s q) ⊎ ((a : Action) × Fits (x .layout .cells) a × (tab row′ s q ≡ throughAction x (nextAt after) fronts backs s q a))
+  pub rest : (k : ℕ) → x .weight * states ≤ k → getD row′ k 0 ≡ getD row k 0
 
 -- a row holds the least over the actions
 abbrev pub RowFilled : Aisle → List ℕ → List ℕ → List ℕ → List ℕ → Type 0
 RowFilled x row after fronts backs =
-    (s q : ℕ) → s < 8 → q < x .weight → tab row s q ≡ leastOf (throughAction x (nextAt after) fronts backs s q) (actionsOf (x .layout .cells))
+    (s q : ℕ) → s < states → q < x .weight → tab row s q ≡ leastOf (throughAction x (nextAt after) fronts backs s q) (actionsOf (x .layout .cells))

@@ -17,7 +17,7 @@ use Rattle.values.specs.Shelves.{ShelfOf}
 use Rattle.demand.specs.Digits.{DigitsOf}
 use Rattle.table.specs.declared.filling.Order.{Order}
 use Rattle.table.specs.declared.layers.Aisle.{Aisle}
-use Rattle.rows.specs.Rows.{numbers, workArea, tab, nextAt}
+use Rattle.rows.specs.Rows.{states, numbers, workArea, tab, nextAt}
 use Rattle.table.specs.Crossings.{InRange}
 
 -- where aisle j lies: left of the depot (0), at it (1) or right of it (2)
@@ -63,7 +63,7 @@ behind job n j = afterAction (routing job (allActions job)) (values job n (suc j
 -- a row holds the table's values with n aisles left from aisle j on
 abbrev pub RowHolds : Job → ℕ → ℕ → List ℕ → Type 0
 RowHolds job n j row =
-    (s q : ℕ) → s < 8 → q < weight (job .lines) → tab row s q ≡ values job n j (stateOf s) (demandOf (radices job) q)
+    (s q : ℕ) → s < states → q < weight (job .lines) → tab row s q ≡ values job n j (stateOf s) (demandOf (radices job) q)
 
 -- a row holds the values behind the actions of aisle j, the dead state's too
 abbrev pub AfterHolds : Job → ℕ → ℕ → List ℕ → Type 0
@@ -73,8 +73,8 @@ AfterHolds job n j after =
 -- the rows of the aisles from j to m, 2,048 numbers each, hold the table's values
 abbrev pub TableFrom : Job → ℕ → List ℕ → Type 0
 TableFrom job j work =
-    (i s q : ℕ) → j ≤ i → i ≤ job .layout .aisles → s < 8 → q < weight (job .lines)
-    → getD work ((i - 1) * numbers + (q * 8 + s)) 0 ≡ values job (suc (job .layout .aisles) - i) i (stateOf s) (demandOf (radices job) q)
+    (i s q : ℕ) → j ≤ i → i ≤ job .layout .aisles → s < states → q < weight (job .lines)
+    → getD work ((i - 1) * numbers + (q * states + s)) 0 ≡ values job (suc (job .layout .aisles) - i) i (stateOf s) (demandOf (radices job) q)
 
 -- the row behind the last aisle: length 0 in the closed state, 1, with demand 0, and else 'none'
 unfoldable pub endRow : List ℕ

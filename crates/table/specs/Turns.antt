@@ -1,5 +1,5 @@
 -- The turns of a kind of action, and all pairs of them in one sweep.
-use Prim.Native.Nat.{ℕ, zero, suc, _+_, _*_, _-_, _≤_, _<_}
+use Prim.Native.Nat.{ℕ, zero, suc, _+_, _*_, _≤_, _<_}
 use mathlib.Core.Path.{_≡_}
 use mathlib.Core.Logic.{_⊎_}
 use mathlib.Core.List.{List}
@@ -7,11 +7,13 @@ use mathlib.Core.Bool.{Bool, cond, not, _&&_, _||_}
 use lib.Dec.{ltb, leb, eqb}
 use lib.ListN.{length, getD}
 use Rattle.rules.specs.declared.Layout.{Layout}
-use Rattle.rules.specs.Store.{position, aisleLength}
 use Rattle.rules.specs.Policies.{inFrontHalf, inBackHalf}
 use Rattle.optimum.specs.Routing.{noTour, sat}
 use Rattle.table.specs.declared.layers.Turns.{Turns}
-use Rattle.rows.specs.Rows.{tab}
+use Rattle.table.specs.Candidates.{frontCost, backCost}
+use Rattle.demand.specs.Digits.{demands}
+use Rattle.demand.specs.Maps.{entry, mapSize}
+use Rattle.rows.specs.Rows.{states, tab}
 
 -- the heights that the front part of a kind of action reaches: VOID and TOP have none, ONCE and TWICE pass all cells
 abbrev pub frontAt : ℕ → ℕ → ℕ → Bool
@@ -29,18 +31,6 @@ backAt top (suc (suc zero)) i = leb 1 i && ltb i top
 backAt top (suc (suc (suc zero))) i = leb 2 i && ltb i top
 backAt top (suc (suc (suc (suc n)))) i = eqb i top
 
--- what the two parts cost: there and back, or the whole aisle once or twice
-abbrev pub frontCost : Layout → ℕ → ℕ → ℕ
-frontCost z zero h = 2 * position z h
-frontCost z (suc zero) h = 2 * position z h
-frontCost z (suc (suc zero)) h = 2 * position z h
-frontCost z (suc (suc (suc zero))) h = 2 * position z h
-frontCost z (suc (suc (suc (suc zero)))) h = aisleLength z
-frontCost z (suc (suc (suc (suc (suc n))))) h = 2 * aisleLength z
-
-abbrev pub backCost : Layout → ℕ → ℕ
-backCost z i = 2 * (aisleLength z - position z i)
-
 -- what a turn costs; 'none' where the kind has none, or where it is to keep to its half and does not
 unfoldable pub frontTurn : Layout → ℕ → Bool → ℕ → ℕ
 frontTurn z kind halves h = cond (frontAt (z .cells) kind h && (not halves || inFrontHalf z h)) (frontCost z kind h) noTour
@@ -57,33 +47,33 @@ pub record TurnsOf (z : Layout) (kind : ℕ) (halves : Bool) (t : Turns) : Type 
 -- the way over a front turn at height h and a back turn at height i
 abbrev pub turnWay : List ℕ → List ℕ → List ℕ → List ℕ → List ℕ → ℕ → ℕ → ℕ → ℕ → ℕ
 turnWay perm fronts backs fc bc s q h i =
-    sat (getD fc h 0 + getD bc i 0) (tab perm s (getD backs (i * 256 + getD fronts (h * 256 + q) 0) 0))
+    sat (getD fc h 0 + getD bc i 0) (tab perm s (entry backs i (entry fronts h q)))
 
 -- the way over a back turn alone
 abbrev pub backWay : List ℕ → List ℕ → List ℕ → ℕ → ℕ → ℕ → ℕ
-backWay perm backs bc s y i = sat (getD bc i 0) (tab perm s (getD backs (i * 256 + y) 0))
+backWay perm backs bc s y i = sat (getD bc i 0) (tab perm s (entry backs i y))
 
 -- the best over the back turns past height h: none is shorter, and it is one of them or none
 pub record BacksDone (acc perm backs bc : List ℕ) (top weight h : ℕ) : Type 0 where
-  pub low : (s y i : ℕ) → s < 8 → y < weight → h < i → i ≤ top → tab acc s y ≤ backWay perm backs bc s y i
-  pub one : (s y : ℕ) → s < 8 → y < weight → (tab acc s y ≡ 65535) ⊎ ((i : ℕ) × (h < i) × (i ≤ top) × (tab acc s y ≡ backWay perm backs bc s y i))
+  pub low : (s y i : ℕ) → s < states → y < weight → h < i → i ≤ top → tab acc s y ≤ backWay perm backs bc s y i
+  pub one : (s y : ℕ) → s < states → y < weight → (tab acc s y ≡ noTour) ⊎ ((i : ℕ) × (h < i) × (i ≤ top) × (tab acc s y ≡ backWay perm backs bc s y i))
 
 -- a row after all pairs whose front turn is at height h or past it: no way over one of them is shorter, nothing grew,
 -- and each number is as it was or the way over a pair
 pub record SweptTo (row row′ perm fronts backs fc bc : List ℕ) (top weight h : ℕ) : Type 0 where
   pub kept : length row′ ≡ length row
-  pub low : (s q a i : ℕ) → s < 8 → q < weight → h ≤ a → a < i → i ≤ top → tab row′ s q ≤ turnWay perm fronts backs fc bc s q a i
-  pub less : (s q : ℕ) → s < 8 → q < weight → tab row′ s q ≤ tab row s q
-  pub one : (s q : ℕ) → s < 8 → q < weight → (tab row′ s q ≡ tab row s q) ⊎ ((a : ℕ) × (i : ℕ) × (h ≤ a) × (a < i) × (i ≤ top) × (tab row′ s q ≡ turnWay perm fronts backs fc bc s q a i))
-  pub rest : (k : ℕ) → weight * 8 ≤ k → getD row′ k 0 ≡ getD row k 0
+  pub low : (s q a i : ℕ) → s < states → q < weight → h ≤ a → a < i → i ≤ top → tab row′ s q ≤ turnWay perm fronts backs fc bc s q a i
+  pub less : (s q : ℕ) → s < states → q < weight → tab row′ s q ≤ tab row s q
+  pub one : (s q : ℕ) → s < states → q < weight → (tab row′ s q ≡ tab row s q) ⊎ ((a : ℕ) × (i : ℕ) × (h ≤ a) × (a < i) × (i ≤ top) × (tab row′ s q ≡ turnWay perm fronts backs fc bc s q a i))
+  pub rest : (k : ℕ) → weight * states ≤ k → getD row′ k 0 ≡ getD row k 0
 
 -- what the sweep needs
 pub record SweepReady (row perm fronts backs : List ℕ) (top weight : ℕ) : Type 0 where
-  pub small : weight ≤ 256
+  pub small : weight ≤ demands
   pub top-fits : top ≤ 25
-  pub row-long : weight * 8 ≤ length row
-  pub perm-long : weight * 8 ≤ length perm
-  pub fronts-long : 6656 ≤ length fronts
-  pub backs-long : 6656 ≤ length backs
-  pub front-below : (h q : ℕ) → h < top → q < weight → getD fronts (h * 256 + q) 0 < weight
-  pub back-below : (i q : ℕ) → 1 ≤ i → i ≤ top → q < weight → getD backs (i * 256 + q) 0 < weight
+  pub row-long : weight * states ≤ length row
+  pub perm-long : weight * states ≤ length perm
+  pub fronts-long : mapSize ≤ length fronts
+  pub backs-long : mapSize ≤ length backs
+  pub front-below : (h q : ℕ) → h < top → q < weight → entry fronts h q < weight
+  pub back-below : (i q : ℕ) → 1 ≤ i → i ≤ top → q < weight → entry backs i q < weight

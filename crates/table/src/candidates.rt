@@ -2,7 +2,7 @@
 use rules::Layout;
 ghost use Prim.Native.Nat.{_*_, _+_, _<_, _≤_};
 ghost use Rattle.machine.specs.Steps.{bit};
-ghost use Rattle.table.specs.Candidates.{candidateHalves, candidateLength};
+ghost use Rattle.table.specs.Candidates.{backCost, candidateHalves, candidateLength, frontCost};
 ghost use Rattle.rules.specs.Policies.{inBackHalf, inFrontHalf};
 ghost use Rattle.rules.specs.Store.{aisleLength, layoutInBounds, position};
 ghost use mathlib.Core.Bool.{true};
@@ -37,20 +37,34 @@ pub fn position_of(z: Layout, k: usize) -> usize
     aisle_length(z)
 }
 
+// What the front part of a kind of action costs: there and back, or the whole aisle once or twice.
+pub fn front_cost(z: Layout, kind: usize, h: usize) -> usize
+    requires { ⌜ layoutInBounds z ≡ true ⌝ }
+    ensures { λ r. ⌜ (r ≡ frontCost z kind h) × (r ≤ 1620) ⌝ }
+{
+    if kind < 4 {
+        return 2 * position_of(z, h);
+    }
+    if kind == 4 {
+        return aisle_length(z);
+    }
+    2 * aisle_length(z)
+}
+
+// What the back part costs: there and back, from the back crossing.
+pub fn back_cost(z: Layout, i: usize) -> usize
+    requires { ⌜ layoutInBounds z ≡ true ⌝ }
+    ensures { λ r. ⌜ (r ≡ backCost z i) × (r ≤ 1620) ⌝ }
+{
+    2 * (aisle_length(z) - position_of(z, i))
+}
+
 // What a candidate adds to the length of a plan.
 pub fn action_length(z: Layout, c: Candidate) -> usize
     requires { ⌜ (layoutInBounds z ≡ true) × (c .kind < 6) ⌝ }
     ensures { λ r. ⌜ (r ≡ candidateLength z c) × (r ≤ 3240) ⌝ }
 {
-    let whole = aisle_length(z);
-    let kind = c.kind;
-    if kind == 4 {
-        return whole;
-    }
-    if kind == 5 {
-        return 2 * whole;
-    }
-    2 * position_of(z, c.front) + 2 * (whole - position_of(z, c.back))
+    front_cost(z, c.kind, c.front) + back_cost(z, c.back)
 }
 
 // Whether a front part keeps to the front half.
@@ -81,20 +95,8 @@ pub fn keeps_halves(z: Layout, c: Candidate) -> usize
     requires { ⌜ (layoutInBounds z ≡ true) × (c .kind < 6) ⌝ }
     ensures { λ r. ⌜ (bit r ≡ candidateHalves z c) × (r < 2) ⌝ }
 {
-    let kind = c.kind;
-    let front = c.front;
-    let back = c.back;
-    if kind == 0 {
-        return 1;
-    }
-    if kind == 1 {
-        return flag(front_half(z, front));
-    }
-    if kind == 2 {
-        return flag(back_half(z, back));
-    }
-    if kind == 3 {
-        return flag(front_half(z, front) & back_half(z, back));
+    if c.kind < 4 {
+        return flag(front_half(z, c.front) & back_half(z, c.back));
     }
     0
 }

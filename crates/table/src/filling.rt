@@ -3,6 +3,7 @@ use crate::layers::Aisle;
 use crate::layers::fill_row;
 use crate::passages::fill_after;
 use demand::digits::Digits;
+use demand::maps::MAP;
 use demand::maps::fill_maps;
 use demand::shelf::holds_listed;
 use rows::NONE;
@@ -17,9 +18,6 @@ ghost use Rattle.rows.specs.Rows.{workArea};
 ghost use Rattle.table.specs.TableHolds.{BehindAsked, BehindFilled, LayerAsked, LayerFilled, OrderOf, TableFrom, aisleOf, endRow, sideOf, triedAt};
 ghost use lib.ListN.{length, replicate};
 ghost use mathlib.Core.Path.{_≡_};
-
-// The numbers of a map: 256 demands for each of 26 heights.
-const MAP: usize = 6656;
 
 // What the table needs of a job: the layout, the number of the policy, what each cell holds for the order lines, and the order
 // lines as digits.

@@ -1,9 +1,10 @@
 // One aisle of the table: the ways over all its actions, a kind of action at a time.
-use crate::candidates::aisle_length;
+use crate::candidates::back_cost;
 use crate::candidates::back_half;
+use crate::candidates::front_cost;
 use crate::candidates::front_half;
-use crate::candidates::position_of;
 use demand::digits::DEMANDS;
+use demand::maps::HEIGHTS;
 use machine::action_step;
 use rows::NONE;
 use rows::NUMBERS;
@@ -15,10 +16,12 @@ use rows::relax_row;
 use rules::Layout;
 ghost use Prim.Native.Nat.{_*_, _+_, _<_, _≤_, ℕ};
 ghost use Rattle.machine.specs.Steps.{bit};
+ghost use Rattle.demand.specs.Digits.{demands};
+ghost use Rattle.demand.specs.Maps.{heights};
 ghost use Rattle.table.specs.Crossings.{InRange};
 ghost use Rattle.table.specs.Layers.{AisleReady, PassDone, RowFilled, passHalves, passKind, passesOf, stepWith};
-ghost use Rattle.rows.specs.Rows.{RelaxReady, RelaxedRow, numbers};
-ghost use Rattle.table.specs.Turns.{SweepReady, SweptTo, TurnsOf, backAt, backTurn, frontAt, frontCost, frontTurn};
+ghost use Rattle.rows.specs.Rows.{RelaxReady, RelaxedRow, numbers, states};
+ghost use Rattle.table.specs.Turns.{SweepReady, SweptTo, TurnsOf, backAt, backTurn, frontAt, frontTurn};
 ghost use Rattle.rules.specs.Store.{layoutInBounds};
 ghost use lib.ListN.{getD, length};
 ghost use mathlib.Core.Bool.{true};
@@ -38,15 +41,15 @@ pub struct Aisle {
 // What the turns of a kind of action cost, by the cell that the front and the back part reach: 65,535 where it has none.
 // `top` is the height of the back crossing.
 pub struct Turns {
-    pub front: [u16; 26],
-    pub back: [u16; 26],
+    pub front: [u16; HEIGHTS],
+    pub back: [u16; HEIGHTS],
     pub top: usize,
 }
 
 // The state after a kind of action, for each of eight states.
 fn steps_of(x: Aisle, kind: usize, halves: usize) -> [usize; STATES]
     requires { ⌜ InRange x × (kind < 6) × (halves < 2) ⌝ }
-    ensures { λ r. ⌜ ((s : ℕ) → s < 8 → getD r s 0 ≡ stepWith x kind (bit halves) s) ⌝ }
+    ensures { λ r. ⌜ ((s : ℕ) → s < states → getD r s 0 ≡ stepWith x kind (bit halves) s) ⌝ }
 {
     let policy = x.policy;
     let holds = x.holds;
@@ -85,20 +88,6 @@ fn back_at(top: usize, kind: usize, i: usize) -> bool
     }
 }
 
-// What the front part of an action costs.
-fn front_cost(z: Layout, kind: usize, h: usize) -> usize
-    requires { ⌜ layoutInBounds z ≡ true ⌝ }
-    ensures { λ r. ⌜ (r ≡ frontCost z kind h) × (r ≤ 1620) ⌝ }
-{
-    if kind < 4 {
-        return 2 * position_of(z, h);
-    }
-    if kind == 4 {
-        return aisle_length(z);
-    }
-    2 * aisle_length(z)
-}
-
 // The front turn of a kind at height h; with halves = 1 in the front half alone.
 fn front_turn(z: Layout, kind: usize, halves: usize, h: usize) -> u16
     requires { ⌜ (layoutInBounds z ≡ true) × (halves < 2) ⌝ }
@@ -116,7 +105,7 @@ fn back_turn(z: Layout, kind: usize, halves: usize, i: usize) -> u16
     ensures { λ r. ⌜ r ≡ backTurn z kind (bit halves) i ⌝ }
 {
     if back_at(z.cells + 1, kind, i) & ((halves == 0) | back_half(z, i)) {
-        return (2 * (aisle_length(z) - position_of(z, i))) as u16;
+        return back_cost(z, i) as u16;
     }
     NONE
 }
@@ -126,8 +115,8 @@ fn turns_of(z: Layout, kind: usize, halves: usize) -> Turns
     requires { ⌜ (layoutInBounds z ≡ true) × (halves < 2) ⌝ }
     ensures { λ r. ⌜ TurnsOf z kind (bit halves) r ⌝ }
 {
-    let mut front = [NONE; 26];
-    let mut back = [NONE; 26];
+    let mut front = [NONE; HEIGHTS];
+    let mut back = [NONE; HEIGHTS];
     let top = z.cells + 1;
     let mut h = 0;
     while h <= top {
@@ -147,8 +136,8 @@ fn relax_turn<'a>(
     cost: u16,
     weight: usize,
 )
-    requires { ⌜ (h ≤ 25) × RelaxReady (now row) (now perm) (now map) (h * 256) weight ⌝ }
-    ensures { λ r. ⌜ RelaxedRow (now (row .entry)) (now (row .exit)) (now (perm .entry)) (now (map .entry)) (h * 256) cost weight ⌝ }
+    requires { ⌜ (h < heights) × RelaxReady (now row) (now perm) (now map) (h * demands) weight ⌝ }
+    ensures { λ r. ⌜ RelaxedRow (now (row .entry)) (now (row .exit)) (now (perm .entry)) (now (map .entry)) (h * demands) cost weight ⌝ }
 {
     if cost < NONE {
         relax_row(row, perm, map, h * DEMANDS, cost, weight);

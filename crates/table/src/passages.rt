@@ -9,6 +9,8 @@ use rows::lives;
 use rows::permute;
 use rows::relax_row;
 ghost use Prim.Native.Nat.{_*_, _+_, _<_, _≤_, ℕ};
+ghost use Rattle.demand.specs.Digits.{demands};
+ghost use Rattle.rows.specs.Rows.{states};
 ghost use Rattle.machine.specs.Steps.{passageOf};
 ghost use Rattle.table.specs.Crossings.{AfterFilled, CrossingReady, InRange, PassageTried, crossCode};
 ghost use Rattle.rules.specs.Plans.{backTreads, frontTreads};
@@ -32,7 +34,7 @@ pub fn passage_length(passage: usize, width: usize) -> usize
 // The state after a passage behind an aisle, for each of eight states.
 fn passage_steps(x: Aisle, passage: usize) -> [usize; STATES]
     requires { ⌜ InRange x × (passage < 5) ⌝ }
-    ensures { λ r. ⌜ ((s : ℕ) → s < 8 → getD r s 0 ≡ crossCode x passage s) ⌝ }
+    ensures { λ r. ⌜ ((s : ℕ) → s < states → getD r s 0 ≡ crossCode x passage s) ⌝ }
 {
     let policy = x.policy;
     let side = x.side;
@@ -47,7 +49,7 @@ fn passage_steps(x: Aisle, passage: usize) -> [usize; STATES]
 
 // The map that leaves every demand as it is.
 fn plain_map() -> [u16; DEMANDS]
-    ensures { λ r. ⌜ ((q : ℕ) → q < 256 → getD r q 0 ≡ q) ⌝ }
+    ensures { λ r. ⌜ ((q : ℕ) → q < demands → getD r q 0 ≡ q) ⌝ }
 {
     let mut out = [0u16; DEMANDS];
     let mut q = 0;

@@ -4,7 +4,8 @@ use mathlib.Core.Bool.{_&&_, _||_}
 use lib.Dec.{eqb}
 use borrow.Author.Needs.{needs}
 use Rattle.rules.specs.Policies.{inFrontHalf}
-use Rattle.table.specs.Turns.{frontAt, frontCost, frontTurn}
+use Rattle.table.specs.Candidates.{frontCost}
+use Rattle.table.specs.Turns.{frontAt, frontTurn}
 use Rattle.table.proofs.TurnLaws.{turn-yes, turn-no}
 use Rattle.table.proofs.layers.front_turn.Statement.{statement}
 use Rattle.table.proofs.layers.front_turn.Tie as tie
@@ -24,22 +25,21 @@ cast-result c = search needs
 returns : tie.Need-returns
 unfolding frontTurn
 returns c =
-    let p = c .before .before .before .before .args in
-    let half = c .before .before .front-half .ensures in
-    let at = c .before .before .before .front-at .ensures in
-    let cost = c .front-cost .ensures .0 in
-    cost
-    ∙ turn-yes (frontAt (p .z .cells) (p .kind) (p .h)) (inFrontHalf (p .z) (p .h)) (p .halves) (frontCost (p .z) (p .kind) (p .h))
-    (ap₂ (λ a f. a && (eqb (p .halves) 0 || f)) (sym at) (sym half) ∙ c .before .if1 .taken)
+    let at-half = c .before .before in
+    let at-height = at-half .before in
+    let p = at-height .before .args in
+    let test = ap₂ (λ a f. a && (eqb (p .halves) 0 || f)) (sym (at-height .front-at .ensures)) (sym (at-half .front-half .ensures)) in
+    c .front-cost .ensures .0
+    ∙ turn-yes (frontAt (p .z .cells) (p .kind) (p .h)) (inFrontHalf (p .z) (p .h)) (p .halves) (frontCost (p .z) (p .kind) (p .h)) (test ∙ c .before .if1 .taken)
 
 returns-2 : tie.Need-returns-2
 unfolding frontTurn
 returns-2 c =
-    let p = c .before .before .before .args in
-    let half = c .before .front-half .ensures in
-    let at = c .before .before .front-at .ensures in
-    turn-no (frontAt (p .z .cells) (p .kind) (p .h)) (inFrontHalf (p .z) (p .h)) (p .halves) (frontCost (p .z) (p .kind) (p .h))
-    (ap₂ (λ a f. a && (eqb (p .halves) 0 || f)) (sym at) (sym half) ∙ c .if1 .left)
+    let at-half = c .before in
+    let at-height = at-half .before in
+    let p = at-height .before .args in
+    let test = ap₂ (λ a f. a && (eqb (p .halves) 0 || f)) (sym (at-height .front-at .ensures)) (sym (at-half .front-half .ensures)) in
+    turn-no (frontAt (p .z .cells) (p .kind) (p .h)) (inFrontHalf (p .z) (p .h)) (p .halves) (frontCost (p .z) (p .kind) (p .h)) (test ∙ c .if1 .left)
 
 pub front-turn-spec : {M : Type 1} → statement M
 front-turn-spec =
