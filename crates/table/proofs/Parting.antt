@@ -33,10 +33,10 @@ passes-parted cells Once f c low high n = rw (le-leb c cells high, lt-leb (suc c
 passes-parted cells Twice f c low high n = rw (le-leb c cells high, lt-leb (suc cells) c (omega arith)) (omega arith)
 
 -- the front part and the back part of an action, as actions
-abbrev pub frontPart : ℕ → Action → Action
+abbrev frontPart : ℕ → Action → Action
 frontPart cells a = Bottom (candidateOf cells a .front)
 
-abbrev pub backPart : ℕ → Action → Action
+abbrev backPart : ℕ → Action → Action
 backPart cells a = Top (candidateOf cells a .back)
 
 module _ (job : Job) (ok : stockInBounds job ≡ true) (j : ℕ) (a : Action) (fits : Fits (job .layout .cells) a) where

@@ -33,7 +33,7 @@ two-treads (suc (suc (suc zero))) l h = refl
 two-treads (suc (suc (suc (suc p)))) l h = absurd (omega arith)
 
 -- the passages by number
-pub passage-at : (p : ℕ) → p < 5 → getD passagesInOrder p P00 ≡ passageOf p
+passage-at : (p : ℕ) → p < 5 → getD passagesInOrder p P00 ≡ passageOf p
 unfolding passagesInOrder
 passage-at zero h = refl
 passage-at (suc zero) h = refl
@@ -62,11 +62,6 @@ module _ (x : Aisle) (next : List ℕ) (s q : ℕ) where
   pub through-dead : (p : Passage) → to p ≡ 8 → throughPassage x next s q p ≡ 65535
   unfolding throughPassage nextAt sumUpTo
   through-dead p e = rw e (omega arith)
-
-  -- the way on over any other
-  pub through-alive : (p : Passage) (n : ℕ) → to p ≡ n → n < 8 → throughPassage x next s q p ≡ min ((backTreads p + frontTreads p) * x .layout .width + tab next n q) 65535
-  unfolding throughPassage nextAt sumUpTo
-  through-alive p n e h = rw (e, lt-ltb n 8 h) refl
 
   -- one more passage is tried
   pub least-tried : (p : ℕ) → p < 5 → leastOver x next s q (p + 1) ≡ min (leastOver x next s q p) (throughPassage x next s q (passageOf p))

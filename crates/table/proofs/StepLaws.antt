@@ -20,7 +20,7 @@ use Rattle.table.specs.TableHolds.{sideOf, flagOf, aisleOf}
 use Rattle.table.proofs.Geometry.{halves-of-candidate}
 
 -- the numbers of tests stand for them
-pub bit-of-flag : (b : Bool) → bit (flagOf b) ≡ b
+bit-of-flag : (b : Bool) → bit (flagOf b) ≡ b
 bit-of-flag true = refl
 bit-of-flag false = refl
 

@@ -73,7 +73,7 @@ end-holds job small j s q l h =
     ∙ ap (λ b. cond b 0 noTour) (end-place s q l ∙ ap₂ _&&_ (sym (closed-code s)) (sym (met-zero job q h)))
 
 -- a flag is the number of its test
-pub flag-is : (r : ℕ) (b : Bool) → bit r ≡ b → r < 2 → r ≡ flagOf b
+flag-is : (r : ℕ) (b : Bool) → bit r ≡ b → r < 2 → r ≡ flagOf b
 flag-is zero b e l = ap flagOf e
 flag-is (suc zero) b e l = ap flagOf e
 flag-is (suc (suc r)) b e l = absurd (omega arith)
@@ -96,7 +96,7 @@ abbrev aisle-with : Layout → ℕ → ℕ → ℕ → ℕ → ℕ → Aisle
 aisle-with z p h w side tried = record { layout = z; policy = p; holds = h; weight = w; side = side; tried = tried }
 
 -- the numbers of an aisle of an admitted job are in range
-pub aisle-range : (job : Job) → Admitted job → (j : ℕ) → InRange (aisleOf job j)
+aisle-range : (job : Job) → Admitted job → (j : ℕ) → InRange (aisleOf job j)
 unfolding aisleOf
 aisle-range job ok j =
     record {
@@ -146,11 +146,7 @@ module _ (job : Job) (o : Order) (of : OrderOf job o) where
       → aisle-with (o .layout) (o .policy) h (o .digits .weight) side tried ≡ aisleOf job j
   unfolding aisleOf
   aisle-is j h side tried listed flag side-is tried-is =
-      ap (λ (z : Layout). aisle-with z (o .policy) h (o .digits .weight) side tried) (of .layout)
-      ∙ ap₂ (λ p n. aisle-with (job .layout) p n (o .digits .weight) side tried) (of .policy) (flag-is h (holdsListed job j) listed flag)
-      ∙ ap₂ (λ w n. aisle-with (job .layout) (policyCode (job .policy)) (flagOf (holdsListed job j)) w n tried) (of .digits .counted) (side-is ∙ ap (λ (z : Layout). sideOf (z .depot) j) (of .layout))
-      ∙ ap (aisle-with (job .layout) (policyCode (job .policy)) (flagOf (holdsListed job j)) (weight (job .lines)) (sideOf (job .layout .depot) j))
-      (tried-is ∙ ap (λ n. triedAt (n - j)) order-aisles)
+      rw (side-is, tried-is, flag-is h (holdsListed job j) listed flag, of .policy, of .digits .counted, of .layout) refl
 
 -- an aisle of a job, given as such
 module _ (job : Job) (j : ℕ) (x : Aisle) (x-is : x ≡ aisleOf job j) where

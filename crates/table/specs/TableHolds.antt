@@ -80,8 +80,8 @@ TableFrom job j work =
 unfoldable pub endRow : List ℕ
 endRow = set (replicate numbers noTour) 1 0
 
--- what the row behind the actions of aisle j is made from
-pub record BehindAsked (x : Aisle) (j : ℕ) (after work : List ℕ) : Type 0 where
+-- what the row behind the actions of an aisle is made from, in the work area, which has sixteen rows
+pub record BehindAsked (x : Aisle) (after work : List ℕ) : Type 0 where
   pub aisle : InRange x
   pub few : x .layout .aisles ≤ 16
   pub after-long : numbers ≤ length after
@@ -92,7 +92,7 @@ pub record BehindFilled (x : Aisle) (j : ℕ) (after after′ work : List ℕ) :
   pub kept : length after′ ≡ length after
   pub filled : (job : Job) → x ≡ aisleOf job j → TableFrom job (suc j) work → AfterHolds job (job .layout .aisles - j) j after′
 
--- what the row of aisle j is made from
+-- what the row of aisle j is made from, in the work area, which has sixteen rows
 pub record LayerAsked (o : Order) (j : ℕ) (work : List ℕ) : Type 0 where
   pub order : (job : Job) × OrderOf job o
   pub here : (1 ≤ j) × (j ≤ o .layout .aisles)

@@ -92,7 +92,7 @@ pub fn end_row() -> [u16; NUMBERS]
 
 // The row behind the actions of aisle j, out of the row of the aisle behind it.
 fn fill_behind(after: &mut [u16], work: &[u16], x: Aisle, j: usize)
-    requires { ⌜ BehindAsked x j (now after) (now work) ⌝ }
+    requires { ⌜ BehindAsked x (now after) (now work) ⌝ }
     ensures { λ r. ⌜ BehindFilled x j (now (after .entry)) (now (after .exit)) (now (work .entry)) ⌝ }
 {
     if j < x.layout.aisles {

@@ -1,4 +1,4 @@
--- `rows::put` meets its contract.
+-- `rows::put` meets its contract: the first s of the eight numbers are stored.
 use native.Mathlib.Omega.{arith}
 use Prim.Native.Nat.{_-_, _≤_}
 use mathlib.Core.Path.{_≡_, subst}

@@ -1,4 +1,4 @@
--- `rows::relax_row` meets its contract.
+-- `rows::relax_row` meets its contract: the demands before q are relaxed, the others as they were.
 use native.Mathlib.Omega.{arith}
 use Prim.Native.Nat.{_*_, _-_, _≤_}
 use mathlib.Core.Path.{_≡_, ap, subst}

@@ -1,4 +1,4 @@
--- `rows::shorter` meets its contract.
+-- `rows::shorter` meets its contract: the states before s have the shorter of the two.
 use native.Mathlib.Omega.{arith}
 use Prim.Native.Nat.{_+_, _-_, _≤_, min}
 use mathlib.Core.Path.{_≡_, refl, _∙_, ap}

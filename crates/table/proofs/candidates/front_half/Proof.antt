@@ -1,4 +1,4 @@
--- `table::candidates::front_half` meets its contract.
+-- `table::candidates::front_half` meets its contract: both sides of the test are those of the definition.
 use borrow.Author.Needs.{needs}
 use Prim.Native.Nat.{_*_}
 use Rattle.rules.specs.Policies.{inFrontHalf}

@@ -1,4 +1,4 @@
--- `table::filling::tried_of` meets its contract.
+-- `table::filling::tried_of` meets its contract: no aisle to the right, or at least one.
 use native.Mathlib.Omega.{arith}
 use Prim.Native.Nat.{_-_}
 use Rattle.table.proofs.TableFills.{tried-last, tried-all}
