@@ -12,6 +12,7 @@ use Rattle.rules.specs.Lists.{from}
 use Rattle.rules.specs.BestPlan.{downFrom, actionsOf}
 use Rattle.table.specs.Candidates.{gapsAt, gapsFrom}
 
+-- the numbers upwards and downwards: how many there are, and an action by each
 length-from : (a n : ℕ) → length (from a n) ≡ n
 length-from a zero = refl
 length-from a (suc n) = ap suc (length-from (suc a) n)
@@ -42,12 +43,14 @@ module _ (cells : ℕ) where
   abbrev tops : List Action
   tops = map Top (downFrom cells)
 
+  -- how many they have
   length-bottoms : length bottoms ≡ suc cells
   length-bottoms = ap suc (length-map (from 1 cells) Bottom ∙ length-from 1 cells)
 
   length-tops : length tops ≡ cells
   length-tops = length-map (downFrom cells) Top ∙ length-down cells
 
+  -- the ranks of BOTTOM, of TOP, and of what comes behind them
   pub rank-bottom : (r : ℕ) → 1 ≤ r → r ≤ cells → getD (actionsOf cells) r Void ≡ Bottom r
   unfolding actionsOf
   rank-bottom zero l h = absurd (omega arith)
@@ -69,11 +72,13 @@ module _ (cells : ℕ) where
       behind bottoms _ r (r - suc cells) (omega (arith, length-bottoms))
       ∙ behind tops _ (r - suc cells) (r - (2 * cells + 1)) (omega (arith, length-tops))
 
+  -- how many ranks there are
   pub ranks-length : length (actionsOf cells) ≡ 2 * cells + 1 + length (gapsFrom cells 1 cells)
   unfolding actionsOf gapsFrom gapsAt
   ranks-length =
       length-append bottoms (tops ++ gapsFrom cells 1 cells) ∙ omega (arith, length-bottoms, length-tops, length-append tops (gapsFrom cells 1 cells))
 
+  -- the GAPs at cell h are as many as the cells past it
   length-gaps : (h : ℕ) → length (gapsAt cells h) ≡ cells - h
   unfolding gapsAt
   length-gaps h = length-map (from (suc h) (cells - h)) (Gap h) ∙ length-from (suc h) (cells - h)
@@ -83,6 +88,7 @@ module _ (cells : ℕ) where
   unfolding gapsFrom
   gaps-split h n = append-assoc (gapsAt cells h) _ _
 
+  -- a GAP by its number: at cell h, or past it
   pub gap-here : (h n g : ℕ) → g < cells - h → getD (gapsFrom cells h (suc n)) g Void ≡ Gap h (h + 1 + g)
   unfolding gapsAt
   gap-here h n g l =
@@ -96,6 +102,7 @@ module _ (cells : ℕ) where
       ap (λ xs. getD xs g Void) (gaps-split h n)
       ∙ behind (gapsAt cells h) (gapsFrom cells (suc h) n) g (g - (cells - h)) (omega (arith, length-gaps h))
 
+  -- and how many there are
   pub gaps-length : (h n : ℕ) → length (gapsFrom cells h (suc n)) ≡ (cells - h) + length (gapsFrom cells (suc h) n)
   gaps-length h n =
       ap length (gaps-split h n) ∙ length-append (gapsAt cells h) (gapsFrom cells (suc h) n) ∙ omega (arith, length-gaps h)
@@ -108,6 +115,7 @@ pub record GapLeft (cells g h rest : ℕ) : Type 0 where
   pub more : rest < length (gapsFrom cells h (suc cells - h))
 
 module _ (cells g : ℕ) where
+  -- the search begins at cell 1, goes on past cell h, and ends with a GAP there
   pub gap-start : g < length (gapsFrom cells 1 cells) → GapLeft cells g 1 g
   gap-start h =
       let e : suc cells - 1 ≡ cells = omega arith in

@@ -34,6 +34,7 @@ module _ (job : Job) (ok : Admitted job) where
   start-demand =
       ap (demandOf (radices job)) (omega (arith, whole-code job)) ∙ demand-of-code (whole-within job)
 
+  -- the best plan is one of the plans
   best-well : WellFormed (job .layout) (bestPlan job)
   best-well =
       let x = serving-exists job ok in

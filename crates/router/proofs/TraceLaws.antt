@@ -48,6 +48,7 @@ on-found : {A B : Type 0} (o : Option A) (g : A → Option B) (y : B) → onFrom
 on-found none g y e = let z : _≡_ {A = ℕ} 0 1 = cc in absurd (omega arith)
 on-found (some x) g y e = (x, refl, e)
 
+-- what is found twice is the same
 some-same : {A : Type 0} {u v : A} → _≡_ {A = Option A} (some u) (some v) → u ≡ v
 some-same e = cc
 
@@ -75,6 +76,7 @@ unfolding stagesRest
 stages-more stages n s h = ap (map _) (take-suc-set stages n s h) ∙ map-append _ (take n stages) (s ∷ [])
 
 module _ (job : Job) (n : ℕ) where
+  -- the table of the job, by length
   abbrev table : Problem
   table = routing job (allActions job)
 
@@ -125,6 +127,7 @@ module _ (job : Job) (n : ℕ) where
     abbrev behindAction : Action → Option Rest
     behindAction a = onFrom (firstPassage table left (suc n) (stateAfter at a) (demandAfter at a)) (behindPassage a)
 
+    -- `choose` taken apart
     led : restFrom job (suc left) (suc n) at ≡ some rest → Led at rest
     led e =
         let a = on-found (firstAction table left (suc n) (stateAt at) (demandAt job at)) behindAction rest e in
@@ -152,12 +155,14 @@ abbrev Here : Job → ℕ → List ℕ → List ℕ → List ℕ → List ℕ �
 Here job n = Aisled job n (aisleOf job (suc n))
 
 module _ {job : Job} {n here : ℕ} {t : Trace} {next after fronts backs : List ℕ} (h : Here job n next after fronts backs) (asked : TraceAsked job n t next here) where
+  -- the next aisle, and its cells
   abbrev aisle : Aisle
   aisle = aisleOf job (suc n)
 
   abbrev cells : ℕ
   cells = job .layout .cells
 
+  -- the next aisle is one of those that are left, and one of sixteen
   one-left : job .layout .aisles - n ≡ suc (left job n)
   one-left = let m = asked .more in omega arith
 
@@ -186,6 +191,7 @@ module _ {job : Job} {n here : ℕ} {t : Trace} {next after fronts backs : List 
   led-here : Led job n (t .at) (asked .traced .rest)
   led-here = led job n (t .at) (asked .traced .rest) (rw one-left at (asked .traced .leads))
 
+  -- the value here is that with one aisle more
   value-is : here ≡ value (table job n) (suc (left job n)) (suc n) (stateAt (t .at)) (demandAt job (t .at))
   value-is = asked .value-here ∙ ap (λ k. value (table job n) k (suc n) (stateAt (t .at)) (demandAt job (t .at))) one-left
 
@@ -211,6 +217,7 @@ module _ {job : Job} {n here : ℕ} {t : Trace} {next after fronts backs : List 
       }
 
   module _ {r : Taken} (taken : ActionTaken aisle after fronts backs (t .at) here r) where
+    -- the action that is taken is the one that the table leads to, and so are the state and the demand behind it
     same-action : r .action ≡ led-here .action
     same-action = some-same (sym (taken .first) ∙ first-action)
 
@@ -230,10 +237,11 @@ module _ {job : Job} {n here : ℕ} {t : Trace} {next after fronts backs : List 
         ∙ led-here .passage-first
 
     module _ {p : Crossed} (crossed : PassageTaken aisle next r p) where
+      -- so is the passage
       same-passage : p .stage .passage ≡ led-here .passage
       same-passage = some-same (sym (crossed .first) ∙ first-passage)
 
-      -- the state behind the passage
+      -- the state and the demand behind the passage
       abbrev state-past : State
       state-past = passageStep job (suc n) (led-here .passage) (stateAfter job n (t .at) (led-here .action))
 
@@ -257,6 +265,7 @@ module _ {job : Job} {n here : ℕ} {t : Trace} {next after fronts backs : List 
           let behind = part-below (actionLength (job .layout) (l .action)) here _ (action ∙ sym value-is) finite in
           part-below (passageLength (job .layout) (l .passage)) _ _ passage behind
 
+      -- the stages with this one, and the rest behind it, are still the whole plan
       rest-whole : stagesRest (withStage t n p .stages) (suc n) ++ led-here .others ≡ stagesRest (t .stages) n ++ asked .traced .rest
       rest-whole =
           ap (λ xs. xs ++ led-here .others) (stages-more (t .stages) n (p .stage) (omega (arith, asked .traced .sized, few)))
@@ -264,6 +273,7 @@ module _ {job : Job} {n here : ℕ} {t : Trace} {next after fronts backs : List 
           ∙ ap₂ (λ x y. stagesRest (t .stages) n ++ ((x, y) ∷ led-here .others)) (crossed .behind ∙ same-action) same-passage
           ∙ ap (λ xs. stagesRest (t .stages) n ++ xs) (led-here .parts)
 
+      -- the trace with the stage of the aisle
       trace-further : Traced job (suc n) (withStage t n p)
       trace-further =
           let more = asked .more in
@@ -289,6 +299,7 @@ module _ {job : Job} {n here : ℕ} {x : Aisle} {t : Trace} {next after fronts b
   action-there = rw (h .numbers) (led-here in-words asked .action, first-action in-words asked)
 
   module _ {r : Taken} (taken : ActionTaken x after fronts backs (t .at) here r) where
+    -- the same of what is taken
     taken-here : ActionTaken (aisleOf job (suc n)) after fronts backs (t .at) here r
     taken-here = rw (h .numbers) at taken
 

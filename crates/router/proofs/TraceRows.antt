@@ -28,7 +28,7 @@ value-in job n j row at holds state demand = rw (lt-ltb (at .state) 8 state) (ho
 
 module _ (work : List ℕ) {job : Job} {n here : ℕ} {t : Trace} (small : weight (job .lines) ≤ 256) (table : TableFrom job 1 work)
     (traced : Traced job n t) (more : n < job .layout .aisles) (read : here ≡ valueAt (rowFrom (n * numbers) work) (t .at)) where
-  -- the row of aisle i
+  -- the row of the aisle behind i others
   row-of : (i : ℕ) → i < job .layout .aisles → (a : ℕ) → a ≡ i * numbers → RowHolds job (job .layout .aisles - i) (suc i) (rowFrom a work)
   row-of i l a starts =
       let from : a ≡ (suc i - 1) * numbers = omega arith in

@@ -6,7 +6,7 @@ use Rattle.router.proofs.order_of.Statement.{statement}
 use Rattle.router.proofs.order_of.Tie as tie
 
 policy-number-requires : tie.Need-policy-number-requires
-policy-number-requires c κs = search needs
+policy-number-requires c κs = tt
 
 digits-of-requires : tie.Need-digits-of-requires
 digits-of-requires c κs = search needs

@@ -1,5 +1,4 @@
 -- `router::route` meets its contract: the order is the job's, so what the table and the trace give of any job of the order holds of it.
-use borrow.Author.Needs.{needs}
 use Prim.Native.Nat.{suc, _+_, _*_, _-_}
 use native.Mathlib.Omega.{arith}
 use mathlib.Core.Path.{_≡_, _∙_, ap}
@@ -15,10 +14,12 @@ use Rattle.router.proofs.route.Statement.{statement}
 use Rattle.router.proofs.route.Tie as tie
 
 order-of-requires : tie.Need-order-of-requires
-order-of-requires c κs = search needs
+order-of-requires c κs = let start = c .before in (start .pre .0, start .pre .1)
 
 fill-table-requires : tie.Need-fill-table-requires
-fill-table-requires c κs = search needs
+fill-table-requires c κs =
+    let start = c .before .before .before in
+    ((jobOf (start .args .job), c .before .order-of .ensures), start .pre .2)
 
 read-plan-requires : tie.Need-read-plan-requires
 read-plan-requires c κs =
@@ -41,10 +42,10 @@ slice-read-wide : tie.Need-slice-read-wide
 slice-read-wide c = omega arith
 
 wide-requires : tie.Need-wide-requires
-wide-requires c κs = search needs
+wide-requires c κs = tt
 
 clear-requires : tie.Need-clear-requires
-clear-requires c κs = search needs
+clear-requires c κs = tt
 
 same-length : tie.Need-same-length
 same-length c = omega arith

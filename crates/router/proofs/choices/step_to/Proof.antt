@@ -46,7 +46,7 @@ shared-slice-read-wide c =
     let m = in-maps start in omega (arith, start .pre .0 .fronts-long)
 
 wide-requires : tie.Need-wide-requires
-wide-requires c κs = search needs
+wide-requires c κs = tt
 
 mul-wide-3 : tie.Need-mul-wide-3
 mul-wide-3 c = let m = in-maps (c .before .before .before .before .before .before) in omega arith
@@ -63,7 +63,7 @@ shared-slice-read-wide-2 c =
     let m = in-maps start in omega (arith, c .before .wide .ensures .0, start .pre .0 .backs-long)
 
 wide-requires-2 : tie.Need-wide-requires-2
-wide-requires-2 c κs = search needs
+wide-requires-2 c κs = tt
 
 returns : tie.Need-returns
 unfolding stepCode leftCode

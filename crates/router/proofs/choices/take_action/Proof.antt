@@ -1,5 +1,4 @@
 -- `router::choices::take_action` meets its contract: some action attains the value, so the first rank is within the actions.
-use borrow.Author.Needs.{needs}
 use Prim.Native.Nat.{_<_}
 use native.Mathlib.Omega.{arith}
 use lib.ListN.{length}
@@ -24,7 +23,7 @@ of-aisle c =
     ranked-candidate x (c .before .choose-action .result) (c .action-at .result) (rank-in (c .before)) (c .action-at .ensures)
 
 choose-action-requires : tie.Need-choose-action-requires
-choose-action-requires c κs = search needs
+choose-action-requires c κs = c .before .before .before .pre .0
 
 action-at-requires : tie.Need-action-at-requires
 action-at-requires c κs =
@@ -46,7 +45,7 @@ value-at-requires c κs =
     (omega (arith, asked .ready .aisle .small), omega (arith, asked .ready .aisle .small, asked .long))
 
 action-of-requires : tie.Need-action-of-requires
-action-of-requires c κs = search needs
+action-of-requires c κs = tt
 
 returns : tie.Need-returns
 returns c =

@@ -1,5 +1,4 @@
 -- `router::trace::trace_on` meets its contract: the rows are parts of the work area, and behind the last aisle is the end row.
-use borrow.Author.Needs.{needs}
 use Prim.Native.Nat.{ℕ, _+_, _*_, _≤_, _<_}
 use native.Mathlib.Omega.{arith}
 use mathlib.Core.Path.{_≡_, _∙_, ap}
@@ -103,7 +102,7 @@ returns c =
     let at-then = c .before .before in λ job of table traced. c .trace-aisle .ensures job of (asked at-then job of table traced)
 
 end-row-requires : tie.Need-end-row-requires
-end-row-requires c κs = search needs
+end-row-requires c κs = tt
 
 slice-aggregate-trace-aisle : tie.Need-slice-aggregate-trace-aisle
 slice-aggregate-trace-aisle c = omega arith
