@@ -55,12 +55,17 @@ fn trace_aisle(next: &[u16], o: Order, n: usize, t: Trace, here: usize) -> Trace
     let mut backs = [0u16; MAP];
     let mut after = [0u16; NUMBERS];
     let j = n + 1;
-    let cells = o.layout.cells;
-    fill_maps(&mut fronts, &mut backs, o.shelf, o.digits, cells, j);
+    fill_maps(
+        &mut fronts,
+        &mut backs,
+        o.shelf,
+        o.digits,
+        o.layout.cells,
+        j,
+    );
     let x = aisle_of(o, j);
     fill_after(&mut after, next, x);
-    let start = t.at;
-    let a = take_action(&after, &fronts, &backs, x, start, here);
+    let a = take_action(&after, &fronts, &backs, x, t.at, here);
     let p = take_passage(next, x, a);
     with_stage(t, n, p)
 }
@@ -72,8 +77,7 @@ fn trace_on(work: &[u16], o: Order, n: usize, t: Trace) -> Trace
 {
     let from = n * NUMBERS;
     let to = from + NUMBERS;
-    let start = t.at;
-    let here = value_at(&work[from..to], start);
+    let here = value_at(&work[from..to], t.at);
     if n + 1 < o.layout.aisles {
         let end = to + NUMBERS;
         return trace_aisle(&work[to..end], o, n, t, here);

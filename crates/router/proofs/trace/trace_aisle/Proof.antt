@@ -94,7 +94,7 @@ slice-aggregate-take-action-3 c = omega arith
 
 take-action-requires : tie.Need-take-action-requires
 take-action-requires c κs =
-    let at-after = c .before .before .before .before .before in
+    let at-after = c .before .before .before .before in
     let at-aisle = at-after .before .before in
     let maps = at-aisle .before .before .before .fill-maps in
     let start = at-aisle .before .before .before .before .before .before .before in
@@ -113,7 +113,7 @@ take-action-requires c κs =
 
 take-passage-requires : tie.Need-take-passage-requires
 take-passage-requires c κs =
-    let at-after = c .before .before .before .before .before .before in
+    let at-after = c .before .before .before .before .before in
     let at-aisle = at-after .before .before in
     let start = at-aisle .before .before .before .before .before .before .before in
     let r = start .pre .0 in
@@ -131,13 +131,13 @@ take-passage-requires c κs =
 
 with-stage-requires : tie.Need-with-stage-requires
 with-stage-requires c κs =
-    let at-after = c .before .before .before .before .before .before .before in
+    let at-after = c .before .before .before .before .before .before in
     few (at-after .before .before .before .before .before .before .before .before .before)
 
 returns : tie.Need-returns
 returns c =
     let at-action = c .before .before in
-    let at-after = at-action .before .before .before .before .before .before in
+    let at-after = at-action .before .before .before .before .before in
     λ job of asked.
     subst (Traced job _) (sym (c .with-stage .ensures))
     (trace-next (aisled at-after job of asked) asked (at-action .take-action .ensures) (c .before .take-passage .ensures))

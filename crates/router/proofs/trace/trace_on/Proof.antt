@@ -24,20 +24,20 @@ row-long c a l = let long = c .pre .2 in mid-len a (a + numbers) (now (c .args .
 
 -- with the row behind it the aisle can be traced, for any job of the order
 asked : (c : tie.Then1) →
-    let x = c .before .before .before .before .before .before .args in
+    let x = c .before .before .before .before .before .args in
     (job : Job) → OrderOf job (x .o) → TableFrom job 1 (now (x .work)) → Traced job (x .n) (x .t)
     → TraceAsked job (x .n) (x .t) (rowFrom (x .n * numbers + numbers) (now (x .work))) (c .before .before .value-at .result)
 asked c job of table traced =
-    let x = c .before .before .before .before .before .before .args in
+    let x = c .before .before .before .before .before .args in
     let aisles = order-aisles job (x .o) of in
     asked-next (now (x .work)) (of .admitted .light) table traced (omega arith) (c .before .before .value-at .ensures .0) (omega (arith, c .if1 .taken))
 
 asked-end : (c : tie.After-end-row) →
-    let x = c .before .before .before .before .before .before .before .args in
+    let x = c .before .before .before .before .before .before .args in
     (job : Job) → OrderOf job (x .o) → TableFrom job 1 (now (x .work)) → Traced job (x .n) (x .t)
     → TraceAsked job (x .n) (x .t) (c .end-row .result) (c .before .before .before .value-at .result)
 asked-end c job of table traced =
-    let start = c .before .before .before .before .before .before .before in
+    let start = c .before .before .before .before .before .before in
     let x = start .args in
     let aisles = order-aisles job (x .o) of in
     asked-last (now (x .work)) (of .admitted .light) table traced (omega (arith, start .pre .1)) (c .before .before .before .value-at .ensures .0)
@@ -50,7 +50,7 @@ add-to : tie.Need-add-to
 add-to c = let l = few (c .before) in omega arith
 
 mul-value-at : tie.Need-mul-value-at
-mul-value-at c = let l = few (c .before .before) in omega arith
+mul-value-at c = let l = few (c .before) in omega arith
 
 sub-value-at : tie.Need-sub-value-at
 sub-value-at c = omega arith
@@ -59,11 +59,11 @@ part-value-at-start : tie.Need-part-value-at-start
 part-value-at-start c = omega arith
 
 part-value-at-end : tie.Need-part-value-at-end
-part-value-at-end c = let start = c .before .before in let l = few start in omega (arith, start .pre .2)
+part-value-at-end c = let start = c .before in let l = few start in omega (arith, start .pre .2)
 
 value-at-requires : tie.Need-value-at-requires
 value-at-requires c κs =
-    let start = c .before .before .before in
+    let start = c .before .before in
     let r = start .pre .0 in
     let l = few start in
     let light = r .1 .admitted .light in
@@ -73,10 +73,10 @@ add-if1 : tie.Need-add-if1
 add-if1 c = omega arith
 
 add-end : tie.Need-add-end
-add-end c = let l = few (c .before .before .before .before .before .before) in omega arith
+add-end c = let l = few (c .before .before .before .before .before) in omega arith
 
 mul-trace-aisle : tie.Need-mul-trace-aisle
-mul-trace-aisle c = let l = few (c .before .before .before .before .before .before) in omega arith
+mul-trace-aisle c = let l = few (c .before .before .before .before .before) in omega arith
 
 sub-trace-aisle : tie.Need-sub-trace-aisle
 sub-trace-aisle c = omega arith
@@ -86,12 +86,12 @@ part-trace-aisle-start c = omega arith
 
 part-trace-aisle-end : tie.Need-part-trace-aisle-end
 part-trace-aisle-end c =
-    let start = c .before .before .before .before .before .before in
+    let start = c .before .before .before .before .before in
     let r = start .pre .0 in omega (arith, start .pre .2, c .if1 .taken, order-few (r .0) (start .args .o) (r .1))
 
 trace-aisle-requires : tie.Need-trace-aisle-requires
 trace-aisle-requires c κs =
-    let start = c .before .before .before .before .before .before .before in
+    let start = c .before .before .before .before .before .before in
     let r = start .pre .0 in
     let few-aisles = order-few (r .0) (start .args .o) (r .1) in
     let next = row-long start (start .args .n * numbers + numbers) (omega (arith, c .before .if1 .taken)) in
@@ -110,7 +110,7 @@ slice-aggregate-trace-aisle c = omega arith
 trace-aisle-requires-2 : tie.Need-trace-aisle-requires-2
 trace-aisle-requires-2 c κs =
     let at-end = c .before in
-    let r = at-end .before .before .before .before .before .before .before .pre .0 in
+    let r = at-end .before .before .before .before .before .before .pre .0 in
     ((r .0, r .1, asked-end at-end (r .0) (r .1) (r .2) (r .3)), omega (arith, ap length (at-end .end-row .ensures), end-length))
 
 returns-2 : tie.Need-returns-2
