@@ -3,9 +3,11 @@ use crate::ranks::action_at;
 use crate::ranks::action_count;
 use crate::ranks::action_of;
 use crate::ranks::passage_of;
+use demand::digits::DEMANDS;
 use demand::digits::wide;
 use machine::action_step;
 use machine::passage_step;
+use rows::step_value;
 use rules::Action;
 use table::candidates::Candidate;
 use table::candidates::action_length;
@@ -15,7 +17,9 @@ use table::passages::passage_length;
 use values::Stage;
 ghost use Prim.Native.Nat.{_*_, _+_, _<_, _≤_};
 ghost use Rattle.machine.specs.Steps.{passageOf};
-ghost use Rattle.optimum.specs.Routing.{sat};
+ghost use Rattle.optimum.specs.Routing.{noTour, sat};
+ghost use Rattle.demand.specs.Digits.{demands};
+ghost use Rattle.rows.specs.Rows.{states};
 ghost use Rattle.router.specs.Choosing.{ActionAsked, ActionTaken, Attained, FirstRank, OfAisle, PassageTaken, crossTo, stepTo, valueAt, wayOn, wayOver};
 ghost use Rattle.rules.specs.BestPlan.{actionsOf, passagesInOrder};
 ghost use Rattle.rules.specs.declared.Action.the-variants.{Void};
@@ -44,26 +48,24 @@ pub struct Crossed {
     pub at: At,
 }
 
-// A sum of lengths; 65,535, no tour, where it is that or more.
+// What stands for no tour.
+const NO_TOUR: usize = 65535;
+
+// A sum of lengths; no tour where it is that or more.
 fn plus(length: usize, rest: usize) -> usize
-    requires { ⌜ (length ≤ 65535) × (rest ≤ 65535) ⌝ }
+    requires { ⌜ (length ≤ noTour) × (rest ≤ noTour) ⌝ }
     ensures { λ r. ⌜ r ≡ sat length rest ⌝ }
 {
     let sum = length + rest;
-    if sum < 65535 { sum } else { 65535 }
+    if sum < NO_TOUR { sum } else { NO_TOUR }
 }
 
 // What a row holds for a state and a demand; no tour for the dead state, 8.
 pub fn value_at(row: &[u16], at: At) -> usize
-    requires { ⌜ (at .demand < 256) × (at .demand * 8 + 8 ≤ length (now row)) ⌝ }
-    ensures { λ r. ⌜ (r ≡ valueAt (now (row .entry)) at) × (r ≤ 65535) ⌝ }
+    requires { ⌜ (at .demand < demands) × (at .demand * states + states ≤ length (now row)) ⌝ }
+    ensures { λ r. ⌜ (r ≡ valueAt (now (row .entry)) at) × (r ≤ noTour) ⌝ }
 {
-    let s = at.state;
-    let q = at.demand;
-    if s < 8 {
-        return wide(row[q * 8 + s]);
-    }
-    65535
+    wide(step_value(row, at.state, at.demand))
 }
 
 // Where a candidate leads.
@@ -76,8 +78,8 @@ fn step_to<'a>(fronts: &'a [u16], backs: &'a [u16], x: Aisle, at: At, c: Candida
     let q = at.demand;
     let halves = keeps_halves(x.layout, c);
     let state = action_step(x.policy, c.kind, x.holds, halves, at.state);
-    let f = wide(fronts[front * 256 + q]);
-    let demand = wide(backs[back * 256 + f]);
+    let f = wide(fronts[front * DEMANDS + q]);
+    let demand = wide(backs[back * DEMANDS + f]);
     At { state, demand }
 }
 

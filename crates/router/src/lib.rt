@@ -5,6 +5,7 @@ mod choices;
 mod ranks;
 mod trace;
 
+use rows::STATES;
 use table::filling::Order;
 use values::JobValue;
 use values::Routed;
@@ -12,6 +13,7 @@ use values::Shelf;
 ghost use mathlib.Core.Path.{_≡_};
 ghost use Prim.Native.Nat.{_≤_};
 ghost use lib.ListN.{length, replicate};
+ghost use Rattle.rows.specs.Rows.{workArea};
 ghost use Rattle.table.specs.TableHolds.{OrderOf};
 ghost use Rattle.values.specs.Shelves.{ShelfOf};
 ghost use Rattle.values.specs.Values.{jobOf, RoutedOf, Sound};
@@ -35,7 +37,7 @@ fn order_of(job: JobValue, shelf: Shelf) -> Order
 
 // The best plan of a job and its length. The work area holds the table on the way, and is all zero at the end.
 pub fn route(job: JobValue, shelf: Shelf, work: &mut [u16]) -> Routed
-    requires { ⌜ Sound job × ShelfOf (jobOf job) shelf × (32768 ≤ length (now work)) ⌝ }
+    requires { ⌜ Sound job × ShelfOf (jobOf job) shelf × (workArea ≤ length (now work)) ⌝ }
     ensures { λ r. ⌜ RoutedOf (jobOf job) r × (now (work .exit) ≡ replicate (length (now (work .entry))) 0) ⌝ }
 {
     let o = order_of(job, shelf);
@@ -43,7 +45,7 @@ pub fn route(job: JobValue, shelf: Shelf, work: &mut [u16]) -> Routed
     table::filling::fill_table(work, o);
     let plan = trace::read_plan(work, o);
     // aisle 1, the whole list open, nothing trodden yet
-    let length = demand::digits::wide(work[(weight - 1) * 8]);
+    let length = demand::digits::wide(work[(weight - 1) * STATES]);
     table::filling::clear(work);
     Routed { length, plan }
 }

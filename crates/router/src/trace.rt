@@ -4,6 +4,7 @@ use crate::choices::Crossed;
 use crate::choices::take_action;
 use crate::choices::take_passage;
 use crate::choices::value_at;
+use demand::maps::MAP;
 use demand::maps::fill_maps;
 use rows::NUMBERS;
 use rules::Action;
@@ -23,9 +24,6 @@ ghost use Rattle.table.specs.TableHolds.{OrderOf, TableFrom};
 ghost use Rattle.values.specs.Values.{planOf};
 ghost use lib.ListN.{length};
 ghost use mathlib.Core.Path.{_≡_};
-
-// The numbers of a map: 256 demands for each of 26 heights.
-const MAP: usize = 6656;
 
 // A trace: the stages found, and where it stands behind them. At the start that is state 0, nothing trodden, and
 // demand weight - 1, the whole list.

@@ -98,7 +98,7 @@ pub fn fill_none(row: &mut [u16], n: usize)
 }
 
 // The value of a state in a row; none of the dead one, 8.
-fn step_value(after: &[u16], to: usize, q: usize) -> u16
+pub fn step_value(after: &[u16], to: usize, q: usize) -> u16
     requires { ⌜ (q < demands) × (q * states + states ≤ length (now after)) ⌝ }
     ensures { λ r. ⌜ r ≡ nextAt (now (after .entry)) to q ⌝ }
 {
