@@ -19,7 +19,7 @@ extern "C" {
 #define DIZHONDU_REFUSED 65536
 
 /* A call fits a thread with this much stack. Measured on x86-64 over all jobs of tests/vectors and tests/cases, by what a call
-   changed of a filled stack: at most 237,143 bytes below its caller's frame, and that on every served job. The tests make each
+   changed of a filled stack: at most 213,127 bytes below its caller's frame, and that on every served job. The tests make each
    of their calls in a thread with just this much. */
 #define DIZHONDU_STACK 262144
 
