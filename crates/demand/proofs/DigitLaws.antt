@@ -21,11 +21,11 @@ use Rattle.rules.proofs.Lists.{any-false}
 use Rattle.optimum.specs.Demand.{less, radices, codeOf, demandOf, lessCode}
 use Rattle.optimum.proofs.Radix.{count, Positive, no-radix, radix as one-radix, code-of-demand, radices-positive, count-weight}
 use Rattle.values.specs.declared.JobValue.{JobValue}
-use Rattle.values.specs.Values.{jobOf, Sound}
+use Rattle.values.specs.Values.{noLine, jobOf, Sound}
 use Rattle.values.specs.Shelves.{lineFrom}
 use Rattle.demand.specs.declared.digits.Digit.{Digit}
 use Rattle.demand.specs.declared.digits.Digits.{Digits}
-use Rattle.demand.specs.Digits.{noLine, noDigit, DigitOf, DigitsOf, Within, lessDigit, lessLine}
+use Rattle.demand.specs.Digits.{noDigit, DigitOf, DigitsOf, Within, lessDigit, lessLine}
 use Rattle.demand.proofs.Filling.{below}
 use Rattle.demand.proofs.Records.{or-false}
 

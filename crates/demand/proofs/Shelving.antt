@@ -22,9 +22,8 @@ use Rattle.rules.proofs.Admission.{stock-within, layout-within}
 use Rattle.machine.specs.Steps.{bit}
 use Rattle.values.specs.declared.JobValue.{JobValue}
 use Rattle.values.specs.declared.Shelf.{Shelf}
-use Rattle.values.specs.Values.{jobOf, Sound}
+use Rattle.values.specs.Values.{noLine, jobOf, Sound}
 use Rattle.values.specs.Shelves.{lineFrom, lineOf, quantityOf, cellNumber, ShelfOf}
-use Rattle.demand.specs.Digits.{noLine}
 use Rattle.demand.proofs.Filling.{zero-at}
 use Rattle.demand.proofs.Records.{at-member, none-before, first-member, first-other, first-last, cellAt, isAt, is-at, at-itself, its-record}
 

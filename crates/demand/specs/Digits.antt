@@ -3,7 +3,6 @@ use Prim.Native.Nat.{ℕ, zero, suc, _*_, _-_, _≤_, _<_, min}
 use mathlib.Core.Path.{_≡_}
 use mathlib.Core.List.{[]}
 use lib.ListN.{length, getD, take}
-use Rattle.rules.specs.declared.OrderLine.{OrderLine}
 use Rattle.rules.specs.Lists.{productOf}
 use Rattle.rules.specs.Jobs.{Job}
 use Rattle.rules.specs.Refusals.{weight}
@@ -42,7 +41,3 @@ lessLine d (suc l) n q = lessDigit (getD (d .digit) l noDigit) n q
 -- a digit that can be taken from every number below n
 abbrev pub Within : Digit → ℕ → Type 0
 Within x n = (q : ℕ) → q < n → getD (x .lacks) q 0 * x .stride ≤ q
-
--- a line that is not there
-abbrev pub noLine : OrderLine
-noLine = record { article = 0; quantity = 0 }

@@ -14,10 +14,10 @@ use Rattle.rules.specs.Lists.{allOf, sumOf}
 use Rattle.rules.specs.Refusals.{recordInBounds, lineInBounds, weight, allStock}
 use Rattle.rules.proofs.Admission.{record-within, line-within}
 use Rattle.values.specs.declared.JobValue.{JobValue}
-use Rattle.values.specs.Values.{jobOf}
+use Rattle.values.specs.Values.{noLine, jobOf}
 use Rattle.jobfile.specs.Ready.{storeOnly}
 use Rattle.jobfile.proofs.Left.{left, left-all, left-more, left-none, all-apart}
-use Rattle.reading.specs.Kept.{noRecord, noLine}
+use Rattle.reading.specs.Kept.{noRecord}
 
 -- a list weighs at least 1
 weight-positive : (lines : List OrderLine) → 0 < weight lines

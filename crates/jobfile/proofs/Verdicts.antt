@@ -20,12 +20,12 @@ use Rattle.rules.specs.Refusals.{recordInBounds, stockInBounds, sameCell, listI
 use Rattle.rules.proofs.Admission.{stock-within, list-within, admitted}
 use Rattle.rules.proofs.Numbers.{both-true}
 use Rattle.values.specs.declared.JobValue.{JobValue}
-use Rattle.values.specs.Values.{jobOf, Sound}
+use Rattle.values.specs.Values.{noLine, jobOf, Sound}
 use Rattle.reading.specs.declared.raw.RawJob.{RawJob}
 use Rattle.jobfile.specs.declared.Verdict.{Verdict}
 use Rattle.jobfile.specs.declared.ReadJob.{ReadJob}
 use Rattle.jobfile.specs.Ready.{StockReady, ListReady}
-use Rattle.reading.specs.Kept.{noRecord, noLine, jobValue, rawOf}
+use Rattle.reading.specs.Kept.{noRecord, jobValue, rawOf}
 use Rattle.jobfile.specs.Answer.{verdictOf, Decides, checkedAs, checkedOf, answerTo}
 use Rattle.reading.proofs.Cells.{cells-bounded}
 use Rattle.reading.proofs.Storing.{padded-all}

@@ -19,7 +19,8 @@ use Rattle.rules.specs.Jobs.{Job}
 use Rattle.rules.specs.Picks.{cellsOf, recordAt, found, picksFrom}
 use Rattle.rules.proofs.Numbers.{both-true}
 use Rattle.values.specs.Shelves.{lineOf, quantityOf}
-use Rattle.picks.specs.Picking.{noLine, takenOf, lessLine, pickOf}
+use Rattle.values.specs.Values.{noLine}
+use Rattle.picks.specs.Picking.{takenOf, lessLine, pickOf}
 use Rattle.picks.proofs.Lines.{Lacking, OnLine, less-zero, on-line, taken-by-number}
 
 -- the cell c of aisle j

@@ -15,7 +15,8 @@ use Rattle.rules.specs.Jobs.{Job}
 use Rattle.rules.specs.Picks.{lackOf, lessOf, taken}
 use Rattle.rules.proofs.Lists.{sorted-map}
 use Rattle.values.specs.Shelves.{lineFrom}
-use Rattle.picks.specs.Picking.{noLine, takenOf, lessLine}
+use Rattle.values.specs.Values.{noLine}
+use Rattle.picks.specs.Picking.{takenOf, lessLine}
 
 -- what is taken for a line that there is
 pub taken-line : (lacking : List OrderLine) (n stock : ℕ) → (n ≡ 0 → ⊥) → takenOf lacking n stock ≡ min (getD lacking (n - 1) noLine .quantity) stock

@@ -22,9 +22,9 @@ use Rattle.rules.proofs.Admission.{layout-within, list-within, articles-once}
 use Rattle.values.specs.declared.Stage.{Stage}
 use Rattle.values.specs.declared.PlanValue.{PlanValue}
 use Rattle.values.specs.declared.Shelf.{Shelf}
-use Rattle.values.specs.Values.{planOf}
+use Rattle.values.specs.Values.{noLine, planOf}
 use Rattle.values.specs.Shelves.{lineOf, quantityOf}
-use Rattle.picks.specs.Picking.{Asked, noLine, takenOf, lessLine, pickOf}
+use Rattle.picks.specs.Picking.{Asked, takenOf, lessLine, pickOf}
 use Rattle.picks.proofs.Lines.{Lacking, taken-some}
 use Rattle.picks.proofs.Cells.{cellAt, cell-line, takenAt}
 use Rattle.picks.proofs.Visits.{counted, Visited, visited-first, visited-turn, visited-none, visited-some}

@@ -16,7 +16,8 @@ use Rattle.rules.specs.Jobs.{Job}
 use Rattle.rules.specs.Plans.{Plan, planPasses}
 use Rattle.rules.specs.Picks.{recordAt, found, picksFrom, passedRecords, picksOf}
 use Rattle.values.specs.Shelves.{lineOf}
-use Rattle.picks.specs.Picking.{noLine, lessLine, pickOf}
+use Rattle.values.specs.Values.{noLine}
+use Rattle.picks.specs.Picking.{lessLine, pickOf}
 use Rattle.picks.proofs.Lines.{Lacking, lacking-less}
 use Rattle.picks.proofs.Cells.{cellAt, cellsFrom, cells-first, cells-next, cells-turn, cells-end, cell-line, takenAt, nothing-taken, some-taken}
 

@@ -10,6 +10,7 @@ use Rattle.rules.specs.Refusals.{Admitted}
 use Rattle.values.specs.declared.PlanValue.{PlanValue}
 use Rattle.values.specs.declared.Shelf.{Shelf}
 use Rattle.values.specs.Shelves.{ShelfOf}
+use Rattle.values.specs.Values.{noLine}
 
 -- an admitted job whose lines stand in front of these, with so many cells to an aisle and this shelf, and a plan of its aisles
 pub record Asked (job : Job) (lines : List OrderLine) (cells : ℕ) (shelf : Shelf) (plan : PlanValue) : Type 0 where
@@ -18,10 +19,6 @@ pub record Asked (job : Job) (lines : List OrderLine) (cells : ℕ) (shelf : She
   pub its-cells : job .layout .cells ≡ cells
   pub its-shelf : ShelfOf job shelf
   pub its-aisles : job .layout .aisles ≡ plan .aisles
-
--- a line that is not there
-abbrev pub noLine : OrderLine
-noLine = record { article = 0; quantity = 0 }
 
 -- how much is taken from a passed cell, given the number + 1 of its line, 0 for none, and its stock
 abbrev pub takenOf : List OrderLine → ℕ → ℕ → ℕ

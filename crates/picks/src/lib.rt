@@ -11,8 +11,8 @@ ghost use lib.ListN.{getD, set};
 ghost use Rattle.rules.specs.Jobs.{Job};
 ghost use Rattle.rules.specs.Plans.{passesCell};
 ghost use Rattle.rules.specs.Picks.{picksOf};
-ghost use Rattle.values.specs.Values.{planOf, picksOfValue};
-ghost use Rattle.picks.specs.Picking.{Asked, takenOf, noLine, lessLine, pickOf};
+ghost use Rattle.values.specs.Values.{noLine, planOf, picksOfValue};
+ghost use Rattle.picks.specs.Picking.{Asked, takenOf, lessLine, pickOf};
 
 // What stands in the places that no pick has.
 const NOTHING: Pick = Pick {

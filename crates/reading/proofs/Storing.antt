@@ -18,7 +18,8 @@ use Rattle.reading.specs.declared.cursor.Cursor.{Cursor}
 use Rattle.reading.specs.declared.sections.StockRead.{StockRead}
 use Rattle.reading.specs.declared.sections.ListRead.{ListRead}
 use Rattle.reading.specs.Marking.{cellTwice}
-use Rattle.reading.specs.Kept.{noRecord, noLine, padded, stockRead, listRead, Answers}
+use Rattle.values.specs.Values.{noLine}
+use Rattle.reading.specs.Kept.{noRecord, padded, stockRead, listRead, Answers}
 use Rattle.reading.proofs.Behind.{behind, behind-nothing, behind-one}
 
 -- the line of the L section, if its count is 1

@@ -16,14 +16,11 @@ use Rattle.reading.specs.declared.sections.StockRead.{StockRead}
 use Rattle.reading.specs.declared.sections.ListRead.{ListRead}
 use Rattle.reading.specs.declared.raw.RawJob.{RawJob}
 use Rattle.reading.specs.Marking.{cellTwice}
+use Rattle.values.specs.Values.{noLine}
 
 -- what stands where there is no record
 abbrev pub noRecord : StockRecord
 noRecord = record { aisle = 0; cell = 0; article = 0; quantity = 0 }
-
--- what stands where there is no line
-abbrev pub noLine : OrderLine
-noLine = record { article = 0; quantity = 0 }
 
 -- an array with the first of the elements, as many as there is room for, and blanks behind them
 unfoldable pub padded : {A : Type 0} → ℕ → A → List A → List A

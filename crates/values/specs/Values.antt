@@ -5,6 +5,7 @@ use mathlib.Core.List.{List, map}
 use lib.ListN.{take}
 use Rattle.rules.specs.declared.Action.{Action}
 use Rattle.rules.specs.declared.Passage.{Passage}
+use Rattle.rules.specs.declared.OrderLine.{OrderLine}
 use Rattle.rules.specs.declared.Pick.{Pick}
 use Rattle.rules.specs.declared.Run.{Run}
 use Rattle.rules.specs.Jobs.{Job}
@@ -17,6 +18,10 @@ use Rattle.values.specs.declared.PlanValue.{PlanValue}
 use Rattle.values.specs.declared.PickList.{PickList}
 use Rattle.values.specs.declared.RunList.{RunList}
 use Rattle.values.specs.declared.Routed.{Routed}
+
+-- a line that is not there
+abbrev pub noLine : OrderLine
+noLine = record { article = 0; quantity = 0 }
 
 -- the job of a value
 unfoldable pub jobOf : JobValue → Job

@@ -5,8 +5,7 @@ use native.Mathlib.Omega.{arith}
 use mathlib.Core.Path.{_≡_, refl, _∙_}
 use mathlib.Core.Logic.{⊎-elim}
 use lib.ListN.{getD}
-use Rattle.values.specs.Values.{picksOfValue}
-use Rattle.picks.specs.Picking.{noLine}
+use Rattle.values.specs.Values.{noLine, picksOfValue}
 use Rattle.picks.proofs.Visits.{visited-all}
 use Rattle.picks.proofs.Turns.{lineHere, takenHere, line-there, line-below, asked-bounds, asked-first, Walked, walked-turn, walked-none, walked-some}
 use Rattle.picks.proofs.picks.Statement.{statement}

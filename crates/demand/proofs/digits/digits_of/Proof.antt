@@ -3,8 +3,7 @@ use native.Mathlib.Omega.{arith}
 use Prim.Native.Nat.{_+_, _*_, _-_, _≤_}
 use mathlib.Core.Path.{_≡_, refl}
 use lib.ListN.{length, getD, length-map}
-use Rattle.values.specs.Values.{jobOf}
-use Rattle.demand.specs.Digits.{noLine}
+use Rattle.values.specs.Values.{noLine, jobOf}
 use Rattle.demand.proofs.DigitLaws.{DigitsTo, digits-none, digits-fit, digits-one, digits-all}
 use Rattle.demand.proofs.digits.digits_of.Statement.{statement}
 use Rattle.demand.proofs.digits.digits_of.Tie as tie

@@ -7,7 +7,7 @@ use lib.ListN.{length, getD, take, drop, length-take, drop-of-length-le}
 use lib.Seq.{getD-take}
 use Rattle.rules.specs.declared.OrderLine.{OrderLine}
 use Rattle.values.specs.Shelves.{lineFrom}
-use Rattle.demand.specs.Digits.{noLine}
+use Rattle.values.specs.Values.{noLine}
 use Rattle.demand.proofs.Shelving.{line-here, line-behind}
 use Rattle.demand.proofs.shelf.line_of.Statement.{statement}
 use Rattle.demand.proofs.shelf.line_of.Tie as tie

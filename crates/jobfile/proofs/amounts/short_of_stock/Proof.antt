@@ -10,9 +10,8 @@ use Rattle.rules.specs.Lists.{anyOf}
 use Rattle.rules.specs.Refusals.{allStock, shortOfStock}
 use Rattle.rules.specs.declared.OrderLine.{OrderLine}
 use Rattle.values.specs.declared.JobValue.{JobValue}
-use Rattle.values.specs.Values.{jobOf}
+use Rattle.values.specs.Values.{noLine, jobOf}
 use Rattle.jobfile.proofs.Left.{left-all, AnyFrom, any-fails, any-holds, any-more}
-use Rattle.reading.specs.Kept.{noLine}
 use Rattle.jobfile.proofs.amounts.short_of_stock.Statement.{statement}
 use Rattle.jobfile.proofs.amounts.short_of_stock.Tie as tie
 

@@ -8,7 +8,7 @@ use borrow.Author.Tests.{not-true, not-false}
 use Rattle.rules.specs.Lists.{allOf}
 use Rattle.rules.specs.Refusals.{lineInBounds}
 use Rattle.jobfile.proofs.Left.{left-all, AllFrom, all-hold, all-fails, all-more}
-use Rattle.reading.specs.Kept.{noLine}
+use Rattle.values.specs.Values.{noLine}
 use Rattle.jobfile.proofs.Ranges.{Sized, list-many, list-empty, list-tested}
 use Rattle.jobfile.proofs.bounds.list_in_bounds.Statement.{statement}
 use Rattle.jobfile.proofs.bounds.list_in_bounds.Tie as tie

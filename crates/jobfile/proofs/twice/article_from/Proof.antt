@@ -9,7 +9,7 @@ use Rattle.rules.specs.Lists.{anyOf}
 use Rattle.rules.specs.Refusals.{sameArticle}
 use Rattle.rules.specs.declared.OrderLine.{OrderLine}
 use Rattle.jobfile.proofs.Left.{left, AnyFrom, any-fails, any-holds, any-more}
-use Rattle.reading.specs.Kept.{noLine}
+use Rattle.values.specs.Values.{noLine}
 use Rattle.jobfile.proofs.twice.article_from.Statement.{statement}
 use Rattle.jobfile.proofs.twice.article_from.Tie as tie
 

@@ -5,9 +5,8 @@ use native.Mathlib.Omega.{arith}
 use lib.ListN.{length, length-map, take}
 use Rattle.rules.specs.Lists.{anyTwo}
 use Rattle.rules.specs.Refusals.{sameArticle}
-use Rattle.values.specs.Values.{jobOf}
+use Rattle.values.specs.Values.{noLine, jobOf}
 use Rattle.jobfile.proofs.Left.{left-all, TwoFrom, two-none, two-found, two-more}
-use Rattle.reading.specs.Kept.{noLine}
 use Rattle.jobfile.proofs.twice.article_twice.Statement.{statement}
 use Rattle.jobfile.proofs.twice.article_twice.Tie as tie
 

@@ -10,7 +10,8 @@ use denote.Ref.{now}
 use Rattle.rules.specs.declared.OrderLine.{OrderLine}
 use Rattle.rules.specs.JobFile.{readLine, readLines}
 use Rattle.reading.specs.Places.{lineOf}
-use Rattle.reading.specs.Kept.{noLine, noList, listRead}
+use Rattle.values.specs.Values.{noLine}
+use Rattle.reading.specs.Kept.{noList, listRead}
 use Rattle.reading.proofs.Storing.{LinesTo, lines-none, lines-fail, lines-stored, lines-passed, lines-more, lines-read, lines-counted, answer-none, answer-some, list-held}
 use Rattle.reading.proofs.Told.{told}
 use Rattle.reading.proofs.cursor.Cursor.order_lines.Statement.{statement}
