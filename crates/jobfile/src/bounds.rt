@@ -7,7 +7,7 @@ use values::JobValue;
 ghost use mathlib.Core.Path.{_≡_};
 ghost use mathlib.Core.Bool.{_&&_};
 ghost use lib.Dec.{leb};
-ghost use Rattle.rules.specs.Store.{within, layoutInBounds};
+ghost use Rattle.rules.specs.Store.{layoutInBounds};
 ghost use Rattle.rules.specs.Refusals.{recordInBounds, stockInBounds, lineInBounds, listInBounds};
 ghost use Rattle.values.specs.Values.{jobOf};
 ghost use Rattle.jobfile.specs.Ready.{storeOnly};

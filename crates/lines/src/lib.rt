@@ -43,7 +43,7 @@ fn policy_word(policy: Policy) -> [u8; 11]
 }
 
 // Writes a policy word behind a space, and the line feed.
-pub fn write_policy(sheet: &mut [u8], policy: Policy) -> usize
+fn write_policy(sheet: &mut [u8], policy: Policy) -> usize
     requires { ⌜ length (policyText policy) ≤ length (now sheet) ⌝ }
     ensures { λ r. ⌜ Written (policyText policy) (now (sheet .entry)) (now (sheet .exit)) r ⌝ }
 {
@@ -146,7 +146,7 @@ pub fn header_size(letter: u8, n: usize) -> usize
 }
 
 // The byte count of a policy word behind a space, with its line feed.
-pub fn policy_size(policy: Policy) -> usize
+fn policy_size(policy: Policy) -> usize
     ensures { λ r. ⌜ Sized (policyText policy) 11 r ⌝ }
 {
     match policy {

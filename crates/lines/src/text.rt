@@ -19,7 +19,7 @@ pub fn write_number(sheet: &mut [u8], n: usize) -> usize
 }
 
 // How many digits a number has.
-pub fn number_size(n: usize) -> usize
+pub(crate) fn number_size(n: usize) -> usize
     ensures { λ r. ⌜ Sized (numeral n) 20 r ⌝ }
 {
     let mut size = 1;
@@ -32,7 +32,7 @@ pub fn number_size(n: usize) -> usize
 }
 
 // Writes a word byte for byte.
-pub fn write_word(sheet: &mut [u8], word: &[u8]) -> usize
+pub(crate) fn write_word(sheet: &mut [u8], word: &[u8]) -> usize
     requires { ⌜ length (now word) ≤ length (now sheet) ⌝ }
     ensures { λ r. ⌜ Written (now (word .entry)) (now (sheet .entry)) (now (sheet .exit)) r ⌝ }
 {
@@ -45,7 +45,7 @@ pub fn write_word(sheet: &mut [u8], word: &[u8]) -> usize
 }
 
 // Writes the numbers that end a line, each behind a space, and the line feed.
-pub fn write_numbers(sheet: &mut [u8], numbers: &[usize]) -> usize
+pub(crate) fn write_numbers(sheet: &mut [u8], numbers: &[usize]) -> usize
     requires { ⌜ length (numbersText (now numbers)) ≤ length (now sheet) ⌝ }
     ensures { λ r. ⌜ Written (numbersText (now (numbers .entry))) (now (sheet .entry)) (now (sheet .exit)) r ⌝ }
 {
@@ -62,7 +62,7 @@ pub fn write_numbers(sheet: &mut [u8], numbers: &[usize]) -> usize
 }
 
 // Writes a line: a word and numbers behind it.
-pub fn write_line(sheet: &mut [u8], word: &[u8], numbers: &[usize]) -> usize
+pub(crate) fn write_line(sheet: &mut [u8], word: &[u8], numbers: &[usize]) -> usize
     requires { ⌜ length (lineText (now word) (now numbers)) ≤ length (now sheet) ⌝ }
     ensures { λ r. ⌜ Written (lineText (now (word .entry)) (now (numbers .entry))) (now (sheet .entry)) (now (sheet .exit)) r ⌝ }
 {

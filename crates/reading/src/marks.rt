@@ -18,7 +18,7 @@ pub struct Marks {
 }
 
 // No cell seen.
-pub fn no_marks() -> Marks
+pub(crate) fn no_marks() -> Marks
     ensures { λ r. ⌜ r ≡ noMarks ⌝ }
 {
     let seen = [0u32; 16];
@@ -26,7 +26,7 @@ pub fn no_marks() -> Marks
 }
 
 // The cell of a record is tested and set by shift and mask. A record with no bit, out of all bounds, is passed by.
-pub fn mark(marks: Marks, row: StockRecord) -> Marks
+pub(crate) fn mark(marks: Marks, row: StockRecord) -> Marks
     ensures { λ r. ⌜ r ≡ markOf marks row ⌝ }
 {
     if !(is_within(1, 16, row.aisle) & is_within(1, 24, row.cell)) {

@@ -40,7 +40,7 @@ row-same row perm map base cost n none fits =
     record { kept = refl; done = λ s q l h. omega (arith, fits (q * 8 + s)); rest = λ k h. refl }
 
 pub state-none : (perm after : List ℕ) (s to : ℕ) → StateSet perm perm after s to 0
-state-none perm after s to = record { kept = refl; done = λ q h. absurd (omega arith); rest = λ q t l n. refl }
+state-none perm after s to = record { kept = refl; done = λ q h. absurd (omega arith); rest = λ q t l n. refl; past = λ k h. refl }
 
 -- one more demand of a state
 pub state-one : (perm perm′ after : List ℕ) (s to q v : ℕ) → s < 8 → q * 8 + s < length perm → StateSet perm perm′ after s to q
@@ -50,6 +50,7 @@ state-one perm perm′ after s to q v small in-row r e =
       kept = length-set perm′ (q * 8 + s) v ∙ r .kept;
       done = λ k h. ⊎-elim (λ l. getD-set-other perm′ (q * 8 + s) (k * 8 + s) v 0 (λ p. omega arith) ∙ r .done k l) (here k) (below k q h);
       rest = λ k t l n. getD-set-other perm′ (q * 8 + s) (k * 8 + t) v 0 (λ p. n (omega arith)) ∙ r .rest k t l n;
+      past = λ k h. getD-set-other perm′ (q * 8 + s) k v 0 (λ p. omega arith) ∙ r .past k (omega arith);
     }
   where
     here : (k : ℕ) → k ≡ q → tab (set perm′ (q * 8 + s) v) s k ≡ nextAt after to k
@@ -60,7 +61,7 @@ state-one perm perm′ after s to q v small in-row r e =
         ∙ ap (nextAt after to) (sym p)
 
 pub permuted-none : (perm after steps : List ℕ) (weight : ℕ) → Permuted perm perm after steps weight 0
-permuted-none perm after steps weight = record { kept = refl; done = λ s q l h. absurd (omega arith) }
+permuted-none perm after steps weight = record { kept = refl; done = λ s q l h. absurd (omega arith); past = λ k h. refl }
 
 -- one more state
 pub permuted-one : (perm perm′ perm″ after steps : List ℕ) (weight s : ℕ) → s < 8 → Permuted perm perm′ after steps weight s
@@ -69,6 +70,7 @@ permuted-one perm perm′ perm″ after steps weight s small r t =
     record {
       kept = t .kept ∙ r .kept;
       done = λ k q h l. ⊎-elim (λ m. t .rest q k (omega arith) (λ p. omega arith) ∙ r .done k q m l) (here q l k) (below k s h);
+      past = λ k h. t .past k h ∙ r .past k h;
     }
   where
     here : (q : ℕ) → q < weight → (k : ℕ) → k ≡ s → tab perm″ k q ≡ nextAt after (getD steps k 0) q

@@ -54,16 +54,18 @@ pub record RelaxedRow (row row′ perm map : List ℕ) (base cost n : ℕ) : Typ
 unfoldable pub nextAt : List ℕ → ℕ → ℕ → ℕ
 nextAt next s q = cond (ltb s states) (tab next s q) noTour
 
--- for the first n demands a row has at state s the value of state `to` in another; the other states are as they were
+-- for the first n demands a row has at state s the value of state `to` in another; all else is as it was
 pub record StateSet (perm perm′ after : List ℕ) (s to n : ℕ) : Type 0 where
   pub kept : length perm′ ≡ length perm
   pub done : (q : ℕ) → q < n → tab perm′ s q ≡ nextAt after to q
   pub rest : (q t : ℕ) → t < states → (t ≡ s → ⊥) → tab perm′ t q ≡ tab perm t q
+  pub past : (k : ℕ) → n * states ≤ k → getD perm′ k 0 ≡ getD perm k 0
 
--- for the first n states a row has the value of the state that a step leads to
+-- for the first n states a row has the value of the state that a step leads to; past the last demand it is as it was
 pub record Permuted (perm perm′ after steps : List ℕ) (weight n : ℕ) : Type 0 where
   pub kept : length perm′ ≡ length perm
   pub done : (s q : ℕ) → s < n → q < weight → tab perm′ s q ≡ nextAt after (getD steps s 0) q
+  pub past : (k : ℕ) → weight * states ≤ k → getD perm′ k 0 ≡ getD perm k 0
 
 -- whether a step leads on from one of the eight states
 abbrev pub LivesAs : List ℕ → Bool → Type 0

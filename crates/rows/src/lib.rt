@@ -89,6 +89,7 @@ pub fn relax_row<'a>(
 pub fn fill_none(row: &mut [u16], n: usize)
     requires { ⌜ n ≤ length (now row) ⌝ }
     ensures { λ r. ⌜ ((k : ℕ) → k < n → getD (now (row .exit)) k 0 ≡ noTour) × (length (now (row .exit)) ≡ length (now (row .entry))) ⌝ }
+    ensures { λ r. ⌜ ((k : ℕ) → n ≤ k → getD (now (row .exit)) k 0 ≡ getD (now (row .entry)) k 0) ⌝ }
 {
     let mut i = 0;
     while i < n {

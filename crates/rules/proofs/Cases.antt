@@ -8,14 +8,13 @@ use mathlib.Core.Bool.{true}
 use lib.ListN.{replicate}
 use Rattle.rules.specs.declared.Action.{Action}
 use Rattle.rules.specs.declared.Policy.{Policy}
-use Rattle.rules.specs.declared.Action.the-variants.{Bottom, Gap, Once}
+use Rattle.rules.specs.declared.Action.the-variants.{Bottom}
 use Rattle.rules.specs.declared.Passage.{Passage}
-use Rattle.rules.specs.declared.Passage.the-variants.{P02, P11}
+use Rattle.rules.specs.declared.Passage.the-variants.{P02}
 use Rattle.rules.specs.declared.Refusal.the-variants.{NotAJobFile, LayoutBounds, StockBounds, CellTwice, ArticleTwice, ShortOfStock, ListBounds, TooHeavy}
 use Rattle.rules.specs.Jobs.{Job}
 use Rattle.rules.specs.Plans.{Plan}
 use Rattle.rules.specs.Examples.{Expected, tour, tied, walked, long, refusal, weighing, allowing, HasTour, IsTour, FileEnds, CallGives, Meets, Case, under, underEvery, Holds, AllHold, AllSame}
-use Rattle.rules.specs.declared.Run.{Run}
 use Rattle.rules.specs.Sheet.{runsOf}
 use Rattle.rules.proofs.Pruning.{fits, boundedBest, found-best}
 use Rattle.rules.specs.Lists.{allOf}

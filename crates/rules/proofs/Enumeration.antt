@@ -7,21 +7,21 @@ use mathlib.Core.Bool.{Bool, true, false, cond, _&&_, and-eq-true-iff}
 use mathlib.Core.Option.{some, Option·getD}
 use native.Mathlib.Nat.{eq-or-lt-of-le}
 use native.Mathlib.Omega.{arith}
-use lib.Dec.{leb, ltb}
+use lib.Dec.{leb}
 use lib.ListN.{length}
-use borrow.Author.Tests.{ltb-true, ltb-false, leb-true, leb-false, le-leb, lt-leb}
+use borrow.Author.Tests.{leb-true, leb-false, le-leb, lt-leb}
 use Rattle.rules.specs.declared.Layout.{Layout}
 use Rattle.rules.specs.declared.Action.{Action}
 use Rattle.rules.specs.declared.Action.the-variants.{Void, Bottom, Top, Gap, Once, Twice}
 use Rattle.rules.specs.declared.Passage.{Passage}
 use Rattle.rules.specs.declared.Passage.the-variants.{P00, P02, P11, P20, P22}
-use Rattle.rules.specs.Lists.{from, concatOf, nth, Sorted}
-use Rattle.rules.specs.Plans.{Plan, Fits, WellFormed, actionAt, planLength, planPasses}
+use Rattle.rules.specs.Lists.{from, concatOf, Sorted}
+use Rattle.rules.specs.Plans.{Plan, Fits, WellFormed, planLength, planPasses}
 use Rattle.rules.specs.BestPlan.{downFrom, actionsOf, passagesInOrder, single, prepend, plansOf, actionRank, passageRank, RankBefore, Before, by-action, by-passage, further, PlanBefore, shorterOf, firstShortest, servingPlans, emptyPlan, bestPlan}
 use Rattle.rules.specs.Jobs.{Job}
 use Rattle.rules.specs.Serving.{serves, PlanServes}
 use Rattle.rules.specs.Machine.{accepts}
-use Rattle.rules.proofs.Lists.{member-from, from-member, place-member, place-beyond, member-concat, concat-member, member-select, sorted-append, sorted-split, sorted-select, sorted-map, sorted-by, sorted-concat, sorted-from}
+use Rattle.rules.proofs.Lists.{member-from, from-member, member-concat, concat-member, member-select, sorted-append, sorted-split, sorted-select, sorted-map, sorted-by, sorted-concat, sorted-from}
 use Rattle.rules.proofs.Listing.{listed-sound}
 use Rattle.rules.proofs.Lengths.{well-formed-fits}
 use Rattle.rules.proofs.Serving.{serves-test}
