@@ -71,3 +71,8 @@ pub record Permuted (perm perm′ after steps : List ℕ) (weight n : ℕ) : Typ
 abbrev pub LivesAs : List ℕ → Bool → Type 0
 LivesAs steps true = (s : ℕ) × (s < states) × (getD steps s 0 < states)
 LivesAs steps false = (s : ℕ) → s < states → states ≤ getD steps s 0
+
+-- the first n numbers of a row are 'none'; its length and all other numbers are as they were
+abbrev pub NoneTo : List ℕ → List ℕ → ℕ → Type 0
+NoneTo row row′ n =
+    ((k : ℕ) → k < n → getD row′ k 0 ≡ noTour) × (length row′ ≡ length row) × ((k : ℕ) → n ≤ k → getD row′ k 0 ≡ getD row k 0)

@@ -5,8 +5,8 @@ use demand::digits::DEMANDS;
 use demand::digits::wide;
 ghost use Prim.Native.Nat.{_*_, _+_, _<_, _≤_, min, ℕ};
 ghost use Rattle.demand.specs.Digits.{demands};
-ghost use Rattle.optimum.specs.Routing.{noTour, sat};
-ghost use Rattle.rows.specs.Rows.{LivesAs, Permuted, RelaxReady, RelaxedRow, Shorter, StateSet, StoredTo, nextAt, states};
+ghost use Rattle.optimum.specs.Routing.{sat};
+ghost use Rattle.rows.specs.Rows.{LivesAs, Permuted, RelaxReady, RelaxedRow, Shorter, StateSet, StoredTo, nextAt, states, NoneTo};
 ghost use lib.ListN.{getD, length};
 ghost use mathlib.Core.Path.{_≡_};
 
@@ -88,8 +88,7 @@ pub fn relax_row<'a>(
 // The first n numbers of a row are 'none'.
 pub fn fill_none(row: &mut [u16], n: usize)
     requires { ⌜ n ≤ length (now row) ⌝ }
-    ensures { λ r. ⌜ ((k : ℕ) → k < n → getD (now (row .exit)) k 0 ≡ noTour) × (length (now (row .exit)) ≡ length (now (row .entry))) ⌝ }
-    ensures { λ r. ⌜ ((k : ℕ) → n ≤ k → getD (now (row .exit)) k 0 ≡ getD (now (row .entry)) k 0) ⌝ }
+    ensures { λ r. ⌜ NoneTo (now (row .entry)) (now (row .exit)) n ⌝ }
 {
     let mut i = 0;
     while i < n {

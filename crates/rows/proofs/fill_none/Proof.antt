@@ -46,7 +46,7 @@ same-length c = c .before .loop .inv .1
 returns : tie.Need-returns Inv-loop μ-loop
 returns c =
     let o = c .before .loop in
-    ((λ k h. o .inv .2 k (omega (arith, o .inv .0)), o .inv .1), λ k h. o .inv .3 k (omega (arith, o .inv .0)))
+    (λ k h. o .inv .2 k (omega (arith, o .inv .0)), o .inv .1, λ k h. o .inv .3 k (omega (arith, o .inv .0)))
 
 pub fill-none-spec : {M : Type 1} → statement M
 fill-none-spec =
