@@ -76,3 +76,7 @@ LivesAs steps false = (s : ℕ) → s < states → states ≤ getD steps s 0
 abbrev pub NoneTo : List ℕ → List ℕ → ℕ → Type 0
 NoneTo row row′ n =
     ((k : ℕ) → k < n → getD row′ k 0 ≡ noTour) × (length row′ ≡ length row) × ((k : ℕ) → n ≤ k → getD row′ k 0 ≡ getD row k 0)
+
+-- past the last demand a row is as it was
+abbrev pub PastKept : ℕ → List ℕ → List ℕ → Type 0
+PastKept weight row row′ = (k : ℕ) → weight * states ≤ k → getD row′ k 0 ≡ getD row k 0

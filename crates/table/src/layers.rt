@@ -22,7 +22,7 @@ ghost use Rattle.demand.specs.Digits.{demands};
 ghost use Rattle.demand.specs.Maps.{heights};
 ghost use Rattle.table.specs.Crossings.{InRange};
 ghost use Rattle.table.specs.Layers.{AisleReady, LaneReady, PassDone, RowFilled, passHalves, passKind, passesOf, stepWith};
-ghost use Rattle.rows.specs.Rows.{RelaxReady, RelaxedRow, numbers, states};
+ghost use Rattle.rows.specs.Rows.{PastKept, RelaxReady, RelaxedRow, numbers, states};
 ghost use Rattle.table.specs.Turns.{SweepReady, SweptTo, Thinned, TurnsOf, backAt, backTurn, frontAt, frontTurn, keptTurn};
 ghost use Rattle.rules.specs.Store.{layoutInBounds};
 ghost use lib.ListN.{getD, length};
@@ -254,7 +254,8 @@ fn passes_of(policy: usize) -> usize
 // The row of an aisle: for each demand and state the least over all actions.
 pub fn fill_row<'a>(row: &mut [u16], after: &[u16], fronts: &'a [u16], backs: &'a [u16], x: Aisle)
     requires { ⌜ AisleReady x (now fronts) (now backs) × (numbers ≤ length (now row)) × (numbers ≤ length (now after)) ⌝ }
-    ensures { λ r. ⌜ RowFilled x (now (row .exit)) (now (after .entry)) (now (fronts .entry)) (now (backs .entry)) × (length (now (row .exit)) ≡ length (now (row .entry))) ⌝ }
+    ensures { λ r. ⌜ RowFilled x (now (row .exit)) (now (after .entry)) (now (fronts .entry)) (now (backs .entry))
+        × (length (now (row .exit)) ≡ length (now (row .entry))) × PastKept (x .weight) (now (row .entry)) (now (row .exit)) ⌝ }
 {
     let passes = passes_of(x.policy);
     let weight = x.weight;

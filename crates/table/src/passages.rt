@@ -10,7 +10,7 @@ use rows::permute;
 use rows::relax_row;
 ghost use Prim.Native.Nat.{_*_, _+_, _<_, _≤_, ℕ};
 ghost use Rattle.demand.specs.Digits.{demands};
-ghost use Rattle.rows.specs.Rows.{states};
+ghost use Rattle.rows.specs.Rows.{PastKept, states};
 ghost use Rattle.machine.specs.Steps.{passageOf};
 ghost use Rattle.table.specs.Crossings.{AfterFilled, CrossingReady, InRange, PassageTried, crossCode};
 ghost use Rattle.rules.specs.Plans.{backTreads, frontTreads};
@@ -79,7 +79,8 @@ fn relax_passage(after: &mut [u16], next: &[u16], x: Aisle, passage: usize)
 // The row behind the actions of an aisle: for each demand and state the least over the passages that are tried.
 pub fn fill_after(after: &mut [u16], next: &[u16], x: Aisle)
     requires { ⌜ CrossingReady x (now after) (now next) ⌝ }
-    ensures { λ r. ⌜ AfterFilled x (now (after .exit)) (now (next .entry)) × (length (now (after .exit)) ≡ length (now (after .entry))) ⌝ }
+    ensures { λ r. ⌜ AfterFilled x (now (after .exit)) (now (next .entry))
+        × (length (now (after .exit)) ≡ length (now (after .entry))) × PastKept (x .weight) (now (after .entry)) (now (after .exit)) ⌝ }
 {
     let tried = x.tried;
     let weight = x.weight;

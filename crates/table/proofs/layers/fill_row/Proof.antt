@@ -1,9 +1,10 @@
 -- `table::layers::fill_row` meets its contract: what the passes so far leave of the row.
 use native.Mathlib.Omega.{arith}
-use Prim.Native.Nat.{_-_, _≤_}
+use Prim.Native.Nat.{_*_, _-_, _≤_}
 use mathlib.Core.Path.{_≡_, refl, sym, _∙_, subst}
 use lib.ListN.{length}
 use borrow.Author.Needs.{needs}
+use Rattle.rows.specs.Rows.{PastKept}
 use Rattle.table.specs.Layers.{passesOf}
 use Rattle.table.proofs.PassLaws.{RowPassed, passes-few, passed-none, passed-one, passed-all}
 use Rattle.table.proofs.layers.fill_row.Statement.{statement}
@@ -11,7 +12,7 @@ use Rattle.table.proofs.layers.fill_row.Tie as tie
 
 abbrev Inv-loop : tie.InvT-loop
 Inv-loop row₀ after fronts backs passes weight lane pass₀ row pass =
-    (pass ≤ passes) × (length row ≡ length row₀) × RowPassed (lane .aisle) row after fronts backs pass
+    (pass ≤ passes) × (length row ≡ length row₀) × RowPassed (lane .aisle) row after fronts backs pass × PastKept (lane .aisle .weight) row₀ row
 
 abbrev μ-loop : tie.MeasureT-loop
 μ-loop row₀ after fronts backs passes weight lane pass₀ row pass = passes - pass
@@ -35,7 +36,7 @@ loop-holds c =
     let p = at-lane .before .before .before .before .before .before .args in
     let row = at-fill .fill-none .last .0 in
     let start = passed-none (p .x) (p .after .now) (p .fronts .now) (p .backs .now) row (at-fill .fill-none .ensures .0) in
-    (omega arith, refl, subst (λ x. RowPassed x row (p .after .now) (p .fronts .now) (p .backs .now) 0) (sym (at-lane .lane-of .ensures .0)) start)
+    (omega arith, refl, subst (λ x. RowPassed x row (p .after .now) (p .fronts .now) (p .backs .now) 0) (sym (at-lane .lane-of .ensures .0)) start, λ k h. refl)
 
 relax-pass-requires : tie.Need-relax-pass-requires Inv-loop μ-loop
 relax-pass-requires c κs =
@@ -67,6 +68,7 @@ loop-again c =
       omega arith,
       done .ensures .kept ∙ o .inv .1,
       passed-one (at-lane .lane-of .result .aisle) (p .after .now) (p .fronts .now) (p .backs .now) (o .row) (done .last .0) (o .pass) (o .inv .2) (done .ensures),
+      λ k h. done .ensures .rest k h ∙ o .inv .3 k h,
     )
 
 same-length : tie.Need-same-length Inv-loop μ-loop
@@ -84,6 +86,7 @@ returns c =
       passed-all (p .x) (o .row) (p .after .now) (p .fronts .now) (p .backs .now)
           (subst (λ n. RowPassed (p .x) (o .row) (p .after .now) (p .fronts .now) (p .backs .now) n) e passed),
       o .inv .1 ∙ at-fill .fill-none .ensures .1,
+      λ k h. o .inv .3 k (subst (λ x. x .weight * 8 ≤ k) (sym (at-lane .lane-of .ensures .0)) h) ∙ at-fill .fill-none .ensures .2 k h,
     )
 
 pub fill-row-spec : {M : Type 1} → statement M

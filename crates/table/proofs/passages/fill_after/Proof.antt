@@ -3,12 +3,14 @@ use native.Mathlib.Omega.{arith}
 use Prim.Native.Nat.{_-_, _≤_}
 use mathlib.Core.Path.{_≡_, refl, _∙_, subst}
 use lib.ListN.{length}
+use Rattle.rows.specs.Rows.{PastKept}
 use Rattle.table.proofs.PassageLaws.{AfterTried, after-none, after-one, after-all}
 use Rattle.table.proofs.passages.fill_after.Statement.{statement}
 use Rattle.table.proofs.passages.fill_after.Tie as tie
 
 abbrev Inv-loop : tie.InvT-loop
-Inv-loop after₀ next x tried weight p₀ after p = (p ≤ x .tried) × (length after ≡ length after₀) × AfterTried x after next p
+Inv-loop after₀ next x tried weight p₀ after p =
+    (p ≤ x .tried) × (length after ≡ length after₀) × AfterTried x after next p × PastKept (x .weight) after₀ after
 
 abbrev μ-loop : tie.MeasureT-loop
 μ-loop after₀ next x tried weight p₀ after p = tried - p
@@ -23,7 +25,7 @@ loop-holds : tie.Need-loop-holds Inv-loop μ-loop
 loop-holds c =
     let at-none = c .before .before in
     let p = at-none .before .before .before .before .args in
-    (omega arith, refl, after-none (p .x) (p .next .now) (at-none .fill-none .last .0) (at-none .fill-none .ensures .0))
+    (omega arith, refl, after-none (p .x) (p .next .now) (at-none .fill-none .last .0) (at-none .fill-none .ensures .0), λ k h. refl)
 
 relax-passage-requires : tie.Need-relax-passage-requires Inv-loop μ-loop
 relax-passage-requires c κs =
@@ -57,6 +59,7 @@ loop-again c =
       omega arith,
       tried .ensures .kept ∙ o .inv .1,
       after-one (p .x) (p .next .now) (o .after) (tried .last .0) (o .p) (omega (arith, at-start .pre .aisle .few)) (o .inv .2) (tried .ensures),
+      λ k h. tried .ensures .rest k h ∙ o .inv .3 k h,
     )
 
 same-length : tie.Need-same-length Inv-loop μ-loop
@@ -70,6 +73,7 @@ returns c =
     let all : o .p ≡ p .x .tried = omega (arith, o .inv .0) in (
       after-all (p .x) (p .next .now) (o .after) (subst (λ n. AfterTried (p .x) (o .after) (p .next .now) n) all (o .inv .2)),
       o .inv .1 ∙ at-none .fill-none .ensures .1,
+      λ k h. o .inv .3 k h ∙ at-none .fill-none .ensures .2 k h,
     )
 
 pub fill-after-spec : {M : Type 1} → statement M
