@@ -1,6 +1,7 @@
 pub mod Geometry
 pub mod Bridge
 pub mod Sweeping
+pub mod Thinning
 pub mod PassageLaws
 pub mod TurnLaws
 pub mod HalfSteps

@@ -1,5 +1,5 @@
 -- One aisle of the table as the code computes it, from the row behind the actions and the maps of the aisle.
-use Prim.Native.Nat.{ℕ, suc, _*_, _-_, _/_, _≤_, _<_}
+use Prim.Native.Nat.{ℕ, suc, _+_, _*_, _-_, _/_, _≤_, _<_}
 use mathlib.Core.Path.{_≡_}
 use mathlib.Core.Logic.{_⊎_}
 use mathlib.Core.List.{List}
@@ -12,12 +12,14 @@ use Rattle.rules.specs.BestPlan.{actionsOf}
 use Rattle.optimum.specs.Routing.{sat, leastOf}
 use Rattle.table.specs.declared.candidates.Candidate.{Candidate}
 use Rattle.table.specs.declared.layers.Aisle.{Aisle}
+use Rattle.table.specs.declared.layers.Lane.{Lane}
 use Rattle.machine.specs.States.{stateCode, stateOf}
 use Rattle.machine.specs.Steps.{policyOf, sampleAction, bit, stepOf}
 use Rattle.table.specs.Candidates.{candidateOf, candidateLength, candidateHalves}
 use Rattle.demand.specs.Maps.{entry, mapSize}
 use Rattle.rows.specs.Rows.{states, tab, nextAt}
 use Rattle.table.specs.Crossings.{InRange}
+use Rattle.table.specs.Repeating.{RepeatsTo}
 
 -- the number of the state after a kind of action, with the answer of the half rule given
 unfoldable pub stepWith : Aisle → ℕ → Bool → ℕ → ℕ
@@ -48,6 +50,12 @@ pub record AisleReady (x : Aisle) (fronts backs : List ℕ) : Type 0 where
   pub backs-long : mapSize ≤ length backs
   pub front-below : (h q : ℕ) → h ≤ x .layout .cells → q < x .weight → entry fronts h q < x .weight
   pub back-below : (i q : ℕ) → 1 ≤ i → i ≤ suc (x .layout .cells) → q < x .weight → entry backs i q < x .weight
+
+-- an aisle that is ready, with the rows of its maps that repeat the row before
+pub record LaneReady (lane : Lane) (fronts backs : List ℕ) : Type 0 where
+  pub ready : AisleReady (lane .aisle) fronts backs
+  pub front : RepeatsTo fronts (lane .aisle .weight) (lane .same .front) (lane .aisle .layout .cells + 1)
+  pub back : RepeatsTo backs (lane .aisle .weight) (lane .same .back) (lane .aisle .layout .cells + 1)
 
 -- the way over an action, with the answer of the half rule given
 unfoldable pub wayWith : Aisle → List ℕ → List ℕ → List ℕ → Bool → ℕ → ℕ → Action → ℕ

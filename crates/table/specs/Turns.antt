@@ -3,13 +3,14 @@ use Prim.Native.Nat.{ℕ, zero, suc, _+_, _*_, _≤_, _<_}
 use mathlib.Core.Path.{_≡_}
 use mathlib.Core.Logic.{_⊎_}
 use mathlib.Core.List.{List}
-use mathlib.Core.Bool.{Bool, cond, not, _&&_, _||_}
+use mathlib.Core.Bool.{Bool, false, cond, not, _&&_, _||_}
 use lib.Dec.{ltb, leb, eqb}
 use lib.ListN.{length, getD}
 use Rattle.rules.specs.declared.Layout.{Layout}
 use Rattle.rules.specs.Policies.{inFrontHalf, inBackHalf}
 use Rattle.optimum.specs.Routing.{noTour, sat}
 use Rattle.table.specs.declared.layers.Turns.{Turns}
+use Rattle.table.specs.declared.repeats.Repeats.{Repeats}
 use Rattle.table.specs.Candidates.{frontCost, backCost}
 use Rattle.demand.specs.Digits.{demands}
 use Rattle.demand.specs.Maps.{entry, mapSize}
@@ -43,6 +44,25 @@ pub record TurnsOf (z : Layout) (kind : ℕ) (halves : Bool) (t : Turns) : Type 
   pub top : t .top ≡ z .cells + 1
   pub front : (h : ℕ) → h ≤ z .cells + 1 → getD (t .front) h 0 ≡ frontTurn z kind halves h
   pub back : (i : ℕ) → i ≤ z .cells + 1 → getD (t .back) i 0 ≡ backTurn z kind halves i
+
+-- what a turn costs; 'none' where the neighbouring height leaves the same demand and costs no more
+unfoldable pub keptTurn : Bool → ℕ → ℕ → ℕ
+keptTurn same neighbour cost = cond (same && leb neighbour cost) noTour cost
+
+-- a front turn at height h + 1, unless h replaces it, and a back turn at height i, unless i + 1 does
+abbrev pub frontKept : Turns → Repeats → ℕ → ℕ
+frontKept t same h = keptTurn (getD (same .front) h false) (getD (t .front) h 0) (getD (t .front) (h + 1) 0)
+
+abbrev pub backKept : Turns → Repeats → ℕ → ℕ
+backKept t same i = keptTurn (getD (same .back) i false) (getD (t .back) (i + 1) 0) (getD (t .back) i 0)
+
+-- the turns that are left then; the first in front and the last at the back have no such neighbour
+pub record Thinned (t : Turns) (same : Repeats) (r : Turns) : Type 0 where
+  pub top : r .top ≡ t .top
+  pub first : getD (r .front) 0 0 ≡ getD (t .front) 0 0
+  pub front : (h : ℕ) → h < t .top → getD (r .front) (h + 1) 0 ≡ frontKept t same h
+  pub back : (i : ℕ) → i < t .top → getD (r .back) i 0 ≡ backKept t same i
+  pub last : getD (r .back) (t .top) 0 ≡ getD (t .back) (t .top) 0
 
 -- the way over a front turn at height h and a back turn at height i
 abbrev pub turnWay : List ℕ → List ℕ → List ℕ → List ℕ → List ℕ → ℕ → ℕ → ℕ → ℕ → ℕ

@@ -3,6 +3,8 @@ use crate::candidates::back_cost;
 use crate::candidates::back_half;
 use crate::candidates::front_cost;
 use crate::candidates::front_half;
+use crate::repeats::Repeats;
+use crate::repeats::repeats_of;
 use demand::digits::DEMANDS;
 use demand::maps::HEIGHTS;
 use machine::action_step;
@@ -19,9 +21,9 @@ ghost use Rattle.machine.specs.Steps.{bit};
 ghost use Rattle.demand.specs.Digits.{demands};
 ghost use Rattle.demand.specs.Maps.{heights};
 ghost use Rattle.table.specs.Crossings.{InRange};
-ghost use Rattle.table.specs.Layers.{AisleReady, PassDone, RowFilled, passHalves, passKind, passesOf, stepWith};
+ghost use Rattle.table.specs.Layers.{AisleReady, LaneReady, PassDone, RowFilled, passHalves, passKind, passesOf, stepWith};
 ghost use Rattle.rows.specs.Rows.{RelaxReady, RelaxedRow, numbers, states};
-ghost use Rattle.table.specs.Turns.{SweepReady, SweptTo, TurnsOf, backAt, backTurn, frontAt, frontTurn};
+ghost use Rattle.table.specs.Turns.{SweepReady, SweptTo, Thinned, TurnsOf, backAt, backTurn, frontAt, frontTurn, keptTurn};
 ghost use Rattle.rules.specs.Store.{layoutInBounds};
 ghost use lib.ListN.{getD, length};
 ghost use mathlib.Core.Bool.{true};
@@ -44,6 +46,12 @@ pub struct Turns {
     pub front: [u16; HEIGHTS],
     pub back: [u16; HEIGHTS],
     pub top: usize,
+}
+
+// An aisle, and which cells of it supply nothing new.
+struct Lane {
+    aisle: Aisle,
+    same: Repeats,
 }
 
 // The state after a kind of action, for each of eight states.
@@ -127,6 +135,34 @@ fn turns_of(z: Layout, kind: usize, halves: usize) -> Turns
     Turns { front, back, top }
 }
 
+// A turn, unless that of the neighbouring height leaves the same demand and costs no more.
+fn kept_turn(same: bool, neighbour: u16, cost: u16) -> u16
+    ensures { λ r. ⌜ r ≡ keptTurn same neighbour cost ⌝ }
+{
+    if same & (neighbour <= cost) {
+        return NONE;
+    }
+    cost
+}
+
+// The turns without those that a shorter part replaces: one cell lower in front, one cell higher at the back.
+fn thin(t: Turns, same: Repeats) -> Turns
+    requires { ⌜ t .top < heights ⌝ }
+    ensures { λ r. ⌜ Thinned t same r ⌝ }
+{
+    let mut front = t.front;
+    let mut back = t.back;
+    let top = t.top;
+    let mut h = 0;
+    while h < top {
+        let next = h + 1;
+        front[next] = kept_turn(same.front[h], t.front[h], t.front[next]);
+        back[h] = kept_turn(same.back[h], t.back[next], t.back[h]);
+        h = next;
+    }
+    Turns { front, back, top }
+}
+
 // A row relaxed over a turn at height h, if there is one.
 fn relax_turn<'a>(
     row: &mut [u16],
@@ -175,22 +211,37 @@ fn relax_pass<'a>(
     after: &[u16],
     fronts: &'a [u16],
     backs: &'a [u16],
-    x: Aisle,
+    lane: Lane,
     pass: usize,
 )
-    requires { ⌜ AisleReady x (now fronts) (now backs) × (numbers ≤ length (now row)) × (numbers ≤ length (now after)) × (pass < 9) ⌝ }
-    ensures { λ r. ⌜ PassDone x (now (row .entry)) (now (row .exit)) (now (after .entry)) (now (fronts .entry)) (now (backs .entry)) (passKind pass) (passHalves pass) ⌝ }
+    requires { ⌜ LaneReady lane (now fronts) (now backs) × (numbers ≤ length (now row)) × (numbers ≤ length (now after)) × (pass < 9) ⌝ }
+    ensures { λ r. ⌜ PassDone (lane .aisle) (now (row .entry)) (now (row .exit)) (now (after .entry)) (now (fronts .entry)) (now (backs .entry)) (passKind pass) (passHalves pass) ⌝ }
 {
     let halves = pass / 6;
     let kind = pass - halves * 5;
+    let x = lane.aisle;
     let weight = x.weight;
     let steps = steps_of(x, kind, halves);
     if lives(steps) {
         let mut perm = [0u16; NUMBERS];
         permute(&mut perm, after, steps, weight);
-        let t = turns_of(x.layout, kind, halves);
+        let same = lane.same;
+        let t = thin(turns_of(x.layout, kind, halves), same);
         sweep(row, &perm, fronts, backs, t, weight);
     }
+}
+
+// An aisle with the cells that supply nothing new, by its maps.
+fn lane_of<'a>(x: Aisle, fronts: &'a [u16], backs: &'a [u16]) -> Lane
+    requires { ⌜ AisleReady x (now fronts) (now backs) ⌝ }
+    ensures { λ r. ⌜ (r .aisle ≡ x) × LaneReady r (now (fronts .entry)) (now (backs .entry)) ⌝ }
+{
+    let top = x.layout.cells + 1;
+    let weight = x.weight;
+    let front = repeats_of(fronts, top, weight);
+    let back = repeats_of(backs, top, weight);
+    let same = Repeats { front, back };
+    Lane { aisle: x, same }
 }
 
 // The number of passes under a policy.
@@ -207,10 +258,11 @@ pub fn fill_row<'a>(row: &mut [u16], after: &[u16], fronts: &'a [u16], backs: &'
 {
     let passes = passes_of(x.policy);
     let weight = x.weight;
+    let lane = lane_of(x, fronts, backs);
     fill_none(row, weight * STATES);
     let mut pass = 0;
     while pass < passes {
-        relax_pass(row, after, fronts, backs, x, pass);
+        relax_pass(row, after, fronts, backs, lane, pass);
         pass += 1;
     }
 }

@@ -7,3 +7,4 @@ pub mod candidates;
 pub mod filling;
 pub mod layers;
 pub mod passages;
+pub mod repeats;
