@@ -40,7 +40,8 @@ pub struct Aisle {
     pub tried: usize,
 }
 
-// What the turns of a kind of action cost, by the cell that the front and the back part reach: 65,535 where it has none.
+// What the turns of a kind of action cost, by the cell that the front and the back part reach: 65,535 where it has none,
+// or where a turn is left out.
 // `top` is the height of the back crossing.
 pub struct Turns {
     pub front: [u16; HEIGHTS],

@@ -46,7 +46,12 @@ relax-pass-requires c κs =
     let at-passes = at-lane .before in
     let at-start = at-passes .before .before .before .before .before in
     let r = at-start .pre in
-    (at-lane .lane-of .ensures .1, omega (arith, r .1, at-loop .loop .inv .1, at-fill .fill-none .ensures .1), r .2, omega (arith, at-passes .passes-of .ensures, passes-few (at-start .args .x .policy)))
+    let few = passes-few (at-start .args .x .policy) in (
+      at-lane .lane-of .ensures .1,
+      omega (arith, r .1, at-loop .loop .inv .1, at-fill .fill-none .ensures .1),
+      r .2,
+      omega (arith, at-passes .passes-of .ensures, few),
+    )
 
 add-pass : tie.Need-add-pass Inv-loop μ-loop
 add-pass c =
