@@ -16,7 +16,7 @@ pub struct Candidate {
 }
 
 // The length of an aisle.
-pub fn aisle_length(z: Layout) -> usize
+pub(crate) fn aisle_length(z: Layout) -> usize
     requires { ⌜ layoutInBounds z ≡ true ⌝ }
     ensures { λ r. ⌜ (r ≡ aisleLength z) × (r ≤ 810) ⌝ }
 {
@@ -24,7 +24,7 @@ pub fn aisle_length(z: Layout) -> usize
 }
 
 // The distance of a height from the front.
-pub fn position_of(z: Layout, k: usize) -> usize
+pub(crate) fn position_of(z: Layout, k: usize) -> usize
     requires { ⌜ layoutInBounds z ≡ true ⌝ }
     ensures { λ r. ⌜ (r ≡ position z k) × (r ≤ 810) ⌝ }
 {
@@ -38,7 +38,7 @@ pub fn position_of(z: Layout, k: usize) -> usize
 }
 
 // What the front part of a kind of action costs: there and back, or the whole aisle once or twice.
-pub fn front_cost(z: Layout, kind: usize, h: usize) -> usize
+pub(crate) fn front_cost(z: Layout, kind: usize, h: usize) -> usize
     requires { ⌜ layoutInBounds z ≡ true ⌝ }
     ensures { λ r. ⌜ (r ≡ frontCost z kind h) × (r ≤ 1620) ⌝ }
 {
@@ -52,7 +52,7 @@ pub fn front_cost(z: Layout, kind: usize, h: usize) -> usize
 }
 
 // What the back part costs: there and back, from the back crossing.
-pub fn back_cost(z: Layout, i: usize) -> usize
+pub(crate) fn back_cost(z: Layout, i: usize) -> usize
     requires { ⌜ layoutInBounds z ≡ true ⌝ }
     ensures { λ r. ⌜ (r ≡ backCost z i) × (r ≤ 1620) ⌝ }
 {
@@ -68,7 +68,7 @@ pub fn action_length(z: Layout, c: Candidate) -> usize
 }
 
 // Whether a front part keeps to the front half.
-pub fn front_half(z: Layout, k: usize) -> bool
+pub(crate) fn front_half(z: Layout, k: usize) -> bool
     requires { ⌜ layoutInBounds z ≡ true ⌝ }
     ensures { λ r. ⌜ r ≡ inFrontHalf z k ⌝ }
 {
@@ -76,7 +76,7 @@ pub fn front_half(z: Layout, k: usize) -> bool
 }
 
 // Whether a back part keeps to the back half.
-pub fn back_half(z: Layout, k: usize) -> bool
+pub(crate) fn back_half(z: Layout, k: usize) -> bool
     requires { ⌜ layoutInBounds z ≡ true ⌝ }
     ensures { λ r. ⌜ r ≡ inBackHalf z k ⌝ }
 {

@@ -253,7 +253,13 @@ fn passes_of(policy: usize) -> usize
 }
 
 // The row of an aisle: for each demand and state the least over all actions.
-pub fn fill_row<'a>(row: &mut [u16], after: &[u16], fronts: &'a [u16], backs: &'a [u16], x: Aisle)
+pub(crate) fn fill_row<'a>(
+    row: &mut [u16],
+    after: &[u16],
+    fronts: &'a [u16],
+    backs: &'a [u16],
+    x: Aisle,
+)
     requires { ⌜ AisleReady x (now fronts) (now backs) × (numbers ≤ length (now row)) × (numbers ≤ length (now after)) ⌝ }
     ensures { λ r. ⌜ RowFilled x (now (row .exit)) (now (after .entry)) (now (fronts .entry)) (now (backs .entry))
         × (length (now (row .exit)) ≡ length (now (row .entry))) × PastKept (x .weight) (now (row .entry)) (now (row .exit)) ⌝ }

@@ -7,4 +7,4 @@ pub mod candidates;
 pub mod filling;
 pub mod layers;
 pub mod passages;
-pub mod repeats;
+mod repeats;

@@ -30,7 +30,7 @@ fn same_rows(map: &[u16], a: usize, b: usize, weight: usize) -> bool
 }
 
 // For each height below the back crossing, whether the next row of a map repeats its row.
-pub fn repeats_of(map: &[u16], top: usize, weight: usize) -> [bool; HEIGHTS]
+pub(crate) fn repeats_of(map: &[u16], top: usize, weight: usize) -> [bool; HEIGHTS]
     requires { ⌜ (top < heights) × (weight ≤ demands) × (mapSize ≤ length (now map)) ⌝ }
     ensures { λ r. ⌜ RepeatsTo (now (map .entry)) weight r top ⌝ }
 {
