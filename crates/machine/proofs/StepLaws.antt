@@ -1,5 +1,5 @@
 -- The numbers of states and policies, and the steps by kind, are the machine's.
-use Prim.Native.Nat.{ℕ, _<_}
+use Prim.Native.Nat.{ℕ, _≤_, _<_}
 use native.Mathlib.Omega.{arith}
 use mathlib.Core.Path.{_≡_, refl}
 use mathlib.Core.Bool.{Bool, cond, _&&_, _||_}
@@ -62,3 +62,15 @@ by-kind Midpoint z (Gap h i) holds s = refl
 by-kind Composite z (Gap h i) holds s = refl
 by-kind policy z Once holds s = refl
 by-kind policy z Twice holds s = refl
+
+-- numbers of states are at most 8
+pub state-small : (s : State) → stateCode s ≤ 8
+state-small nothing = omega arith
+state-small closed = omega arith
+state-small atFront = omega arith
+state-small atBack = omega arith
+state-small odd = omega arith
+state-small joined = omega arith
+state-small split = omega arith
+state-small ending = omega arith
+state-small dead = omega arith

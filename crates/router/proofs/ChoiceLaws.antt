@@ -13,13 +13,13 @@ use Rattle.rules.specs.Plans.{backTreads, frontTreads}
 use Rattle.rules.specs.BestPlan.{actionsOf, passagesInOrder}
 use Rattle.optimum.specs.Routing.{sat}
 use Rattle.machine.specs.Steps.{passageOf}
-use Rattle.table.specs.declared.candidates.Candidate.{Candidate}
-use Rattle.table.specs.declared.layers.Aisle.{Aisle}
-use Rattle.table.specs.Candidates.{candidateOf, candidateLength, actionOf}
+use Rattle.aisles.specs.declared.candidates.Candidate.{Candidate}
+use Rattle.aisles.specs.declared.layers.Aisle.{Aisle}
+use Rattle.aisles.specs.Candidates.{candidateOf, candidateLength, actionOf}
 use Rattle.table.specs.Crossings.{throughPassage}
-use Rattle.table.specs.Layers.{AisleReady, leftCode, throughCandidate, throughAction}
-use Rattle.table.proofs.Geometry.{action-of-candidate}
-use Rattle.table.proofs.ActionRows.{ranked-fits, candidate-parts, step-small}
+use Rattle.aisles.specs.Layers.{AisleReady, leftCode, throughCandidate, throughAction}
+use Rattle.aisles.proofs.Geometry.{action-of-candidate}
+use Rattle.aisles.proofs.ActionRows.{ranked-fits, candidate-parts, step-small}
 use Rattle.table.proofs.PassageLaws.{passage-tried, tried-length}
 use Rattle.router.specs.declared.choices.At.{At}
 use Rattle.router.specs.declared.choices.Taken.{Taken}

@@ -5,7 +5,7 @@ use mathlib.Core.Path.{_≡_, refl}
 use Rattle.rules.specs.declared.Action.the-variants.{Twice}
 use Rattle.rules.specs.declared.Passage.the-variants.{P22}
 use Rattle.machine.specs.Steps.{passageOf}
-use Rattle.table.specs.Candidates.{actionOfParts}
+use Rattle.aisles.specs.Candidates.{actionOfParts}
 
 -- every kind from 5 on is TWICE
 pub last-action : (k h i : ℕ) → 5 ≤ k → actionOfParts k h i ≡ Twice

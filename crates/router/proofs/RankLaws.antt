@@ -10,7 +10,7 @@ use Rattle.rules.specs.declared.Action.{Action}
 use Rattle.rules.specs.declared.Action.the-variants.{Void, Bottom, Top, Gap, Once, Twice}
 use Rattle.rules.specs.Lists.{from}
 use Rattle.rules.specs.BestPlan.{downFrom, actionsOf}
-use Rattle.table.specs.Candidates.{gapsAt, gapsFrom}
+use Rattle.aisles.specs.Candidates.{gapsAt, gapsFrom}
 
 -- the numbers upwards and downwards: how many there are, and an action by each
 length-from : (a n : ℕ) → length (from a n) ≡ n

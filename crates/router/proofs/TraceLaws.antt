@@ -24,16 +24,15 @@ use Rattle.optimum.proofs.Choice.{first-agree, first-at-cong, first-at-holds}
 use Rattle.optimum.proofs.Radix.{radices-positive, gains-length, less-code}
 use Rattle.values.specs.declared.Stage.{Stage}
 use Rattle.machine.specs.States.{stateCode, stateOf}
-use Rattle.machine.proofs.StepLaws.{state-of-code}
+use Rattle.machine.proofs.StepLaws.{state-of-code, state-small}
 use Rattle.demand.specs.Maps.{MapsReady}
-use Rattle.table.specs.declared.layers.Aisle.{Aisle}
-use Rattle.table.specs.Candidates.{candidateOf}
+use Rattle.aisles.specs.declared.layers.Aisle.{Aisle}
+use Rattle.aisles.specs.Candidates.{candidateOf}
 use Rattle.rows.specs.Rows.{nextAt}
 use Rattle.table.specs.Crossings.{AfterFilled}
 use Rattle.table.specs.TableHolds.{aisleOf, values, AfterHolds}
-use Rattle.table.proofs.Geometry.{within}
+use Rattle.aisles.proofs.Geometry.{within}
 use Rattle.table.proofs.StepLaws.{cross-of, step-code}
-use Rattle.table.proofs.PassageLaws.{state-small}
 use Rattle.table.proofs.TableValues.{tried-passages, value-dead, below-weight, passage-value, after-value, left-code, through-value}
 use Rattle.router.specs.declared.choices.At.{At}
 use Rattle.router.specs.declared.choices.Taken.{Taken}

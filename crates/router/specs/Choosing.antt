@@ -10,12 +10,12 @@ use Rattle.rules.specs.BestPlan.{actionsOf, passagesInOrder}
 use Rattle.optimum.specs.Least.{firstAt}
 use Rattle.machine.specs.States.{stateCode, stateOf}
 use Rattle.machine.specs.Steps.{policyOf, crossOf}
-use Rattle.table.specs.declared.candidates.Candidate.{Candidate}
-use Rattle.table.specs.declared.layers.Aisle.{Aisle}
-use Rattle.table.specs.Candidates.{candidateOf}
+use Rattle.aisles.specs.declared.candidates.Candidate.{Candidate}
+use Rattle.aisles.specs.declared.layers.Aisle.{Aisle}
+use Rattle.aisles.specs.Candidates.{candidateOf}
 use Rattle.rows.specs.Rows.{numbers, nextAt}
 use Rattle.table.specs.Crossings.{throughPassage}
-use Rattle.table.specs.Layers.{AisleReady, stepCode, leftCode, throughAction}
+use Rattle.aisles.specs.Layers.{AisleReady, stepCode, leftCode, throughAction}
 use Rattle.router.specs.declared.choices.At.{At}
 use Rattle.router.specs.declared.choices.Taken.{Taken}
 use Rattle.router.specs.declared.choices.Crossed.{Crossed}

@@ -1,10 +1,10 @@
 // The actions of an aisle by rank, and what the numbers of actions and passages stand for.
+use aisles::candidates::Candidate;
 use rules::Action;
 use rules::Passage;
-use table::candidates::Candidate;
 ghost use Prim.Native.Nat.{_*_, _+_, _<_, _≤_};
 ghost use Rattle.machine.specs.Steps.{passageOf};
-ghost use Rattle.table.specs.Candidates.{actionOf, candidateOf, gapsFrom};
+ghost use Rattle.aisles.specs.Candidates.{actionOf, candidateOf, gapsFrom};
 ghost use Rattle.rules.specs.BestPlan.{actionsOf};
 ghost use Rattle.rules.specs.declared.Action.the-variants.{Void};
 ghost use lib.ListN.{getD, length};

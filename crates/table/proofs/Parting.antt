@@ -13,7 +13,7 @@ use Rattle.rules.specs.Refusals.{stockInBounds}
 use Rattle.optimum.specs.Demand.{supplyIn, gains, radices, lessCode}
 use Rattle.optimum.proofs.Radix.{radices-positive, gains-length}
 use Rattle.demand.proofs.Composition.{plus, Parted, gains-parted, less-code-plus}
-use Rattle.table.specs.Candidates.{candidateOf}
+use Rattle.aisles.specs.Candidates.{candidateOf}
 
 -- of two tests that never hold together
 parted-or : (b d : Bool) → (b ≡ true → d ≡ true → ⊥) → Parted (b || d) b d

@@ -18,8 +18,9 @@ use Rattle.optimum.specs.Least.{sumUpTo}
 use Rattle.optimum.specs.Routing.{noTour, sat, leastOf}
 use Rattle.optimum.proofs.Choice.{least-take}
 use Rattle.machine.specs.States.{stateCode, stateOf}
+use Rattle.machine.proofs.StepLaws.{state-small}
 use Rattle.machine.specs.Steps.{policyOf, passageOf, crossOf}
-use Rattle.table.specs.declared.layers.Aisle.{Aisle}
+use Rattle.aisles.specs.declared.layers.Aisle.{Aisle}
 use Rattle.rows.specs.Rows.{tab, nextAt, Permuted, RelaxedRow}
 use Rattle.table.specs.Crossings.{crossCode, throughPassage, leastOver, leastAfter, PassageTried, AfterFilled}
 use Rattle.demand.proofs.Filling.{below}
@@ -41,18 +42,6 @@ passage-at (suc (suc zero)) h = refl
 passage-at (suc (suc (suc zero))) h = refl
 passage-at (suc (suc (suc (suc zero)))) h = refl
 passage-at (suc (suc (suc (suc (suc p))))) h = absurd (omega arith)
-
--- numbers of states are at most 8
-pub state-small : (s : State) → stateCode s ≤ 8
-state-small nothing = omega arith
-state-small closed = omega arith
-state-small atFront = omega arith
-state-small atBack = omega arith
-state-small odd = omega arith
-state-small joined = omega arith
-state-small split = omega arith
-state-small ending = omega arith
-state-small dead = omega arith
 
 module _ (x : Aisle) (next : List ℕ) (s q : ℕ) where
   abbrev to : Passage → ℕ

@@ -14,10 +14,10 @@ use Rattle.rules.specs.Machine.{State, dead, actionPossible, actionStep, crossS
 use Rattle.machine.specs.States.{stateCode, stateOf}
 use Rattle.machine.specs.Steps.{policyOf, policyCode, kindCode, bit, crossOf}
 use Rattle.machine.proofs.StepLaws.{policy-of-code, by-kind}
-use Rattle.table.specs.Candidates.{candidateOf}
-use Rattle.table.specs.Layers.{stepCode}
+use Rattle.aisles.specs.Candidates.{candidateOf}
+use Rattle.aisles.specs.Layers.{stepCode}
 use Rattle.table.specs.TableHolds.{sideOf, flagOf, aisleOf}
-use Rattle.table.proofs.Geometry.{halves-of-candidate}
+use Rattle.aisles.proofs.Geometry.{halves-of-candidate}
 
 -- the numbers of tests stand for them
 bit-of-flag : (b : Bool) → bit (flagOf b) ≡ b

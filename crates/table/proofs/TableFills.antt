@@ -20,12 +20,12 @@ use Rattle.machine.proofs.StepLaws.{policy-code-below}
 use Rattle.demand.specs.Maps.{mapSize, MapsAsked, MapsReady}
 use Rattle.demand.proofs.Composition.{met-zero}
 use Rattle.table.specs.declared.filling.Order.{Order}
-use Rattle.table.specs.declared.layers.Aisle.{Aisle}
+use Rattle.aisles.specs.declared.layers.Aisle.{Aisle}
 use Rattle.rows.specs.Rows.{numbers}
-use Rattle.table.specs.Crossings.{InRange, AfterFilled}
-use Rattle.table.specs.Layers.{AisleReady, RowFilled}
+use Rattle.aisles.specs.Layers.{InRange, AisleReady, RowFilled}
+use Rattle.table.specs.Crossings.{AfterFilled}
 use Rattle.table.specs.TableHolds.{sideOf, flagOf, triedAt, OrderOf, aisleOf, RowHolds, AfterHolds, endRow}
-use Rattle.table.proofs.Geometry.{within}
+use Rattle.aisles.proofs.Geometry.{within}
 use Rattle.table.proofs.StepLaws.{flag-below, side-below}
 use Rattle.table.proofs.TableValues.{below-weight, after-value, row-value}
 

@@ -23,18 +23,17 @@ use Rattle.optimum.specs.Routing.{allActions, noTour, sat, leastOf}
 use Rattle.optimum.proofs.Choice.{least-cong, least-agree}
 use Rattle.optimum.proofs.Radix.{radices-positive, gains-length, count-weight, less-code, less-code-below}
 use Rattle.machine.specs.States.{stateCode, stateOf}
-use Rattle.table.specs.Candidates.{candidateOf}
+use Rattle.aisles.specs.Candidates.{candidateOf}
 use Rattle.rows.specs.Rows.{nextAt}
 use Rattle.table.specs.Crossings.{throughPassage, leastAfter, AfterFilled}
-use Rattle.table.specs.Layers.{leftCode, throughCandidate, throughAction, RowFilled}
+use Rattle.aisles.specs.Layers.{leftCode, throughCandidate, throughAction, RowFilled}
 use Rattle.demand.specs.Maps.{MapsReady}
 use Rattle.table.specs.TableHolds.{aisleOf, triedAt, values, behind, RowHolds, AfterHolds}
-use Rattle.machine.proofs.StepLaws.{state-of-code}
+use Rattle.machine.proofs.StepLaws.{state-of-code, state-small}
 use Rattle.table.proofs.StepLaws.{cross-of, step-code}
-use Rattle.table.proofs.PassageLaws.{state-small}
-use Rattle.table.proofs.ActionRows.{candidate-parts}
+use Rattle.aisles.proofs.ActionRows.{candidate-parts}
 use Rattle.table.proofs.Parting.{less-by-parts}
-use Rattle.table.proofs.Geometry.{length-of-candidate}
+use Rattle.aisles.proofs.Geometry.{length-of-candidate}
 
 -- the least over ways none of which leads on
 least-none : {A : Type 0} (f : A → ℕ) → ((x : A) → f x ≡ noTour) → (xs : List A) → leastOf f xs ≡ noTour

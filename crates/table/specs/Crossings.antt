@@ -2,27 +2,17 @@
 use Prim.Native.Nat.{ℕ, _+_, _*_, _≤_, _<_, min}
 use mathlib.Core.Path.{_≡_}
 use mathlib.Core.List.{List}
-use mathlib.Core.Bool.{true}
 use lib.ListN.{length, getD, take}
 use Rattle.rules.specs.declared.Passage.{Passage}
-use Rattle.rules.specs.Store.{layoutInBounds}
 use Rattle.rules.specs.Plans.{backTreads, frontTreads}
 use Rattle.rules.specs.BestPlan.{passagesInOrder}
 use Rattle.optimum.specs.Routing.{sat, leastOf}
 use Rattle.machine.specs.States.{stateCode, stateOf}
 use Rattle.machine.specs.Steps.{policyOf, passageOf, crossOf}
-use Rattle.table.specs.declared.layers.Aisle.{Aisle}
+use Rattle.aisles.specs.declared.layers.Aisle.{Aisle}
+use Rattle.aisles.specs.Layers.{InRange}
 use Rattle.demand.specs.Digits.{demands}
 use Rattle.rows.specs.Rows.{states, tab, nextAt}
-
--- an aisle's numbers are in range
-pub record InRange (x : Aisle) : Type 0 where
-  pub bounds : layoutInBounds (x .layout) ≡ true
-  pub policy-below : x .policy < 5
-  pub holds-below : x .holds < 2
-  pub small : x .weight ≤ demands
-  pub side-below : x .side < 3
-  pub few : x .tried ≤ 5
 
 -- the number of the state after a passage behind the aisle, both by number
 unfoldable pub crossCode : Aisle → ℕ → ℕ → ℕ

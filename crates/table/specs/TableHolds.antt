@@ -16,9 +16,9 @@ use Rattle.machine.specs.Steps.{policyCode}
 use Rattle.values.specs.Shelves.{ShelfOf}
 use Rattle.demand.specs.Digits.{DigitsOf}
 use Rattle.table.specs.declared.filling.Order.{Order}
-use Rattle.table.specs.declared.layers.Aisle.{Aisle}
+use Rattle.aisles.specs.declared.layers.Aisle.{Aisle}
 use Rattle.rows.specs.Rows.{states, numbers, workArea, tab, nextAt}
-use Rattle.table.specs.Crossings.{InRange}
+use Rattle.aisles.specs.Layers.{InRange}
 
 -- where aisle j lies: left of the depot (0), at it (1) or right of it (2)
 unfoldable pub sideOf : ℕ → ℕ → ℕ

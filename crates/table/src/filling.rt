@@ -1,7 +1,7 @@
 // The table of an order: its rows in the work area, from the last aisle to the first.
-use crate::layers::Aisle;
-use crate::layers::fill_row;
 use crate::passages::fill_after;
+use aisles::layers::Aisle;
+use aisles::layers::fill_row;
 use demand::digits::Digits;
 use demand::maps::MAP;
 use demand::maps::fill_maps;

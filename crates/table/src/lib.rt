@@ -3,8 +3,5 @@
 // there no allowed plan serves the list. Places of a row past the last demand mean nothing.
 // The states have the numbers of machine/src/lib.rt: 0 nothing, 1 closed, 2 atFront, 3 atBack, 4 odd, 5 joined, 6 split, 7 ending,
 // 8 dead. A row has no place for 8, whose value is 65,535.
-pub mod candidates;
 pub mod filling;
-pub mod layers;
 pub mod passages;
-mod repeats;

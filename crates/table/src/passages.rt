@@ -1,5 +1,5 @@
 // The row behind the actions of an aisle: the ways on over each passage.
-use crate::layers::Aisle;
+use aisles::layers::Aisle;
 use demand::digits::DEMANDS;
 use machine::passage_step;
 use rows::NUMBERS;
@@ -12,7 +12,8 @@ ghost use Prim.Native.Nat.{_*_, _+_, _<_, _≤_, ℕ};
 ghost use Rattle.demand.specs.Digits.{demands};
 ghost use Rattle.rows.specs.Rows.{PastKept, states};
 ghost use Rattle.machine.specs.Steps.{passageOf};
-ghost use Rattle.table.specs.Crossings.{AfterFilled, CrossingReady, InRange, PassageTried, crossCode};
+ghost use Rattle.aisles.specs.Layers.{InRange};
+ghost use Rattle.table.specs.Crossings.{AfterFilled, CrossingReady, PassageTried, crossCode};
 ghost use Rattle.rules.specs.Plans.{backTreads, frontTreads};
 ghost use lib.ListN.{getD, length};
 ghost use mathlib.Core.Path.{_≡_};

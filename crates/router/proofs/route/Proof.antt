@@ -8,7 +8,7 @@ use Rattle.rules.specs.Refusals.{weight}
 use Rattle.optimum.specs.Demand.{radices, demandOf}
 use Rattle.values.specs.Values.{jobOf}
 use Rattle.table.specs.TableHolds.{values}
-use Rattle.table.proofs.Geometry.{within}
+use Rattle.aisles.proofs.Geometry.{within}
 use Rattle.router.proofs.TraceEnds.{start-length}
 use Rattle.router.proofs.route.Statement.{statement}
 use Rattle.router.proofs.route.Tie as tie

@@ -6,7 +6,7 @@ use mathlib.Core.Path.{sym, _∙_}
 use borrow.Author.Count.{below-more}
 use Rattle.rules.specs.BestPlan.{actionsOf}
 use Rattle.rules.specs.declared.Action.the-variants.{Void}
-use Rattle.table.proofs.Geometry.{within}
+use Rattle.aisles.proofs.Geometry.{within}
 use Rattle.router.specs.Choosing.{wayOver}
 use Rattle.router.proofs.FirstRanks.{NoneFrom, rank-found, rank-none}
 use Rattle.router.proofs.choices.choose_action.Statement.{statement}

@@ -3,7 +3,7 @@ use borrow.Author.Needs.{needs}
 use Prim.Native.Nat.{_<_}
 use native.Mathlib.Omega.{arith}
 use denote.Ref.{now}
-use Rattle.table.proofs.Geometry.{within}
+use Rattle.aisles.proofs.Geometry.{within}
 use Rattle.router.specs.Choosing.{OfAisle}
 use Rattle.router.proofs.ChoiceLaws.{ranked, ranked-candidate, step-lands, way-over}
 use Rattle.router.proofs.choices.over.Statement.{statement}

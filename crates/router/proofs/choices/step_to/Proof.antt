@@ -8,8 +8,8 @@ use lib.ListN.{getD}
 use denote.Ref.{now}
 use Rattle.machine.specs.States.{stateCode, stateOf}
 use Rattle.machine.specs.Steps.{policyOf, sampleAction, bit, stepOf}
-use Rattle.table.specs.Layers.{stepCode, leftCode}
-use Rattle.table.proofs.Geometry.{within}
+use Rattle.aisles.specs.Layers.{stepCode, leftCode}
+use Rattle.aisles.proofs.Geometry.{within}
 use Rattle.router.specs.declared.choices.At.{At}
 use Rattle.router.proofs.choices.step_to.Statement.{statement}
 use Rattle.router.proofs.choices.step_to.Tie as tie

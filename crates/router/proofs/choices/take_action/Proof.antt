@@ -4,7 +4,7 @@ use native.Mathlib.Omega.{arith}
 use lib.ListN.{length}
 use denote.Ref.{now}
 use Rattle.rules.specs.BestPlan.{actionsOf}
-use Rattle.table.proofs.Geometry.{within}
+use Rattle.aisles.proofs.Geometry.{within}
 use Rattle.router.specs.Choosing.{OfAisle}
 use Rattle.router.proofs.FirstRanks.{rank-within}
 use Rattle.router.proofs.ChoiceLaws.{ranked-candidate, step-lands, action-taken}

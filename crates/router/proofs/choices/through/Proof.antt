@@ -4,7 +4,7 @@ use native.Mathlib.Omega.{arith}
 use mathlib.Core.Path.{ap}
 use denote.Ref.{now}
 use Rattle.machine.specs.Steps.{passageOf}
-use Rattle.table.proofs.Geometry.{within}
+use Rattle.aisles.proofs.Geometry.{within}
 use Rattle.router.specs.declared.choices.At.{At}
 use Rattle.router.proofs.ChoiceLaws.{way-on}
 use Rattle.router.proofs.choices.through.Statement.{statement}

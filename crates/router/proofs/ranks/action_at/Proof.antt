@@ -3,8 +3,8 @@ use native.Mathlib.Omega.{arith}
 use Prim.Native.Nat.{ℕ}
 use mathlib.Core.Path.{refl, sym, _∙_, ap}
 use Rattle.router.proofs.RankLaws.{rank-bottom, rank-top, rank-gap, ranks-length}
-use Rattle.table.specs.declared.candidates.Candidate.{Candidate}
-use Rattle.table.specs.Candidates.{candidateOf}
+use Rattle.aisles.specs.declared.candidates.Candidate.{Candidate}
+use Rattle.aisles.specs.Candidates.{candidateOf}
 use native.Mathlib.Numerals.{add-one}
 use Rattle.rules.specs.BestPlan.{actionsOf}
 use Rattle.rules.specs.declared.Action.the-variants.{Void}

@@ -2,8 +2,8 @@
 use native.Mathlib.Omega.{arith}
 use Prim.Native.Nat.{ℕ}
 use mathlib.Core.Path.{_≡_, sym, ap}
-use Rattle.table.specs.declared.candidates.Candidate.{Candidate}
-use Rattle.table.specs.Candidates.{actionOf, actionOfParts}
+use Rattle.aisles.specs.declared.candidates.Candidate.{Candidate}
+use Rattle.aisles.specs.Candidates.{actionOf, actionOfParts}
 use Rattle.router.proofs.Numbers.{last-action}
 use Rattle.router.proofs.ranks.action_of.Statement.{statement}
 use Rattle.router.proofs.ranks.action_of.Tie as tie

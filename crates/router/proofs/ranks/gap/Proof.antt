@@ -4,7 +4,7 @@ use native.Mathlib.Numerals.{add-one}
 use Prim.Native.Nat.{suc, _-_}
 use mathlib.Core.Path.{refl, sym, _∙_, ap}
 use Rattle.router.proofs.RankLaws.{GapLeft, gap-start, gap-next, gap-found, gap-once, gap-twice}
-use Rattle.table.specs.Candidates.{candidateOf}
+use Rattle.aisles.specs.Candidates.{candidateOf}
 use Rattle.router.proofs.ranks.gap.Statement.{statement}
 use Rattle.router.proofs.ranks.gap.Tie as tie
 

@@ -5,7 +5,7 @@ use native.Mathlib.Numerals.{add-one}
 use mathlib.Core.Path.{_≡_, refl, sym, subst}
 use Rattle.rules.specs.Jobs.{Job}
 use Rattle.table.specs.TableHolds.{OrderOf, TableFrom}
-use Rattle.table.proofs.Geometry.{within}
+use Rattle.aisles.proofs.Geometry.{within}
 use Rattle.table.proofs.TableFills.{order-aisles}
 use Rattle.router.specs.Tracing.{Traced}
 use Rattle.router.proofs.TraceEnds.{trace-start, trace-end}

@@ -4,7 +4,7 @@ use borrow.Author.Needs.{needs}
 use Prim.Native.Nat.{_≤_}
 use mathlib.Core.Path.{ap}
 use Rattle.rules.specs.declared.Layout.{Layout}
-use Rattle.table.proofs.Geometry.{within}
+use Rattle.aisles.proofs.Geometry.{within}
 use Rattle.table.proofs.TableFills.{order-aisles, order-few, aisle-is}
 use Rattle.table.proofs.filling.aisle_of.Statement.{statement}
 use Rattle.table.proofs.filling.aisle_of.Tie as tie

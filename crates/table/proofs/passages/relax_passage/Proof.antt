@@ -5,7 +5,7 @@ use mathlib.Core.Path.{sym, subst}
 use lib.ListN.{replicate}
 use borrow.Author.Needs.{needs}
 use Rattle.rows.specs.Rows.{LivesAs}
-use Rattle.table.proofs.Geometry.{within}
+use Rattle.aisles.proofs.Geometry.{within}
 use Rattle.table.proofs.PassageLaws.{plain-at, passage-relaxed, passage-skipped}
 use Rattle.table.proofs.passages.relax_passage.Statement.{statement}
 use Rattle.table.proofs.passages.relax_passage.Tie as tie

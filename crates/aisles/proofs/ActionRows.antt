@@ -1,0 +1,109 @@
+-- The ways over the actions of an aisle.
+use Prim.Native.Nat.{ℕ, zero, suc, _≤_, _<_}
+use native.Mathlib.Omega.{arith}
+use mathlib.Core.Path.{_≡_, refl, sym, _∙_, ap}
+use mathlib.Core.Logic.{_⊎_, inl, inr}
+use mathlib.Core.List.{List, [], _∷_, List·Memᴰ, List·Memᴰ·head, List·Memᴰ·tail}
+use mathlib.Core.Bool.{Bool, true, false}
+use lib.ListN.{length, getD}
+use borrow.Author.Tests.{le-ltb}
+use Rattle.rules.specs.declared.Action.{Action}
+use Rattle.rules.specs.declared.Action.the-variants.{Void, Bottom, Top, Gap, Once, Twice}
+use Rattle.rules.specs.Plans.{Fits}
+use Rattle.rules.specs.BestPlan.{actionsOf}
+use Rattle.rules.specs.Machine.{State, dead}
+use Rattle.rules.proofs.Enumeration.{actions-sound}
+use Rattle.optimum.specs.Least.{sumUpTo}
+use Rattle.optimum.specs.Routing.{sat}
+use Rattle.aisles.specs.declared.candidates.Candidate.{Candidate}
+use Rattle.aisles.specs.declared.layers.Aisle.{Aisle}
+use Rattle.aisles.specs.Candidates.{candidateOf, candidateLength, candidateHalves}
+use Rattle.machine.specs.States.{stateCode, stateOf}
+use Rattle.machine.specs.Steps.{policyOf, sampleAction, bit, stepOf}
+use Rattle.rows.specs.Rows.{nextAt}
+use Rattle.aisles.specs.Layers.{stepWith, stepCode, leftCode, throughCandidate, throughAction, wayWith}
+use Rattle.machine.proofs.StepLaws.{state-small}
+use Rattle.aisles.proofs.HalfSteps.{step-no, step-same}
+
+member-at : {A : Type 0} (d : A) (xs : List A) (k : ℕ) → k < length xs → List·Memᴰ (getD xs k d) xs
+member-at d [] k h = absurd (omega arith)
+member-at d (x ∷ xs) zero h = List·Memᴰ·head refl
+member-at d (x ∷ xs) (suc k) h = List·Memᴰ·tail (member-at d xs k (omega arith))
+
+-- an action of a rank fits the aisle
+pub ranked-fits : (cells k : ℕ) → k < length (actionsOf cells) → Fits cells (getD (actionsOf cells) k Void)
+ranked-fits cells k h = actions-sound cells (getD (actionsOf cells) k Void) (member-at Void (actionsOf cells) k h)
+
+-- the parts of a candidate are within the aisle
+pub record Parts (cells kind front back : ℕ) : Type 0 where
+  pub kind-below : kind < 6
+  pub front-within : front ≤ cells
+  pub back-low : 1 ≤ back
+  pub back-high : back ≤ suc cells
+
+pub candidate-parts : (cells : ℕ) (a : Action) → Fits cells a → Parts cells (candidateOf cells a .kind) (candidateOf cells a .front) (candidateOf cells a .back)
+candidate-parts cells Void f = record { kind-below = omega arith; front-within = omega arith; back-low = omega arith; back-high = omega arith }
+candidate-parts cells (Bottom i) f = record { kind-below = omega arith; front-within = omega (arith, f .1); back-low = omega arith; back-high = omega arith }
+candidate-parts cells (Top i) f = record { kind-below = omega arith; front-within = omega arith; back-low = f .0; back-high = omega (arith, f .1) }
+candidate-parts cells (Gap h i) f = record { kind-below = omega arith; front-within = omega (arith, f .1, f .2); back-low = omega (arith, f .1); back-high = omega (arith, f .2) }
+candidate-parts cells Once f = record { kind-below = omega arith; front-within = omega arith; back-low = omega arith; back-high = omega arith }
+candidate-parts cells Twice f = record { kind-below = omega arith; front-within = omega arith; back-low = omega arith; back-high = omega arith }
+
+-- the way over an action is that with the answer of its own half rule
+pub way-is : (x : Aisle) (after fronts backs : List ℕ) (s q : ℕ) (a : Action)
+    → throughAction x (nextAt after) fronts backs s q a ≡ wayWith x after fronts backs (candidateHalves (x .layout) (candidateOf (x .layout .cells) a)) s q a
+unfolding throughAction throughCandidate stepCode stepWith wayWith
+way-is x after fronts backs s q a = refl
+
+module _ (x : Aisle) (after fronts backs : List ℕ) (s q : ℕ) where
+  abbrev through : Action → ℕ
+  through a = throughAction x (nextAt after) fronts backs s q a
+
+  abbrev way : Bool → Action → ℕ
+  way b a = wayWith x after fronts backs b s q a
+
+  -- no way leads on from the dead state
+  pub way-dead : (b : Bool) (a : Action) → 8 ≤ stepWith x (candidateOf (x .layout .cells) a .kind) b s → way b a ≡ 65535
+  unfolding wayWith nextAt sumUpTo
+  way-dead b a h = rw (le-ltb (stepWith x (candidateOf (x .layout .cells) a .kind) b s) 8 h) (omega arith)
+
+  -- the answer 'no' leads where the answer 'yes' does, or nowhere
+  way-no : (a : Action) → (way false a ≡ way true a) ⊎ (way false a ≡ 65535)
+  unfolding wayWith stepWith
+  way-no a = go (step-no (policyOf (x .policy)) (sampleAction (candidateOf (x .layout .cells) a .kind)) (bit (x .holds)) (stateOf s))
+    where
+      to : Bool → State
+      to b = stepOf (policyOf (x .policy)) (sampleAction (candidateOf (x .layout .cells) a .kind)) (bit (x .holds)) b (stateOf s)
+
+      go : (to false ≡ to true) ⊎ (to false ≡ dead) → (way false a ≡ way true a) ⊎ (way false a ≡ 65535)
+      go (inl e) =
+          inl (ap (λ t. sat (candidateLength (x .layout) (candidateOf (x .layout .cells) a)) (nextAt after (stateCode t) (leftCode fronts backs (candidateOf (x .layout .cells) a) q))) e)
+      go (inr e) = inr (way-dead false a (omega (arith, ap stateCode e)))
+
+  -- so a way with the answer 'no' is the way over the action, or none
+  pub way-true : (a : Action) → (way false a ≡ through a) ⊎ (way false a ≡ 65535)
+  way-true a = go (candidateHalves (x .layout) (candidateOf (x .layout .cells) a)) refl (way-no a)
+    where
+      go : (b : Bool) → candidateHalves (x .layout) (candidateOf (x .layout .cells) a) ≡ b → (way false a ≡ way true a) ⊎ (way false a ≡ 65535) → (way false a ≡ through a) ⊎ (way false a ≡ 65535)
+      go true e (inl f) = inl (f ∙ sym (way-is x after fronts backs s q a ∙ ap (λ b. way b a) e))
+      go true e (inr f) = inr f
+      go false e f = inl (sym (way-is x after fronts backs s q a ∙ ap (λ b. way b a) e))
+
+  -- where the answer does not matter
+  pub way-any : (a : Action) → (x .policy ≡ 3 → ⊥) ⊎ ((candidateOf (x .layout .cells) a .kind ≡ 0) ⊎ (4 ≤ candidateOf (x .layout .cells) a .kind)) → way false a ≡ through a
+  unfolding wayWith stepWith
+  way-any a free = go (candidateHalves (x .layout) (candidateOf (x .layout .cells) a)) refl
+    where
+      same : way false a ≡ way true a
+      same =
+          ap (λ t. sat (candidateLength (x .layout) (candidateOf (x .layout .cells) a)) (nextAt after (stateCode t) (leftCode fronts backs (candidateOf (x .layout .cells) a) q)))
+          (step-same (x .policy) (candidateOf (x .layout .cells) a .kind) free (bit (x .holds)) (stateOf s))
+
+      go : (b : Bool) → candidateHalves (x .layout) (candidateOf (x .layout .cells) a) ≡ b → way false a ≡ through a
+      go true e = same ∙ sym (way-is x after fronts backs s q a ∙ ap (λ b. way b a) e)
+      go false e = sym (way-is x after fronts backs s q a ∙ ap (λ b. way b a) e)
+
+-- the numbers of states after a candidate are at most 8
+pub step-small : (x : Aisle) (c : Candidate) (s : ℕ) → stepCode x c s ≤ 8
+unfolding stepCode
+step-small x c s = state-small (stepOf (policyOf (x .policy)) (sampleAction (c .kind)) (bit (x .holds)) (candidateHalves (x .layout) c) (stateOf s))

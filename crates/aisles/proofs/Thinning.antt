@@ -1,0 +1,179 @@
+-- A turn whose row repeats that of its neighbour can be left out: the neighbour's way is no longer.
+use Prim.Native.Nat.{ℕ, zero, suc, _+_, _*_, _-_, _≤_, _<_}
+use native.Mathlib.Omega.{arith}
+use native.Mathlib.Nat.{eq-or-lt-of-le, le-trans}
+use native.Mathlib.Numerals.{add-one}
+use mathlib.Core.Path.{_≡_, refl, sym, _∙_, ap, ap₂, subst}
+use mathlib.Core.Logic.{_⊎_, inl, inr, ⊎-elim}
+use mathlib.Core.List.{List}
+use mathlib.Core.Bool.{Bool, true, false, cond, _&&_, and-eq-true-iff}
+use lib.Dec.{leb, eqb}
+use lib.ListN.{length, getD, set}
+use lib.Seq.{getD-set-same, getD-set-other}
+use borrow.Author.Tests.{leb-true, eqb-true, eqb-false}
+use Rattle.optimum.specs.Least.{sumUpTo}
+use Rattle.optimum.specs.Routing.{sat}
+use Rattle.demand.specs.Maps.{entry}
+use Rattle.demand.proofs.Filling.{below}
+use Rattle.rows.specs.Rows.{tab}
+use Rattle.aisles.specs.declared.layers.Turns.{Turns}
+use Rattle.aisles.specs.declared.repeats.Repeats.{Repeats}
+use Rattle.aisles.specs.Repeating.{Agree, RepeatsTo}
+use Rattle.aisles.specs.Turns.{keptTurn, Thinned, turnWay, SweepReady, SweptTo}
+
+-- two rows of a map, compared at one more demand
+pub agree-one : (map : List ℕ) (a b n : ℕ) (same : Bool) → Agree map a b n same → Agree map a b (n + 1) (same && eqb (entry map a n) (entry map b n))
+agree-one map a b n false (q, l, d) = (q, omega arith, d)
+agree-one map a b n true agreed = go (eqb (entry map a n) (entry map b n)) refl
+  where
+    go : (e : Bool) → eqb (entry map a n) (entry map b n) ≡ e → Agree map a b (n + 1) e
+    go true e =
+        λ q l. ⊎-elim (agreed q) (λ p. subst (λ k. entry map a k ≡ entry map b k) (sym p) (eqb-true (entry map a n) (entry map b n) e)) (below q n l)
+    go false e = (n, omega arith, eqb-false (entry map a n) (entry map b n) e)
+
+-- one more height whose next row is compared
+pub repeats-one : (map : List ℕ) (weight : ℕ) (same : List Bool) (n : ℕ) (b : Bool) → n < length same → RepeatsTo map weight same n
+    → Agree map n (n + 1) weight b → RepeatsTo map weight (set same n b) (n + 1)
+repeats-one map weight same n b in-list done agreed h l =
+    ⊎-elim (λ m. subst (Agree map h (h + 1) weight) (sym (getD-set-other same n h b false (λ p. omega arith))) (done h m))
+    (λ p. subst (λ k. Agree map k (k + 1) weight (getD (set same n b) k false)) (sym p) here)
+    (below h n l)
+  where
+    here : Agree map n (n + 1) weight (getD (set same n b) n false)
+    here = subst (Agree map n (n + 1) weight) (sym (getD-set-same same n b false in-list)) agreed
+
+-- one more entry of a list that is filled from place 1 on
+pub filled-next : (f : ℕ → ℕ) (xs : List ℕ) (i v : ℕ) → i + 1 < length xs → ((k : ℕ) → k < i → getD xs (k + 1) 0 ≡ f k) → v ≡ f i
+    → (k : ℕ) → k < i + 1 → getD (set xs (i + 1) v) (k + 1) 0 ≡ f k
+filled-next f xs i v in-list filled e k h =
+    ⊎-elim (λ l. getD-set-other xs (i + 1) (k + 1) v 0 (λ p. omega arith) ∙ filled k l)
+    (λ p. ap (λ n. getD (set xs (i + 1) v) (n + 1) 0) p ∙ getD-set-same xs (i + 1) v 0 in-list ∙ e ∙ ap f (sym p))
+    (below k i h)
+
+-- a way to the same value that costs no more is no longer
+sat-less : (a b u v : ℕ) → a ≤ b → u ≡ v → sat a u ≤ sat b v
+unfolding sumUpTo
+sat-less a b u v l e = omega arith
+
+-- a turn is kept, or left out where its neighbour leaves the same demand and costs no more
+abbrev Kept : List ℕ → ℕ → List ℕ → List ℕ → ℕ → ℕ → Type 0
+Kept map weight costs kept h near =
+    (getD kept h 0 ≡ getD costs h 0)
+    ⊎ ((getD kept h 0 ≡ 65535) × (getD costs near 0 ≤ getD costs h 0) × ((q : ℕ) → q < weight → entry map near q ≡ entry map h q))
+
+kept-or-out : (map : List ℕ) (weight : ℕ) (costs kept : List ℕ) (h near : ℕ) (same : Bool)
+    → getD kept h 0 ≡ keptTurn same (getD costs near 0) (getD costs h 0) → (same ≡ true → (q : ℕ) → q < weight → entry map near q ≡ entry map h q)
+    → Kept map weight costs kept h near
+unfolding keptTurn
+kept-or-out map weight costs kept h near same e agreed = go (same && leb (getD costs near 0) (getD costs h 0)) refl
+  where
+    go : (b : Bool) → (same && leb (getD costs near 0) (getD costs h 0)) ≡ b → Kept map weight costs kept h near
+    go false p = inl (e ∙ ap (λ b. cond b 65535 (getD costs h 0)) p)
+    go true p =
+        let both = and-eq-true-iff same (leb (getD costs near 0) (getD costs h 0)) .0 p in
+        inr (e ∙ ap (λ b. cond b 65535 (getD costs h 0)) p, leb-true (getD costs near 0) (getD costs h 0) (both .1), agreed (both .0))
+
+kept-or-none : (map : List ℕ) (weight : ℕ) (costs kept : List ℕ) (h near : ℕ) → Kept map weight costs kept h near
+    → (getD kept h 0 ≡ getD costs h 0) ⊎ (getD kept h 0 ≡ 65535)
+kept-or-none map weight costs kept h near k = ⊎-elim (λ p. inl p) (λ n. inr (n .0)) k
+
+-- a row that is swept over the turns that are kept is swept over all turns
+module _ (row row′ perm fronts backs : List ℕ) (weight : ℕ) (t : Turns) (same : Repeats) (r : Turns) (thin : Thinned t same r)
+    (ready : SweepReady row perm fronts backs (t .top) weight)
+    (front-same : RepeatsTo fronts weight (same .front) (t .top)) (back-same : RepeatsTo backs weight (same .back) (t .top))
+    (fits : (k : ℕ) → getD row k 0 < 65536) (swept : SweptTo row row′ perm fronts backs (r .front) (r .back) (r .top) weight 0) where
+  front-kept : (h : ℕ) → suc h ≤ t .top → Kept fronts weight (t .front) (r .front) (suc h) h
+  front-kept h l =
+      subst (λ n. Kept fronts weight (t .front) (r .front) n h) (add-one h)
+      (kept-or-out fronts weight (t .front) (r .front) (h + 1) h (getD (same .front) h false) (thin .front h l)
+      (λ e. subst (Agree fronts h (h + 1) weight) e (front-same h l)))
+
+  back-kept : (i : ℕ) → i < t .top → Kept backs weight (t .back) (r .back) i (i + 1)
+  back-kept i l =
+      kept-or-out backs weight (t .back) (r .back) i (i + 1) (getD (same .back) i false) (thin .back i l)
+      (λ e q m. sym (subst (Agree backs i (i + 1) weight) e (back-same i l) q m))
+
+  -- the costs that are kept are those of the turns, or none
+  front-or-none : (h : ℕ) → h ≤ t .top → (getD (r .front) h 0 ≡ getD (t .front) h 0) ⊎ (getD (r .front) h 0 ≡ 65535)
+  front-or-none zero l = inl (thin .first)
+  front-or-none (suc h) l = kept-or-none fronts weight (t .front) (r .front) (suc h) h (front-kept h l)
+
+  back-or-none : (i : ℕ) → i ≤ t .top → (getD (r .back) i 0 ≡ getD (t .back) i 0) ⊎ (getD (r .back) i 0 ≡ 65535)
+  back-or-none i l =
+      ⊎-elim (λ p. inl (subst (λ k. getD (r .back) k 0 ≡ getD (t .back) k 0) (sym p) (thin .last)))
+      (λ p. kept-or-none backs weight (t .back) (r .back) i (i + 1) (back-kept i p))
+      (eq-or-lt-of-le l)
+
+  module _ (s q : ℕ) (l : s < 8) (m : q < weight) where
+    abbrev way : List ℕ → List ℕ → ℕ → ℕ → ℕ
+    way fc bc a i = turnWay perm fronts backs fc bc s q a i
+
+    -- the value behind a pair of turns
+    abbrev behind : ℕ → ℕ → ℕ
+    behind a i = tab perm s (entry backs i (entry fronts a q))
+
+    -- no way over a front turn that is kept and any back turn is shorter: go up to a back turn that is kept
+    low-kept : (a i : ℕ) → a < i → i ≤ t .top → getD (r .back) i 0 ≡ getD (t .back) i 0 → tab row′ s q ≤ way (r .front) (t .back) a i
+    low-kept a i o h e =
+        subst (λ c. tab row′ s q ≤ sat (getD (r .front) a 0 + c) (behind a i)) e (swept .low s q a i l m (omega arith) o (omega (arith, thin .top)))
+
+    low-back : (n a i : ℕ) → i + n ≡ t .top → a < i → tab row′ s q ≤ way (r .front) (t .back) a i
+    low-back zero a i e o =
+        low-kept a i o (omega arith) (subst (λ k. getD (r .back) k 0 ≡ getD (t .back) k 0) (omega arith) (thin .last))
+    low-back (suc n) a i e o = go (low-back n a (i + 1) (omega arith) (omega arith)) (back-kept i (omega arith))
+      where
+        go : tab row′ s q ≤ way (r .front) (t .back) a (i + 1) → Kept backs weight (t .back) (r .back) i (i + 1) → tab row′ s q ≤ way (r .front) (t .back) a i
+        go higher (inl p) = low-kept a i o (omega arith) p
+        go higher (inr (none, cost, agreed)) =
+            let y = entry fronts a q in
+            let less = ap (tab perm s) (agreed y (ready .front-below a q (omega arith) m)) in
+            le-trans higher (sat-less (getD (r .front) a 0 + getD (t .back) (i + 1) 0) (getD (r .front) a 0 + getD (t .back) i 0) (behind a (i + 1)) (behind a i) (omega arith) less)
+
+    -- nor over any front turn: go down to one that is kept
+    low-any : (a i : ℕ) → a < i → i ≤ t .top → getD (r .front) a 0 ≡ getD (t .front) a 0 → tab row′ s q ≤ way (t .front) (t .back) a i
+    low-any a i o h e =
+        subst (λ c. tab row′ s q ≤ sat (c + getD (t .back) i 0) (behind a i)) e (low-back (t .top - i) a i (omega arith) o)
+
+    low : (a i : ℕ) → a < i → i ≤ t .top → tab row′ s q ≤ way (t .front) (t .back) a i
+    low zero i o h = low-any zero i o h (thin .first)
+    low (suc a) i o h = go (low a i (omega arith) h) (front-kept a (omega arith))
+      where
+        go : tab row′ s q ≤ way (t .front) (t .back) a i → Kept fronts weight (t .front) (r .front) (suc a) a → tab row′ s q ≤ way (t .front) (t .back) (suc a) i
+        go lower (inl p) = low-any (suc a) i o h p
+        go lower (inr (none, cost, agreed)) =
+            let less = ap (λ y. tab perm s (entry backs i y)) (agreed q m) in
+            le-trans lower (sat-less (getD (t .front) a 0 + getD (t .back) i 0) (getD (t .front) (suc a) 0 + getD (t .back) i 0) (behind a i) (behind (suc a) i) (omega arith) less)
+
+    -- a number that changed is the way over two turns that are kept
+    abbrev One : Type 0
+    One = (tab row′ s q ≡ tab row s q) ⊎ ((a : ℕ) × (i : ℕ) × (0 ≤ a) × (a < i) × (i ≤ t .top) × (tab row′ s q ≡ way (t .front) (t .back) a i))
+
+    one : One
+    unfolding sumUpTo
+    one = go (swept .one s q l m)
+      where
+        -- 'none' is no shorter than what was there
+        still : tab row′ s q ≡ 65535 → One
+        still e = inl (omega (arith, swept .less s q l m, fits (q * 8 + s)))
+
+        pick : (a i : ℕ) → a < i → i ≤ t .top → tab row′ s q ≡ way (r .front) (r .back) a i
+            → (getD (r .front) a 0 ≡ getD (t .front) a 0) ⊎ (getD (r .front) a 0 ≡ 65535) → (getD (r .back) i 0 ≡ getD (t .back) i 0) ⊎ (getD (r .back) i 0 ≡ 65535) → One
+        pick a i o h e (inl u) (inl v) = inr (a, i, omega arith, o, h, e ∙ ap₂ (λ f b. sat (f + b) (behind a i)) u v)
+        pick a i o h e (inr u) v = still (omega (arith, e, u))
+        pick a i o h e (inl u) (inr v) = still (omega (arith, e, v))
+
+        go : (tab row′ s q ≡ tab row s q) ⊎ ((a : ℕ) × (i : ℕ) × (0 ≤ a) × (a < i) × (i ≤ r .top) × (tab row′ s q ≡ way (r .front) (r .back) a i)) → One
+        go (inl e) = inl e
+        go (inr (a, i, z, o, h, e)) =
+            let high : i ≤ t .top = omega (arith, thin .top) in
+            pick a i o high e (front-or-none a (omega arith)) (back-or-none i high)
+
+  pub swept-thin : SweptTo row row′ perm fronts backs (t .front) (t .back) (t .top) weight 0
+  swept-thin =
+      record {
+        kept = swept .kept;
+        low = λ s q a i l m z o h. low s q l m a i o h;
+        less = swept .less;
+        one = one;
+        rest = swept .rest;
+      }
