@@ -8,6 +8,7 @@ use crate::repeats::repeats_of;
 use demand::digits::DEMANDS;
 use demand::maps::HEIGHTS;
 use machine::action_step;
+use machine::asks_between;
 use rows::NONE;
 use rows::NUMBERS;
 use rows::STATES;
@@ -244,11 +245,12 @@ fn lane_of<'a>(x: Aisle, fronts: &'a [u16], backs: &'a [u16]) -> Lane
     Lane { aisle: x, same }
 }
 
-// The number of passes under a policy.
+// The number of passes under a policy: the last three where its automaton asks the test for aisles between.
 fn passes_of(policy: usize) -> usize
+    requires { ⌜ policy < 5 ⌝ }
     ensures { λ r. ⌜ r ≡ passesOf policy ⌝ }
 {
-    if policy == 3 { 9 } else { 6 }
+    if asks_between(policy) { 9 } else { 6 }
 }
 
 // The row of an aisle: for each demand and state the least over all actions.

@@ -122,3 +122,12 @@ automaton-of Return = (omega arith, λ b a s. refl)
 automaton-of Traversal = (omega arith, λ b a s. refl)
 automaton-of Midpoint = (omega arith, λ b a s. refl)
 automaton-of Composite = (omega arith, λ b a s. refl)
+
+-- the digit of the automaton that asks the test for aisles between
+pub between-mark : (policy : Policy) → eqb (policyMark policy 13) 50 ≡ eqb (automatonOf policy) 2
+unfolding policyMark
+between-mark Exact = refl
+between-mark Return = refl
+between-mark Traversal = refl
+between-mark Midpoint = refl
+between-mark Composite = refl

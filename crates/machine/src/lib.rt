@@ -9,11 +9,12 @@
 ghost use mathlib.Core.Path.{_≡_};
 ghost use mathlib.Core.Bool.{_&&_, _||_};
 ghost use Prim.Native.Nat.{_+_, _*_, _≤_, _<_};
+ghost use lib.Dec.{eqb};
 ghost use Rattle.rules.specs.Policies.{actionNamed, passageNamed};
 ghost use Rattle.rules.specs.Machine.{mayEnter, isVoid};
 ghost use Rattle.machine.specs.States.{stateCode, stateOf};
 ghost use Rattle.machine.specs.Steps.{policyOf, sampleAction, passageOf, bit, stepOf, crossOf};
-ghost use Rattle.machine.specs.Tables.{automatonBy, policyMark, actionMark, passageMark, decided};
+ghost use Rattle.machine.specs.Tables.{automatonOf, automatonBy, policyMark, actionMark, passageMark, decided};
 
 // The states that `decide` and the steps name.
 const ODD: usize = 4;
@@ -102,6 +103,14 @@ fn passable(policy: usize, passage: usize) -> bool
     ensures { λ r. ⌜ r ≡ passageNamed (policyOf policy) (passageOf passage) ⌝ }
 {
     policy_mark(policy, FIRST_PASSAGE + passage) != b'-'
+}
+
+// Whether the policy's automaton asks the test for aisles between.
+pub fn asks_between(policy: usize) -> bool
+    requires { ⌜ policy < 5 ⌝ }
+    ensures { λ r. ⌜ r ≡ eqb (automatonOf (policyOf policy)) 2 ⌝ }
+{
+    policy_mark(policy, AUTOMATON) == b'2'
 }
 
 // The state that a mark of ACTIONS stands for: 9 is odd or dead.
