@@ -1,6 +1,6 @@
 // Rows of the table. The length from demand q in state s on stands at q * 8 + s, so that a demand's eight states
-// are side by side; 65,535 is 'none'. The states: 0 nothing yet, 1 closed, 2 at the front, 3 at the back, 4 odd,
-// 5 joined, 6 split, 7 ending; 8 is dead and has no number.
+// are side by side; 65,535 is 'none', no tour. The states have the numbers of machine/src/lib.rt: 0 nothing to 7 ending;
+// 8, dead, has no place in a row.
 use demand::digits::DEMANDS;
 use demand::digits::wide;
 ghost use Prim.Native.Nat.{_*_, _+_, _<_, _≤_, min, ℕ};
