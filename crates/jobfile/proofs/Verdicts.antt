@@ -27,7 +27,7 @@ use Rattle.jobfile.specs.declared.ReadJob.{ReadJob}
 use Rattle.jobfile.specs.Ready.{StockReady, ListReady}
 use Rattle.reading.specs.Kept.{noRecord, jobValue, rawOf}
 use Rattle.jobfile.specs.Answer.{verdictOf, Decides, checkedAs, checkedOf, answerTo}
-use Rattle.reading.proofs.Cells.{cells-bounded}
+use Rattle.marks.proofs.Cells.{cells-bounded}
 use Rattle.reading.proofs.Storing.{padded-all}
 
 -- the tests of the bounds, as they are made on a value

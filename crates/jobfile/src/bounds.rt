@@ -1,5 +1,5 @@
 // The bounds of the store: the refusals 2, 3 and 5.
-use reading::marks::is_within;
+use marks::is_within;
 use rules::Layout;
 use rules::OrderLine;
 use rules::StockRecord;

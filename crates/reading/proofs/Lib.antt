@@ -3,4 +3,3 @@ pub mod Told
 pub mod Behind
 pub mod Storing
 pub mod Whole
-pub mod Cells

@@ -17,7 +17,7 @@ use Rattle.rules.specs.JobFile.{Reading, _>>=_, readHeader, readLayout, readLin
 use Rattle.reading.specs.declared.cursor.Cursor.{Cursor}
 use Rattle.reading.specs.declared.sections.StockRead.{StockRead}
 use Rattle.reading.specs.declared.sections.ListRead.{ListRead}
-use Rattle.reading.specs.Marking.{cellTwice}
+use Rattle.marks.specs.Marking.{cellTwice}
 use Rattle.values.specs.Values.{noLine}
 use Rattle.reading.specs.Kept.{noRecord, padded, stockRead, listRead, Answers}
 use Rattle.reading.proofs.Behind.{behind, behind-nothing, behind-one}

@@ -15,7 +15,7 @@ use Rattle.reading.specs.declared.cursor.Cursor.{Cursor}
 use Rattle.reading.specs.declared.sections.StockRead.{StockRead}
 use Rattle.reading.specs.declared.sections.ListRead.{ListRead}
 use Rattle.reading.specs.declared.raw.RawJob.{RawJob}
-use Rattle.reading.specs.Marking.{cellTwice}
+use Rattle.marks.specs.Marking.{cellTwice}
 use Rattle.values.specs.Values.{noLine}
 
 -- what stands where there is no record

@@ -1,6 +1,5 @@
 // Reading job bytes: the numbers and words of a job file, line by line, before any bound is looked at.
 mod cursor;
 mod lines;
-pub mod marks;
 pub mod raw;
 mod sections;

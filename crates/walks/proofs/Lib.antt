@@ -5,4 +5,3 @@ pub mod Stepping
 pub mod Spelling
 pub mod Filled
 pub mod Start
-pub mod Running

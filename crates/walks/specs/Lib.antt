@@ -2,4 +2,3 @@ pub mod Treads
 pub mod Letters
 pub mod Filling
 pub mod Lawfully
-pub mod Runs

@@ -1,4 +1,4 @@
-// How edges are numbered (points: crate `flood`), and how many steps a walk has.
+// How edges are numbered (points: crate `flood`).
 //
 // The edges at the point `at` are: back `at`, front `at - 1` (the one that starts at the point before), right `at + 442`, and left,
 // the one that starts 26 numbers earlier, `at - 26 + 442`, which is `at + 416`.
@@ -10,6 +10,3 @@ pub const EDGES: usize = 2 * POINTS;
 
 // How far the number of the edge to the left lies from the point's.
 pub const LEFTWARDS: usize = POINTS - HEIGHTS;
-
-// The most steps of a walk: 25 edges in each of 16 aisles and two between neighbours, each trodden twice.
-pub const STEPS: usize = 2 * (16 * 25 + 15 * 2);

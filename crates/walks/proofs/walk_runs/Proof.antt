@@ -3,9 +3,9 @@ use mathlib.Core.Path.{ap, _∙_}
 use borrow.Author.Needs.{needs}
 use Rattle.rules.specs.FirstWalk.{firstWalk}
 use Rattle.values.specs.Values.{planOf}
-use Rattle.walks.specs.Runs.{letterRuns}
+use Rattle.runs.specs.Lettered.{letterRuns}
 use Rattle.walks.proofs.Spelling.{spelt-take}
-use Rattle.walks.proofs.Running.{letter-runs}
+use Rattle.runs.proofs.Running.{letter-runs}
 use Rattle.walks.proofs.walk_runs.Statement.{statement}
 use Rattle.walks.proofs.walk_runs.Tie as tie
 

@@ -10,11 +10,11 @@ use borrow.Author.Needs.{needs}
 use denote.Ref.{now}
 use Rattle.rules.specs.declared.StockRecord.{StockRecord}
 use Rattle.rules.specs.JobFile.{readRecord, readLines}
-use Rattle.reading.specs.declared.marks.Marks.{Marks}
+use Rattle.marks.specs.declared.Marks.{Marks}
 use Rattle.reading.specs.Places.{recordOf}
-use Rattle.reading.specs.Marking.{noMarks, markOf}
+use Rattle.marks.specs.Marking.{noMarks, markOf}
 use Rattle.reading.specs.Kept.{noRecord, noStock, stockRead}
-use Rattle.reading.proofs.Cells.{marksBehind, marks-more, cells-told}
+use Rattle.marks.proofs.Cells.{marksBehind, marks-more, cells-told}
 use Rattle.reading.proofs.Storing.{LinesTo, lines-none, lines-fail, lines-stored, lines-passed, lines-more, lines-read, lines-counted, answer-none, answer-some, stock-held}
 use Rattle.reading.proofs.Told.{told}
 use Rattle.reading.proofs.cursor.Cursor.stock_records.Statement.{statement}

@@ -1,13 +1,13 @@
--- `reading::marks::mark` meets its contract: the marks that it makes of a record with a bit are those of the definition.
+-- `marks::mark` meets its contract: the marks that it makes of a record with a bit are those of the definition.
 use mathlib.Core.Bool.{true}
 use mathlib.Core.Path.{_≡_, sym}
 use native.Mathlib.Omega.{arith}
 use borrow.Author.Needs.{needs}
 use borrow.Author.Tests.{not-true, not-false}
-use Rattle.reading.specs.Marking.{hasBit}
-use Rattle.reading.proofs.Cells.{InMarks, in-marks, mark-passed, marks-made}
-use Rattle.reading.proofs.marks.mark.Statement.{statement}
-use Rattle.reading.proofs.marks.mark.Tie as tie
+use Rattle.marks.specs.Marking.{hasBit}
+use Rattle.marks.proofs.Cells.{InMarks, in-marks, mark-passed, marks-made}
+use Rattle.marks.proofs.mark.Statement.{statement}
+use Rattle.marks.proofs.mark.Tie as tie
 
 -- the code's test is whether the record's cell has a bit
 has-bit : (c : tie.Else1) → hasBit (c .before .before .before .args .row) ≡ true

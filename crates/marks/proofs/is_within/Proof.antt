@@ -1,8 +1,8 @@
--- `reading::marks::is_within` meets its contract: by computation.
+-- `marks::is_within` meets its contract: by computation.
 use mathlib.Core.Path.{refl}
 use Rattle.rules.specs.Store.{within}
-use Rattle.reading.proofs.marks.is_within.Statement.{statement}
-use Rattle.reading.proofs.marks.is_within.Tie as tie
+use Rattle.marks.proofs.is_within.Statement.{statement}
+use Rattle.marks.proofs.is_within.Tie as tie
 
 returns : tie.Need-returns
 unfolding within

@@ -14,7 +14,7 @@ use Rattle.rules.specs.declared.Direction.the-variants.{Back, Front, Left, Righ
 use Rattle.rules.specs.declared.Run.{Run}
 use Rattle.rules.specs.Walks.{Walk, letterRank}
 use Rattle.rules.specs.Sheet.{letterOf, addStep, runsOf}
-use Rattle.walks.specs.Runs.{directionOf, runEnds, longer, letterRuns}
+use Rattle.runs.specs.Lettered.{directionOf, runEnds, longer, letterRuns}
 
 -- a letter read back
 letter-read : (d : Direction) → directionOf (letterOf d) ≡ d

@@ -1,5 +1,4 @@
 // Equal letters run together.
-use crate::numbers::STEPS;
 use rules::Direction;
 use rules::Run;
 use values::RunList;
@@ -7,10 +6,13 @@ ghost use mathlib.Core.Path.{_≡_};
 ghost use Prim.Native.Nat.{_≤_};
 ghost use lib.ListN.{length, take, drop};
 ghost use Rattle.values.specs.Values.{runsOfValue};
-ghost use Rattle.walks.specs.Runs.{directionOf, runEnds, letterRuns};
+ghost use Rattle.runs.specs.Lettered.{directionOf, runEnds, letterRuns};
+
+// The most steps of a walk: 25 edges in each of 16 aisles and two between neighbours, each trodden twice.
+pub const STEPS: usize = 2 * (16 * 25 + 15 * 2);
 
 // The step of a letter.
-pub fn direction_of(letter: u8) -> Direction
+fn direction_of(letter: u8) -> Direction
     ensures { λ r. ⌜ r ≡ directionOf letter ⌝ }
 {
     if letter == 66 {
@@ -26,7 +28,7 @@ pub fn direction_of(letter: u8) -> Direction
 }
 
 // Whether a letter's run ends: of the first n another follows at this place, or none.
-pub fn run_ends(letters: &[u8], n: usize, at: usize, letter: u8) -> bool
+fn run_ends(letters: &[u8], n: usize, at: usize, letter: u8) -> bool
     requires { ⌜ n ≤ length (now letters) ⌝ }
     ensures { λ r. ⌜ r ≡ runEnds letter (drop at (take n (now (letters .entry)))) ⌝ }
 {

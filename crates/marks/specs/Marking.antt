@@ -9,7 +9,7 @@ use Rattle.rules.specs.declared.StockRecord.{StockRecord}
 use Rattle.rules.specs.Lists.{anyTwo, select}
 use Rattle.rules.specs.Store.{within}
 use Rattle.rules.specs.Refusals.{sameCell}
-use Rattle.reading.specs.declared.marks.Marks.{Marks}
+use Rattle.marks.specs.declared.Marks.{Marks}
 
 -- the cell of the record has a bit: aisle 1 to 16, cell 1 to 24
 unfoldable pub hasBit : StockRecord → Bool

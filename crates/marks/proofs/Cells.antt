@@ -19,8 +19,8 @@ use Rattle.rules.specs.Refusals.{sameCell, recordInBounds, stockInBounds}
 use Rattle.rules.proofs.Admission.{layout-within, record-within}
 use Rattle.rules.proofs.Lists.{all-true, member-select}
 use Rattle.rules.proofs.Numbers.{both-true}
-use Rattle.reading.specs.declared.marks.Marks.{Marks}
-use Rattle.reading.specs.Marking.{hasBit, cellTwice, noMarks, isSeen, setSeen, markOf}
+use Rattle.marks.specs.declared.Marks.{Marks}
+use Rattle.marks.specs.Marking.{hasBit, cellTwice, noMarks, isSeen, setSeen, markOf}
 
 -- the bit k of a number
 abbrev bit : ℕ → ℕ → ℕ

@@ -2,7 +2,7 @@
 use rules::StockRecord;
 ghost use mathlib.Core.Path.{_≡_};
 ghost use Rattle.rules.specs.Store.{within};
-ghost use Rattle.reading.specs.Marking.{noMarks, markOf};
+ghost use Rattle.marks.specs.Marking.{noMarks, markOf};
 
 // A number from a to b.
 pub fn is_within(a: usize, b: usize, n: usize) -> bool
@@ -18,7 +18,7 @@ pub struct Marks {
 }
 
 // No cell seen.
-pub(crate) fn no_marks() -> Marks
+pub fn no_marks() -> Marks
     ensures { λ r. ⌜ r ≡ noMarks ⌝ }
 {
     let seen = [0u32; 16];
@@ -26,7 +26,7 @@ pub(crate) fn no_marks() -> Marks
 }
 
 // The cell of a record is tested and set by shift and mask. A record with no bit, out of all bounds, is passed by.
-pub(crate) fn mark(marks: Marks, row: StockRecord) -> Marks
+pub fn mark(marks: Marks, row: StockRecord) -> Marks
     ensures { λ r. ⌜ r ≡ markOf marks row ⌝ }
 {
     if !(is_within(1, 16, row.aisle) & is_within(1, 24, row.cell)) {

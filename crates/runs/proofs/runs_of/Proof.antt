@@ -1,4 +1,4 @@
--- `walks::runs::runs_of` meets its contract. The loop's invariant: the runs of the letters passed are made, but for the one that goes on.
+-- `runs::runs_of` meets its contract. The loop's invariant: the runs of the letters passed are made, but for the one that goes on.
 use Prim.Native.Nat.{_+_, _-_, _<_}
 use native.Mathlib.Omega.{arith}
 use mathlib.Core.Path.{sym, _∙_, subst}
@@ -8,9 +8,9 @@ use Rattle.rules.specs.declared.Direction.{Direction}
 use Rattle.rules.specs.declared.Direction.the-variants.{Back}
 use Rattle.rules.specs.declared.Run.{Run}
 use Rattle.values.specs.Values.{runsOfValue}
-use Rattle.walks.proofs.Running.{Ran, ran-none, ran-ends, ran-on, ran-all}
-use Rattle.walks.proofs.runs.runs_of.Statement.{statement}
-use Rattle.walks.proofs.runs.runs_of.Tie as tie
+use Rattle.runs.proofs.Running.{Ran, ran-none, ran-ends, ran-on, ran-all}
+use Rattle.runs.proofs.runs_of.Statement.{statement}
+use Rattle.runs.proofs.runs_of.Tie as tie
 
 abbrev Inv-loop : tie.InvT-loop
 Inv-loop letters n runs₀ count₀ steps₀ at₀ runs count steps at = Ran letters n runs count steps at

@@ -1,8 +1,8 @@
--- `walks::runs::direction_of` meets its contract, letter by letter.
+-- `runs::direction_of` meets its contract, letter by letter.
 use borrow.Author.Tests.{eq-eqb, ne-eqb}
-use Rattle.walks.specs.Runs.{directionOf}
-use Rattle.walks.proofs.runs.direction_of.Statement.{statement}
-use Rattle.walks.proofs.runs.direction_of.Tie as tie
+use Rattle.runs.specs.Lettered.{directionOf}
+use Rattle.runs.proofs.direction_of.Statement.{statement}
+use Rattle.runs.proofs.direction_of.Tie as tie
 
 returns : tie.Need-returns
 unfolding directionOf

@@ -1,9 +1,9 @@
--- `walks::runs::run_ends` meets its contract: by whether the place is among the first n letters.
+-- `runs::run_ends` meets its contract: by whether the place is among the first n letters.
 use denote.Ref.{now}
 use borrow.Author.Needs.{needs}
-use Rattle.walks.proofs.Running.{rest-at, rest-none}
-use Rattle.walks.proofs.runs.run_ends.Statement.{statement}
-use Rattle.walks.proofs.runs.run_ends.Tie as tie
+use Rattle.runs.proofs.Running.{rest-at, rest-none}
+use Rattle.runs.proofs.run_ends.Statement.{statement}
+use Rattle.runs.proofs.run_ends.Tie as tie
 
 returns : tie.Need-returns
 returns c = let x = c .before .args in rw (rest-none (now (x .letters)) (x .n) (c .before .pre) (x .at) (c .if1 .taken))
