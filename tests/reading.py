@@ -1,4 +1,4 @@
-"""Document 01's job file and its refusals 1 to 8, read on its own."""
+"""Document 01's job file and its refusals 1 to 8, read on its own; 5 is as request #101 has it."""
 import re
 from math import prod
 
@@ -68,7 +68,7 @@ def refusal(job):
         return 3
     if twice([(aisle, cell) for aisle, cell, _, _ in stock]):
         return 4
-    if not 1 <= len(orders) <= 8 or not all(within(order, 65535, 255) for order in orders):
+    if len(orders) > 8 or not all(within(order, 65535, 255) for order in orders):
         return 5
     if twice([article for article, _ in orders]):
         return 6

@@ -44,9 +44,9 @@ def stocks(quantity, parts):
 def job(policy, aisles, cells, most_listed, others, sizes):
     front, pitch, back, width = sizes
     places = shuffled((j, i) for j in range(1, aisles + 1) for i in range(1, cells + 1))
-    wanted = quantities()[: len(places)]
-    articles = shuffled(range(1, 30))[: len(wanted)]
     room = min(most_listed, len(places))
+    wanted = quantities()[:room]
+    articles = shuffled(range(1, 30))[: len(wanted)]
     stock = []
     for n, (article, quantity) in enumerate(zip(articles, wanted)):
         spare = room - len(stock) - (len(wanted) - n)
@@ -81,6 +81,13 @@ JOBS = [
     *some(20, (3, 9), (3, 12), 14, (0, 12)),
     *some(20, (10, 16), (12, 24), 16, (0, 20)),
     *some(6, (16, 16), (24, 24), 18, (384, 384)),
+    # no listed cell, so that the list is empty
+    *some(2, (1, 16), (1, 24), 0, (0, 0)),
+    *some(1, (1, 1), (1, 1), 0, (1, 1)),
+    *some(1, (1, 1), (2, 24), 0, (0, 24)),
+    *some(5, (1, 9), (1, 12), 0, (1, 40)),
+    *some(5, (10, 16), (12, 24), 0, (1, 383)),
+    *some(2, (16, 16), (24, 24), 0, (384, 384)),
 ]
 
 if __name__ == "__main__":

@@ -86,10 +86,12 @@ static int served(const char *marked) {
     return 1;
 }
 
+/* Of the walks that pass no listed cell the shortest has no steps; it serves an empty list. */
 static int shortest_walk(void) {
     static int reach[1 << MOST_CELLS][MOST_CELLS];   /* from the depot through the set, ending at its cell */
     static int between[MOST_CELLS][AISLES * (CELLS + 2)];
-    int at[MOST_CELLS], best = FAR;
+    char none[MOST_CELLS] = {0};
+    int at[MOST_CELLS], best = served(none) ? 0 : FAR;
     for (int x = 0; x < cells; x++) {
         at[x] = point(listed[x].aisle, listed[x].height);
         shortest_paths(at[x], between[x]);
@@ -164,12 +166,20 @@ static int hang_together(int aisles, int *front_marks, int *back_marks) {
     return 1;
 }
 
+/* Nothing is trodden in the first aisles and the passages behind them: no crossing has treads. */
+static int untrodden(int aisles) {
+    for (int j = 1; j <= aisles; j++)
+        if (front_treads(j) || back_treads(j)) return 0;
+    return 1;
+}
+
 /* No hope for the aisles up to j with the passage behind them: an odd crossing, a depot left without treads,
-   or something trodden that neither leads on nor can be all there is. */
+   or something trodden that neither leads on nor can be all there is. For an empty list the plan that treads
+   nothing is lawful too (request #101): the depot may be without treads while all is untrodden. */
 static int hopeless(int j) {
     int front_marks[AISLES + 2] = {0}, back_marks[AISLES + 2] = {0};
     if (front_treads(j) % 2 || back_treads(j) % 2) return 1;
-    if (d <= j && front_treads(d) == 0) return 1;
+    if (d <= j && front_treads(d) == 0 && !(lines == 0 && untrodden(j))) return 1;
     if (j < m && front[j] + back[j] > 0) {
         front_marks[j + 1] = front[j] > 0;
         back_marks[j + 1] = back[j] > 0;

@@ -14,7 +14,7 @@ use Rattle.rules.specs.declared.Direction.{Direction}
 use Rattle.rules.specs.declared.Direction.the-variants.{Back, Front, Left, Right}
 use Rattle.rules.specs.Store.{Point, Edge, InStore, depotPoint, samePoint}
 use Rattle.rules.specs.Plans.{Plan, WellFormed, multiplicity}
-use Rattle.rules.specs.Lawful.{Lawful}
+use Rattle.rules.specs.Lawful.{LawfulFor}
 use Rattle.rules.specs.Walks.{Walk, canStep, stepTo, stepEdge, letterRank, NotAfter, same, earlier, later}
 use Rattle.rules.specs.FirstWalk.{WalkOf, without, firstWay, stepThen, firstFrom, firstWalk, stepsOf}
 use Rattle.closedwalks.specs.Ways.{PointOf, Leads, treadsFrom}
@@ -184,6 +184,6 @@ module _ (z : Layout) where
           subst (λ (v : Walk). NotAfter v walk) is (t .2),
         )
 
-    -- the first walk of a lawful plan is one of its walks, and not after any of them
-    pub first-walk : Lawful z plan → WalkOf z plan (firstWalk z plan) × ((walk : Walk) → WalkOf z plan walk → NotAfter (firstWalk z plan) walk)
+    -- the first walk of a plan that is lawful, if only for an empty list, is one of its walks, and not after any of them
+    pub first-walk : LawfulFor z [] plan → WalkOf z plan (firstWalk z plan) × ((walk : Walk) → WalkOf z plan walk → NotAfter (firstWalk z plan) walk)
     first-walk law = let w = lawful-walked z plan law p q in (found-first (w .0) (w .1) .0, λ walk v. found-first walk v .1)

@@ -13,7 +13,7 @@ use Rattle.rules.specs.declared.Direction.{Direction}
 use Rattle.rules.specs.declared.Direction.the-variants.{Back, Front, Left, Right}
 use Rattle.rules.specs.Store.{Point, Edge, InStore, depotPoint}
 use Rattle.rules.specs.Plans.{Plan, WellFormed, multiplicity}
-use Rattle.rules.specs.Lawful.{Lawful, Trodden, step}
+use Rattle.rules.specs.Lawful.{LawfulFor, Trodden, step}
 use Rattle.rules.specs.Walks.{Walk, canStep, stepTo, stepEdge}
 use Rattle.rules.specs.FirstWalk.{without, firstWay, stepThen, firstFrom, firstWalk, stepsOf}
 use Rattle.closedwalks.specs.Ways.{PointOf, treadsFrom, Joined}
@@ -58,8 +58,8 @@ module _ (z : Layout) where
         let j = joined-same z left (without left s) x still (λ e i u. omega (arith, taken left s e h)) (r .joined) in
         λ e u. step s (t .edge, still s (t .edge) h) (joins-turn z s x (stepTo x d) (t .joins)) (j e u)
 
-  -- the treads of a lawful plan can be walked from the depot
-  pub lawful-ready : (plan : Plan) → 1 ≤ z .depot → z .depot ≤ z .aisles → Lawful z plan → Ready z (multiplicity plan) (depotPoint z)
+  -- the treads of a plan that is lawful, if only for an empty list, can be walked from the depot
+  pub lawful-ready : (plan : Plan) → 1 ≤ z .depot → z .depot ≤ z .aisles → LawfulFor z [] plan → Ready z (multiplicity plan) (depotPoint z)
   lawful-ready plan p q law = record { point = depot-point z p q; balanced = lawful-balanced z plan law; joined = lawful-joined z plan law }
 
   module _ (test : LetterTest) (right : TellsJoined z test) where
@@ -121,8 +121,8 @@ module _ (z : Layout) where
     greedy-found (suc n) left x r e =
         pick n left x r e (λ rest y. greedy-found n rest y) (admits z test left x Back) (admits z test left x Front) (admits z test left x Left) (admits z test left x Right) refl refl refl refl
 
-    -- the greedy walk of a lawful plan is its first walk
-    pub greedy-first : (plan : Plan) → 1 ≤ z .depot → z .depot ≤ z .aisles → Lawful z plan
+    -- its greedy walk is its first walk
+    pub greedy-first : (plan : Plan) → 1 ≤ z .depot → z .depot ≤ z .aisles → LawfulFor z [] plan
         → greedy z test (stepsOf z (multiplicity plan)) (multiplicity plan) (depotPoint z) ≡ firstWalk z plan
     unfolding firstWalk
     greedy-first plan p q law =

@@ -12,9 +12,10 @@ use Rattle.rules.specs.Lists.{sumOf}
 use Rattle.rules.specs.Store.{Point, Edge, InStore, Joins, edgesOf}
 use Rattle.rules.specs.Walks.{Walk, canStep, stepTo, stepEdge, one, walkEdges}
 use Rattle.rules.specs.FirstWalk.{without, stepsOf}
+use Rattle.rules.proofs.Lists.{sum-none}
 use Rattle.closedwalks.specs.Ways.{PointOf, share, degree, same, Balanced, Leads, treadsFrom}
 use Rattle.closedwalks.proofs.Steps.{cond-none, edge-split, one-refl, one-sym, degree-one, stepped}
-use Rattle.closedwalks.proofs.Sums.{sum-add, sum-none, sum-single, sum-same, sum-le}
+use Rattle.closedwalks.proofs.Sums.{sum-add, sum-single, sum-same, sum-le}
 
 cond-add : (b : Bool) (m n : ℕ) → cond b (m + n) 0 ≡ cond b m 0 + cond b n 0
 cond-add true m n = refl

@@ -2,18 +2,20 @@
 use Prim.Native.Nat.{ℕ, _≤_}
 use native.Mathlib.Omega.{arith}
 use mathlib.Core.Path.{_≡_}
-use mathlib.Core.List.{[], List·Memᴰ}
+use mathlib.Core.List.{List, [], List·Memᴰ}
 use mathlib.Core.Bool.{true}
 use lib.ListN.{length}
 use Rattle.rules.specs.declared.Layout.{Layout}
 use Rattle.rules.specs.declared.StockRecord.{StockRecord}
+use Rattle.rules.specs.declared.OrderLine.{OrderLine}
 use Rattle.rules.specs.Jobs.{Job}
 use Rattle.rules.specs.Store.{Point, Edge, InStore, depotPoint, layoutInBounds}
 use Rattle.rules.specs.Plans.{Plan, WellFormed, multiplicity, planPasses, planLength}
-use Rattle.rules.specs.Lawful.{Lawful}
+use Rattle.rules.specs.Lawful.{Lawful, LawfulFor}
 use Rattle.rules.specs.Walks.{Walk, ClosedWalk, walkTreads, walkPasses, walkLength, NotAfter}
 use Rattle.rules.specs.FirstWalk.{WalkOf, firstWalk, stepsOf}
 use Rattle.rules.specs.Serving.{PlanServes, WalkServes}
+use Rattle.rules.proofs.EmptyList.{lawful-for-empty}
 use Rattle.closedwalks.specs.Ways.{PointOf, Balanced, Leads, treadsFrom, Joined}
 use Rattle.closedwalks.specs.Greedy.{LetterTest, greedy, TellsJoined}
 use Rattle.closedwalks.proofs.Euler as Euler
@@ -27,18 +29,19 @@ use Rattle.closedwalks.proofs.Passing as Passing
 use Rattle.closedwalks.proofs.Serving.{serves-too}
 
 module _ (z : Layout) (low : 1 ≤ z .depot) (high : z .depot ≤ z .aisles) where
-  -- every lawful plan has a closed walk that treads each edge exactly as the plan says
-  pub lawful-walked : (plan : Plan) → Lawful z plan → (walk : Walk) × WalkOf z plan walk
-  lawful-walked plan law = Walked.lawful-walked z plan law low high
+  -- every plan that is lawful for a list has a closed walk that treads each edge exactly as the plan says
+  pub lawful-walked : (lines : List OrderLine) (plan : Plan) → LawfulFor z lines plan → (walk : Walk) × WalkOf z plan walk
+  lawful-walked lines plan law = Walked.lawful-walked z plan (lawful-for-empty z lines plan law) low high
 
   -- its first walk is one of them, and none of them comes before it in the alphabet
-  pub first-walk : (plan : Plan) → Lawful z plan → WalkOf z plan (firstWalk z plan) × ((walk : Walk) → WalkOf z plan walk → NotAfter (firstWalk z plan) walk)
-  first-walk = First.first-walk z low high
+  pub first-walk : (lines : List OrderLine) (plan : Plan) → LawfulFor z lines plan
+      → WalkOf z plan (firstWalk z plan) × ((walk : Walk) → WalkOf z plan walk → NotAfter (firstWalk z plan) walk)
+  first-walk lines plan law = First.first-walk z low high plan (lawful-for-empty z lines plan law)
 
   -- the first walk takes at each point the first letter behind which all that remains can be reached, whatever test tells that
-  pub greedy-first : (test : LetterTest) → TellsJoined z test → (plan : Plan) → Lawful z plan
+  pub greedy-first : (test : LetterTest) → TellsJoined z test → (lines : List OrderLine) (plan : Plan) → LawfulFor z lines plan
       → greedy z test (stepsOf z (multiplicity plan)) (multiplicity plan) (depotPoint z) ≡ firstWalk z plan
-  greedy-first test tells plan = Greedily.greedy-first z test tells plan low high
+  greedy-first test tells lines plan law = Greedily.greedy-first z test tells plan low high (lawful-for-empty z lines plan law)
 
   -- a closed walk that treads some edge, and none more than twice, reads as a lawful plan
   pub walk-reads : (walk : Walk) → ¬ (walk ≡ []) → ClosedWalk z walk → ((e : Edge) → InStore z e → walkTreads z walk e ≤ 2)

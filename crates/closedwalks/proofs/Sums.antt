@@ -6,6 +6,7 @@ use mathlib.Core.Logic.{inl, inr}
 use mathlib.Core.List.{List, [], _∷_, _++_, map}
 use Rattle.rules.specs.declared.Layout.{Layout}
 use Rattle.rules.specs.Lists.{sumOf, from, concatOf}
+use Rattle.rules.proofs.Lists.{sum-none}
 use Rattle.closedwalks.proofs.Splits.{equal-or-below}
 use Rattle.rules.specs.Store.{Edge, along, front, back, InStore, edgesOf}
 use Rattle.rules.specs.Walks.{one}
@@ -24,10 +25,6 @@ module _ {A : Type 0} where
   sum-append : (f : A → ℕ) (xs ys : List A) → sumOf f (xs ++ ys) ≡ sumOf f xs + sumOf f ys
   sum-append f [] ys = omega arith
   sum-append f (x ∷ xs) ys = omega (arith, sum-append f xs ys)
-
-  pub sum-none : (f : A → ℕ) (xs : List A) → ((x : A) → f x ≡ 0) → sumOf f xs ≡ 0
-  sum-none f [] h = refl
-  sum-none f (x ∷ xs) h = omega (arith, h x, sum-none f xs h)
 
   sum-all-le : (f g : A → ℕ) (xs : List A) → All (λ x. f x ≤ g x) xs → sumOf f xs ≤ sumOf g xs
   sum-all-le f g [] h = omega arith

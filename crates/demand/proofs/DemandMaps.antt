@@ -151,7 +151,7 @@ module _ {job : Job} {shelf : Shelf} {d : Digits} {cells j : ℕ} (asked : MapsA
       (line ≤ 8) × (1 ≤ line → Within (getD (d .digit) (line - 1) noDigit) (d .weight))
   line-digit c low high =
       let few = line-below c low high in
-      let eight = list-within job .0 (asked .admitted .list) .count .1 in
+      let eight = list-within job .0 (asked .admitted .list) .count in
       (omega arith, λ has. digit-within (asked .digits-of) (lineAt shelf j c - 1) (omega arith))
 
   -- the demands of a row are below the weight

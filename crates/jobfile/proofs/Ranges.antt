@@ -8,7 +8,6 @@ use lib.ListN.{length, take}
 use lib.Seq.{length-take-le}
 use borrow.Author.Tests.{le-leb, lt-leb}
 use Rattle.rules.specs.Lists.{allOf}
-use Rattle.rules.specs.Store.{within}
 use Rattle.rules.specs.Refusals.{recordInBounds, stockInBounds, lineInBounds, listInBounds}
 use Rattle.rules.proofs.Numbers.{both-true}
 use Rattle.values.specs.declared.JobValue.{JobValue}
@@ -42,15 +41,10 @@ module _ (job : JobValue) (size : Sized job) where
   pub list-many : 8 < job .orders → leb (job .orders) 8 && listInBounds (jobOf job) ≡ false
   list-many h = rw (lt-leb (job .orders) 8 h)
 
-  -- no line
-  pub list-empty : job .orders < 1 → leb (job .orders) 8 && listInBounds (jobOf job) ≡ false
-  unfolding listInBounds within jobOf
-  list-empty h = rw (le-leb (job .orders) 8 (omega arith), listInBounds, within, list-length (omega arith), lt-leb 1 (job .orders) h)
-
   -- as many as there may be: the fields decide
-  pub list-tested : 1 ≤ job .orders → job .orders ≤ 8 → leb (job .orders) 8 && listInBounds (jobOf job) ≡ allOf lineInBounds (take (job .orders) (job .lines))
-  unfolding listInBounds within jobOf
-  list-tested l h = rw (le-leb (job .orders) 8 h, listInBounds, within, list-length h, le-leb (job .orders) 8 h, le-leb 1 (job .orders) l)
+  pub list-tested : job .orders ≤ 8 → leb (job .orders) 8 && listInBounds (jobOf job) ≡ allOf lineInBounds (take (job .orders) (job .lines))
+  unfolding listInBounds jobOf
+  list-tested h = rw (le-leb (job .orders) 8 h, listInBounds, list-length h, le-leb (job .orders) 8 h)
 
 -- all records of a stock within the bounds are
 pub all-records : (job : JobValue) → stockInBounds (jobOf job) ≡ true → allOf (recordInBounds (storeOnly (job .layout))) (take (job .records) (job .stock)) ≡ true
@@ -60,4 +54,4 @@ all-records job e = both-true (leb (length (take (job .records) (job .stock))) 3
 -- all lines of a list within the bounds are
 pub all-lines : (job : JobValue) → listInBounds (jobOf job) ≡ true → allOf lineInBounds (take (job .orders) (job .lines)) ≡ true
 unfolding listInBounds jobOf
-all-lines job e = both-true (within 1 8 (length (take (job .orders) (job .lines)))) (allOf lineInBounds (take (job .orders) (job .lines))) e .1
+all-lines job e = both-true (leb (length (take (job .orders) (job .lines))) 8) (allOf lineInBounds (take (job .orders) (job .lines))) e .1

@@ -7,13 +7,13 @@ use mathlib.Core.Option.{Option, none, some}
 use native.Mathlib.Omega.{arith}
 use lib.Dec.{leb, ltb}
 use lib.ListN.{length, drop}
-use borrow.Author.Tests.{leb-true, leb-false, le-leb}
+use borrow.Author.Tests.{leb-true}
 use Rattle.rules.specs.declared.StockRecord.{StockRecord}
 use Rattle.rules.specs.declared.OrderLine.{OrderLine}
 use Rattle.rules.specs.declared.Refusal.{Refusal}
 use Rattle.rules.specs.declared.Refusal.the-variants.{NotAJobFile, LayoutBounds, StockBounds, CellTwice, ListBounds, ArticleTwice, TooHeavy, ShortOfStock}
 use Rattle.rules.specs.Lists.{anyTwo}
-use Rattle.rules.specs.Store.{within, layoutInBounds}
+use Rattle.rules.specs.Store.{layoutInBounds}
 use Rattle.rules.specs.Jobs.{Job}
 use Rattle.rules.specs.JobFile.{readJob}
 use Rattle.rules.specs.Refusals.{recordInBounds, stockInBounds, sameCell, listInBounds, sameArticle, weight, shortOfStock, firstRow, jobRows, jobRefusal, good, bad, checkJob, checkBytes}
@@ -80,12 +80,12 @@ module _ (job : Job) where
 
   -- the test of the list is that of the job
   list-same : listTest (jobValue job) ≡ listInBounds job
-  unfolding listInBounds within jobOf jobValue
+  unfolding listInBounds jobOf jobValue
   list-same = go (leb (length (job .lines)) 8) refl
     where
       go : (b : Bool) → leb (length (job .lines)) 8 ≡ b → b && listInBounds (jobOf (jobValue job)) ≡ listInBounds job
       go true e = ap (λ (lines : List OrderLine). listInBounds (among (job .stock) lines)) (whole-lines (leb-true (length (job .lines)) 8 e))
-      go false e = rw (listInBounds, within, e, le-leb 1 (length (job .lines)) (omega (arith, leb-false (length (job .lines)) 8 e)))
+      go false e = rw (listInBounds, e)
 
 -- the outcomes of the tests on what was read are those of the tests on the job
 module _ (raw : RawJob) (job : Job) (e : raw ≡ rawOf (some job)) {b : Bool} where
@@ -108,7 +108,7 @@ module _ (raw : RawJob) (job : Job) (e : raw ≡ rawOf (some job)) where
 
   -- all lines of a list within the bounds are kept
   list-kept : listTest (raw .job) ≡ true → length (job .lines) ≤ 8
-  list-kept t = list-within job .0 (list-on raw job e t) .count .1
+  list-kept t = list-within job .0 (list-on raw job e t) .count
 
   module _ {b : Bool} where
     cells-on : layoutInBounds (raw .job .layout) ≡ true → stockTest (raw .job) ≡ true → raw .twice ≡ b → anyTwo sameCell (job .stock) ≡ b
@@ -191,7 +191,7 @@ unfolding jobValue
 admitted-whole job e =
     let a = admitted job .0 e in
     let records = stock-within job .0 (a .stock) .count in
-    let orders = list-within job .0 (a .list) .count .1 in
+    let orders = list-within job .0 (a .list) .count in
     let same = whole-job job records orders in
     (same, record { record-count = records; order-count = orders; admitted = rw same a })
 

@@ -70,9 +70,6 @@ pub fn list_in_bounds(job: JobValue) -> bool
     if 8 < count {
         return false;
     }
-    if count < 1 {
-        return false;
-    }
     let mut i = 0;
     while i < count {
         let line = job.lines[i];

@@ -1,5 +1,5 @@
--- The plan that the table leads to is the best plan of the rules, and the table's value at the start is its length: the table
--- weighed by length, where 'none' is 65,535 and no tour is longer than 49,920.
+-- The plan that the table of a list with lines leads to is the best plan of the rules, and the table's value at the start is its
+-- length: the table weighed by length, where 'none' is 65,535 and no tour is longer than 49,920.
 use Prim.Native.Nat.{ℕ, suc, _+_, _≤_}
 use native.Mathlib.Omega.{arith}
 use mathlib.Core.Path.{_≡_}
@@ -74,14 +74,14 @@ module _ (job : Job) (bounds : layoutInBounds (job .layout) ≡ true) where
     best-allowed = serving-plans job (bestPlan job) .0 (first-shortest-member length-of (best-plan-first-shortest job plan serving))
 
     -- the table's value at the start is the length of the best plan
-    pub table-length : tableValue job ≡ length-of (bestPlan job)
+    pub table-length : (job .lines ≡ [] → ⊥) → tableValue job ≡ length-of (bestPlan job)
     unfolding tableValue
-    table-length = weighed-value job (lengths (job .layout)) length-of by-length some-aisle (bestPlan job) best-found
+    table-length some-line = weighed-value job (lengths (job .layout)) length-of by-length some-aisle some-line (bestPlan job) best-found
 
     -- the rest that the table leads to is the best plan
-    pub table-plan : tableChoice job ≡ some (restOf (bestPlan job))
+    pub table-plan : (job .lines ≡ [] → ⊥) → tableChoice job ≡ some (restOf (bestPlan job))
     unfolding tableChoice
-    table-plan = weighed-choice job (lengths (job .layout)) length-of by-length some-aisle (bestPlan job) best-found
+    table-plan some-line = weighed-choice job (lengths (job .layout)) length-of by-length some-aisle some-line (bestPlan job) best-found
 
   -- every plan that the policy allows and that serves the list is at least as long as the best plan
   pub best-shortest : (plan : Plan) → WellFormed (job .layout) plan → accepts job plan ≡ true → PlanServes job plan → length-of (bestPlan job) ≤ length-of plan

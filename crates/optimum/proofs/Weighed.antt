@@ -13,9 +13,10 @@ use Rattle.rules.specs.Lists.{headOr, concatOf}
 use Rattle.rules.specs.Jobs.{Job}
 use Rattle.rules.specs.Plans.{Plan, WellFormed, planPasses}
 use Rattle.rules.specs.Serving.{serves}
-use Rattle.rules.specs.Machine.{State, nothing, actionStep, passageStep, runFrom, isClosed, accepts}
+use Rattle.rules.specs.Machine.{State, nothing, actionStep, passageStep, runFrom, isClosed, closesOff, accepts}
 use Rattle.rules.specs.BestPlan.{actionsOf, passagesInOrder, single, prepend, plansOf, firstShortest, servingPlans}
 use Rattle.rules.proofs.Lists.{map-map, map-concat, concat-cong}
+use Rattle.rules.proofs.EmptyList.{accepts-with-lines}
 use Rattle.rules.proofs.Enumeration.{enumeration-sound, first-shortest-given, first-shortest-member, serving-plans}
 use Rattle.optimum.specs.Least.{sumUpTo, leastOr, firstAt}
 use Rattle.optimum.specs.Table.{Cost, Problem, Rest, rests, restCost, actionThen, passageThen, value, choose}
@@ -112,7 +113,7 @@ module _ (job : Job) (c : Cost) where
       ap (λ n. actionThen table j a (passageThen table j p n)) next
       ∙ one-aisle (arrives j s q (a ∷ actions) passages) (c .ofAction j a) (c .ofPassage j p) (costFrom c (suc j) actions (tail passages))
 
-  module _ (cost : Plan → ℕ) (weighs : Weighs job c cost) (some-aisle : 1 ≤ job .layout .aisles) where
+  module _ (cost : Plan → ℕ) (weighs : Weighs job c cost) (some-aisle : 1 ≤ job .layout .aisles) (some-line : job .lines ≡ [] → ⊥) where
     -- the table at the start: all aisles, no tread yet, the whole demand open
     abbrev start : ℕ
     start = value table (job .layout .aisles) 1 nothing (wholeDemand job)
@@ -124,14 +125,15 @@ module _ (job : Job) (c : Cost) where
     abbrev planCounted : Plan → ℕ
     planCounted = counted noWay (allowedServing job) cost
 
-    -- the table counts a plan by its cost, or as 'none'
+    -- the table counts a plan by its cost, or as 'none': a list with lines is decided by the machine alone
     plan-counted : (candidates : ℕ → List Action) (plan : Plan) → WellFormed (job .layout) plan
         → restCost (weighed job c candidates) 1 nothing (wholeDemand job) (restOf plan) ≡ planCounted plan
-    unfolding restOf accepts
+    unfolding restOf
     plan-counted candidates plan well =
         let its-cost : min (costFrom c 1 (plan .actions) (plan .passages)) noWay ≡ cost plan = omega (arith, weighs .adds-up plan well, weighs .below plan well) in
         rest-cost candidates (plan .actions) (plan .passages) 1 nothing (wholeDemand job)
-        ∙ ap₂ (λ b n. cond (isClosed (runFrom job 1 nothing (plan .actions) (plan .passages)) && b) n noWay) (serves-met job plan) its-cost
+        ∙ ap₂ (λ b n. cond (closesOff job plan && b) n noWay) (serves-met job plan) its-cost
+        ∙ ap (λ b. cond (b && serves job (planPasses plan)) (cost plan) noWay) (sym (accepts-with-lines job plan some-line))
 
     -- the plans of the enumeration are well-formed
     agrees : (plan : Plan) → List·Memᴰ plan plans → restCost table 1 nothing (wholeDemand job) (restOf plan) ≡ planCounted plan

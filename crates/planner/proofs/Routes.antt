@@ -1,12 +1,15 @@
--- A routed job: its plan is lawful, and the sheet of the values is the job's sheet.
+-- A routed job: its plan is lawful for the job's list, and the sheet of the values is the job's sheet.
 use Prim.Native.Nat.{_≤_}
 use mathlib.Core.Path.{_≡_, refl, sym, subst, _∙_, ap}
+use mathlib.Core.List.{[]}
 use Rattle.rules.specs.Plans.{planLength}
-use Rattle.rules.specs.Lawful.{Lawful}
+use Rattle.rules.specs.Lawful.{LawfulFor}
+use Rattle.rules.specs.BestPlan.{bestPlan}
 use Rattle.rules.specs.Picks.{picksOf}
 use Rattle.rules.specs.FirstWalk.{firstWalk}
 use Rattle.rules.specs.Sheet.{runsOf, sheetOf, sheetText}
 use Rattle.rules.proofs.Admission.{layout-within}
+use Rattle.rules.proofs.EmptyList.{lawful-for-empty}
 use Rattle.values.specs.declared.JobValue.{JobValue}
 use Rattle.values.specs.declared.PickList.{PickList}
 use Rattle.values.specs.declared.RunList.{RunList}
@@ -45,7 +48,7 @@ module _ (job : JobValue) (routed : Routed) (s : Sound job) (r : RoutedOf (jobOf
       record {
         bounds = s .admitted .layout;
         aisles = same-aisles;
-        lawful = subst (Lawful (job .layout)) (sym (r .plan)) (best-plan (jobOf job) (s .admitted) .allowed .lawful);
+        lawful = subst (LawfulFor (job .layout) []) (sym (r .plan)) (lawful-for-empty (job .layout) (jobOf job .lines) (bestPlan (jobOf job)) (best-plan (jobOf job) (s .admitted) .allowed .lawful));
       }
 
   -- its counts are within the arrays

@@ -19,6 +19,7 @@ use Rattle.rules.specs.Sheet.{sheetText}
 use Rattle.rules.specs.Answers.{replyLength, sheetLimit, refused, served, answer}
 use Rattle.rules.proofs.Answering.{answer-area, answer-bad, answer-long, answer-served}
 use Rattle.rules.proofs.Admission.{layout-within, admitted}
+use Rattle.rules.proofs.EmptyList.{lawful-well-formed}
 use Rattle.closedwalks.proofs.Statements.{first-walk, few-steps}
 use Rattle.optimum.proofs.Best.{best-plan}
 use Rattle.sheets.proofs.SheetFits.{sheet-fits}
@@ -29,8 +30,9 @@ unfolding sheetText
 sheet-suffices job a =
     let lawful = best-plan job a .allowed .lawful in
     let d = layout-within (job .layout) .0 (a .layout) .depot in
-    let w = first-walk (job .layout) (d .0) (d .1) (bestPlan job) lawful .0 in
-    sheet-fits job (bestPlan job) a (lawful .well-formed) (few-steps (job .layout) (d .0) (d .1) (bestPlan job) (firstWalk (job .layout) (bestPlan job)) w (a .layout))
+    let w = first-walk (job .layout) (d .0) (d .1) (job .lines) (bestPlan job) lawful .0 in
+    let formed = lawful-well-formed (job .layout) (job .lines) (bestPlan job) lawful in
+    sheet-fits job (bestPlan job) a formed (few-steps (job .layout) (d .0) (d .1) (bestPlan job) (firstWalk (job .layout) (bestPlan job)) w (a .layout))
 
 -- a job that the bytes come to is admitted
 checked-admitted : (bytes : List ℕ) (job : Job) → checkBytes bytes ≡ good job → Admitted job

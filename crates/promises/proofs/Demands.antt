@@ -1,17 +1,19 @@
--- What is promised of every call. A reader starts here: the three demands as theorems, each under the user's own sentence.
+-- What is promised of every call. A reader starts here: the three demands as theorems, each under the user's own sentence, and what
+-- later requests promise beyond them, each under the request's.
 -- `answer bytes sheet work` (rules/specs/Answers) is what the library call gives on the bytes of a job file, a lent sheet and a
 -- lent work area: the reply, and what sheet and work area hold after it. The public contracts are equations with it.
--- The words of the statements are in specs/: the causes of the table (Causes), what a sheet says (Contents), what calls give (Calls).
+-- The words of the statements are in specs/: the causes of the table (Causes), what a sheet says (Contents), what calls give (Calls),
+-- and of request #101 (EmptyLists).
 use Prim.Native.Nat.{ℕ, _≤_, _<_}
 use mathlib.Core.Path.{_≡_, refl, sym, _∙_, ap, subst}
 use mathlib.Core.Logic.{_⊎_, _↔_}
 use mathlib.Core.List.{List, [], _++_}
-use lib.ListN.{length, take}
+use lib.ListN.{length, take, drop}
 use Rattle.rules.specs.declared.Layout.{Layout}
 use Rattle.rules.specs.declared.Policy.{Policy}
 use Rattle.rules.specs.declared.Policy.the-variants.{Exact}
 use Rattle.rules.specs.declared.Refusal.{Refusal}
-use Rattle.rules.specs.declared.Refusal.the-variants.{WorkArea, ShortOfStock, SheetSpace}
+use Rattle.rules.specs.declared.Refusal.the-variants.{WorkArea, ListBounds, ShortOfStock, SheetSpace}
 use Rattle.rules.specs.declared.Reply.the-variants.{Served, Refused}
 use Rattle.rules.specs.Store.{Edge, InStore}
 use Rattle.rules.specs.Jobs.{Job}
@@ -20,16 +22,19 @@ use Rattle.rules.specs.Plans.{Plan}
 use Rattle.rules.specs.Lawful.{Lawful}
 use Rattle.rules.specs.Walks.{Walk, ClosedWalk, walkTreads}
 use Rattle.rules.specs.Picks.{picksOf}
-use Rattle.rules.specs.Refusals.{numberOf, Admitted}
+use Rattle.rules.specs.BestPlan.{emptyPlan}
+use Rattle.rules.specs.Refusals.{numberOf, cleared, Admitted}
 use Rattle.rules.specs.Answers.{answer, hostAnswer, sheetLimit, letterR, output}
-use Rattle.rules.specs.Policies.{Allowed}
+use Rattle.rules.specs.Policies.{Follows, Allowed}
 use Rattle.rules.specs.Serving.{PlanServes}
 use Rattle.rules.specs.Examples.{AllHold, cases, ownCases}
 use Rattle.rules.proofs.Cases as Cases
 use Rattle.closedwalks.proofs.Statements.{walk-reads, plan-determined}
-use Rattle.promises.specs.Causes.{LineOutOfStock, OfJob, Cause, tableRow, FirstCause}
+use Rattle.promises.specs.Causes.{JobFileOf, LineOutOfStock, OfJob, Cause, tableRow, FirstCause}
 use Rattle.promises.specs.Contents.{Content}
 use Rattle.promises.specs.Calls.{RefusedCall, ServedCall, Shows, Obeys, Shortest, TreadsAs, hostWork, hostGets, HostCall, PrintsSheet, PrintsRefusal}
+use Rattle.promises.specs.EmptyLists.{NothingToFetch, emptySheet, ShowsNothing}
+use Rattle.promises.proofs.EmptyLists
 use Rattle.promises.proofs.Entering.{oneNine, throughAisleOne, entering-serves, entering-exact, entering-others}
 use Rattle.promises.proofs.Table.{job-file-read, refused-for, refused-by, served-for, served-by}
 use Rattle.promises.proofs.Shown.{refused-call, served-call, best, best-obeys, best-shortest, shown, shown-best}
@@ -171,3 +176,28 @@ own-cases-hold = Cases.own-cases-hold
 -- "an aisle holding no article of the list is VOID" under every policy but EXACT: a plan that serves the list and enters such an aisle
 pub entering-pinned : PlanServes (oneNine Exact) throughAisleOne × Allowed (oneNine Exact) throughAisleOne × ((policy : Policy) → (policy ≡ Exact → ⊥) → Allowed (oneNine policy) throughAisleOne → ⊥)
 entering-pinned = (entering-serves, entering-exact, entering-others)
+
+-- Request #101: "so `D 0` gets a sheet. Its length is 0, every aisle is VOID, every passage 00, and P and W have count 0. This is so
+-- under every policy." For every job with no lines to which no other refusal applies: the whole answer
+pub empty-list : (bytes sheet work : List ℕ) (job : Job) → NothingToFetch bytes sheet work job
+    → answer bytes sheet work
+    ≡ record { reply = Served (length (emptySheet job)); sheet = emptySheet job ++ drop (length (emptySheet job)) sheet; work = cleared work }
+empty-list = EmptyLists.empty-served
+
+-- "5 no longer covers a list count of 0": it does not apply to an empty list, and neither do 6, 7 and 8
+pub empty-list-passes : (bytes sheet work : List ℕ) (job : Job) → JobFileOf bytes job → job .lines ≡ []
+    → (r : Refusal) → tableRow ListBounds ≤ tableRow r → tableRow r < tableRow SheetSpace → Cause r bytes sheet work → ⊥
+empty-list-passes = EmptyLists.no-list-cause
+
+-- demand 2 of an empty list: the printed walk has no steps, is closed, and treads each edge as the plan says
+pub empty-list-shows : (bytes sheet work : List ℕ) (job : Job) (c : Content) → Shows bytes sheet work job c → job .lines ≡ [] → ShowsNothing job c
+empty-list-shows = EmptyLists.empty-shown
+
+-- "For such a list the plan that treads nothing is lawful too": every policy allows it beside the plans that it allowed, and no other
+pub empty-adds-one : (job : Job) (plan : Plan) → job .lines ≡ [] → 1 ≤ job .layout .aisles
+    → Allowed job plan ↔ ((Lawful (job .layout) plan × Follows (job .policy) job plan) ⊎ (plan ≡ emptyPlan (job .layout)))
+empty-adds-one = EmptyLists.empty-adds-one
+
+-- lists with lines keep exactly the plans that they had
+pub lines-keep-plans : (job : Job) (plan : Plan) → (job .lines ≡ [] → ⊥) → Allowed job plan ↔ (Lawful (job .layout) plan × Follows (job .policy) job plan)
+lines-keep-plans = EmptyLists.lines-keep-plans

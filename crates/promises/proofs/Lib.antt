@@ -9,5 +9,6 @@ pub mod Varied
 pub mod Host
 pub mod Program
 pub mod Entering
+pub mod EmptyLists
 pub mod Demands
 pub mod Theory

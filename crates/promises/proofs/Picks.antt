@@ -18,9 +18,9 @@ use Rattle.rules.specs.Plans.{Plan, planPasses}
 use Rattle.rules.specs.Serving.{supply, Serves, PlanServes}
 use Rattle.rules.specs.Refusals.{Admitted, RecordWithin}
 use Rattle.rules.specs.Picks.{cellsOf, lackOf, lessOf, recordAt, taken, addPick, picksFrom, found, passedRecords, picksOf}
-use Rattle.rules.proofs.Lists.{sum-agree, sum-plus, sum-map, sum-concat, sorted-map}
+use Rattle.rules.proofs.Lists.{sum-agree, sum-plus, sum-map, sum-concat, sorted-map, sum-none}
 use Rattle.rules.proofs.Admission.{stock-within, cells-once, articles-once}
-use Rattle.closedwalks.proofs.Sums.{sum-none, sum-from}
+use Rattle.closedwalks.proofs.Sums.{sum-from}
 use Rattle.promises.specs.Contents.{pickedBy, picked}
 
 -- no two lines of one article

@@ -38,7 +38,7 @@ unfolding contentOf planLength
 best-obeys job a =
     let b = best-plan job a in
     let depot = layout-within (job .layout) .0 (a .layout) .depot in
-    let w = first-walk (job .layout) (depot .0) (depot .1) (bestPlan job) (b .allowed .lawful) in
+    let w = first-walk (job .layout) (depot .0) (depot .1) (job .lines) (bestPlan job) (b .allowed .lawful) in
     record {
       policy = refl;
       allowed = b .allowed;

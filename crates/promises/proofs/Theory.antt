@@ -6,11 +6,12 @@ use mathlib.Core.List.{List, []}
 use mathlib.Core.Bool.{true}
 use lib.ListN.{length}
 use Rattle.rules.specs.declared.Layout.{Layout}
+use Rattle.rules.specs.declared.OrderLine.{OrderLine}
 use Rattle.rules.specs.Store.{Edge, InStore, aisleLength, layoutInBounds}
 use Rattle.rules.specs.Jobs.{Job}
 use Rattle.rules.specs.Refusals.{Admitted}
 use Rattle.rules.specs.Plans.{Plan, WellFormed, multiplicity, planLength, planPasses}
-use Rattle.rules.specs.Lawful.{Lawful}
+use Rattle.rules.specs.Lawful.{Lawful, LawfulFor}
 use Rattle.rules.specs.Policies.{Allowed}
 use Rattle.rules.specs.Machine.{accepts}
 use Rattle.rules.specs.Serving.{PlanServes}
@@ -45,12 +46,13 @@ module _ (z : Layout) (low : 1 ≤ z .depot) (high : z .depot ≤ z .aisles) whe
   pub walk-is-no-shorter : (walk : Walk) → ¬ (walk ≡ []) → ClosedWalk z walk → (plan : Plan) × Lawful z plan × ((j c : ℕ) → walkPasses z walk j c ≡ true → 1 ≤ c → c ≤ z .cells → planPasses plan j c ≡ true) × (planLength z plan ≤ walkLength z walk)
   walk-is-no-shorter = Statements.walk-plan z low high
 
-  -- a lawful plan can be walked
-  pub plan-is-walked : (plan : Plan) → Lawful z plan → (walk : Walk) × WalkOf z plan walk
+  -- a plan that is lawful for a list can be walked
+  pub plan-is-walked : (lines : List OrderLine) (plan : Plan) → LawfulFor z lines plan → (walk : Walk) × WalkOf z plan walk
   plan-is-walked = Statements.lawful-walked z low high
 
   -- the first walk is such a walk, and none comes before it in the alphabet
-  pub walk-is-first : (plan : Plan) → Lawful z plan → WalkOf z plan (firstWalk z plan) × ((walk : Walk) → WalkOf z plan walk → NotAfter (firstWalk z plan) walk)
+  pub walk-is-first : (lines : List OrderLine) (plan : Plan) → LawfulFor z lines plan
+      → WalkOf z plan (firstWalk z plan) × ((walk : Walk) → WalkOf z plan walk → NotAfter (firstWalk z plan) walk)
   walk-is-first = Statements.first-walk z low high
 
   -- a walk of a plan has at most 860 steps

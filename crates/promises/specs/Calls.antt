@@ -74,7 +74,7 @@ pub record Obeys (job : Job) (c : Content) : Type 0 where
 
 -- the plan is allowed and serves the list, the length is its own, and no plan that is allowed and serves the list is shorter;
 -- one that is no longer is the plan itself or comes behind it in the order of plans;
--- under EXACT no closed walk that serves the list is shorter, whatever its steps
+-- under EXACT no closed walk that serves the list is shorter, whatever its steps, the one of no steps included
 pub record Shortest (job : Job) (c : Content) : Type 0 where
   pub allowed : Allowed job (c .plan)
   pub serves : PlanServes job (c .plan)

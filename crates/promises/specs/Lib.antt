@@ -1,3 +1,4 @@
 pub mod Causes
 pub mod Contents
 pub mod Calls
+pub mod EmptyLists

@@ -5,3 +5,4 @@ pub mod TraceRows
 pub mod TraceEnds
 pub mod RankLaws
 pub mod Numbers
+pub mod EmptyLists

@@ -40,19 +40,19 @@ module _ (job : Job) (ok : Admitted job) where
       let x = serving-exists job ok in
       best-allowed job (ok .layout) (x .0) (serving-plans job (x .0) .1 (x .1, x .2, x .3)) .0
 
-  -- the table's value at the start is the length of the best plan
-  pub start-length : value (routing job (allActions job)) (job .layout .aisles) 1 nothing (demandOf (radices job) (weight (job .lines) - 1))
+  -- for a list with lines the table's value at the start is the length of the best plan
+  pub start-length : (job .lines ≡ [] → ⊥) → value (routing job (allActions job)) (job .layout .aisles) 1 nothing (demandOf (radices job) (weight (job .lines) - 1))
       ≡ planLength (job .layout) (bestPlan job)
   unfolding tableValue
-  start-length =
+  start-length some-line =
       let x = serving-exists job ok in
-      rw start-demand (table-length job (ok .layout) (x .0) (serving-plans job (x .0) .1 (x .1, x .2, x .3)))
+      rw start-demand (table-length job (ok .layout) (x .0) (serving-plans job (x .0) .1 (x .1, x .2, x .3)) some-line)
 
   -- the trace starts in the state in which nothing is trodden, with the whole list
-  pub trace-start : (stages : List Stage) → length stages ≡ 16
+  pub trace-start : (job .lines ≡ [] → ⊥) → (stages : List Stage) → length stages ≡ 16
       → Traced job 0 (record { stages = stages; at = record { state = 0; demand = weight (job .lines) - 1 } })
   unfolding tableChoice stagesRest
-  trace-start stages sized =
+  trace-start some-line stages sized =
       let x = serving-exists job ok in
       let m-is : job .layout .aisles - 0 ≡ job .layout .aisles = omega arith in
       record {
@@ -61,8 +61,8 @@ module _ (job : Job) (ok : Admitted job) where
         state-below = omega arith;
         demand-below = omega (arith, whole-code job);
         rest = restOf (bestPlan job);
-        leads = rw (m-is, start-demand) (table-plan job (ok .layout) (x .0) (serving-plans job (x .0) .1 (x .1, x .2, x .3)));
-        finite = rw m-is (omega (arith, start-length, plan-length-49920 (job .layout) (bestPlan job) (ok .layout) best-well));
+        leads = rw (m-is, start-demand) (table-plan job (ok .layout) (x .0) (serving-plans job (x .0) .1 (x .1, x .2, x .3)) some-line);
+        finite = rw m-is (omega (arith, start-length some-line, plan-length-49920 (job .layout) (bestPlan job) (ok .layout) best-well));
         whole = refl;
       }
 

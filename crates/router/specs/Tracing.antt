@@ -1,7 +1,7 @@
 -- The plan that is read out of the table, aisle by aisle.
 use Prim.Native.Nat.{ℕ, suc, _-_, _≤_, _<_}
 use mathlib.Core.Path.{_≡_}
-use mathlib.Core.List.{List, _++_, map}
+use mathlib.Core.List.{List, [], _++_, map}
 use mathlib.Core.Option.{Option, some}
 use lib.ListN.{length, take, set}
 use Rattle.rules.specs.Jobs.{Job}
@@ -13,10 +13,17 @@ use Rattle.optimum.specs.Demand.{radices, demandOf}
 use Rattle.optimum.specs.Routing.{noTour, routing, allActions, restOf}
 use Rattle.values.specs.declared.Stage.{Stage}
 use Rattle.machine.specs.States.{stateOf}
-use Rattle.table.specs.TableHolds.{RowHolds}
+use Rattle.table.specs.declared.filling.Order.{Order}
+use Rattle.table.specs.TableHolds.{OrderOf, RowHolds, TableFrom}
 use Rattle.router.specs.declared.choices.At.{At}
 use Rattle.router.specs.declared.choices.Crossed.{Crossed}
 use Rattle.router.specs.declared.trace.Trace.{Trace}
+
+-- the work area holds the table of a job whose list has a line, and the order is the job's
+pub record TableOf (job : Job) (o : Order) (work : List ℕ) : Type 0 where
+  pub order : OrderOf job o
+  pub some-line : job .lines ≡ [] → ⊥
+  pub table : TableFrom job 1 work
 
 -- the first n stages as a rest
 unfoldable pub stagesRest : List Stage → ℕ → Rest

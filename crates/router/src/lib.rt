@@ -1,22 +1,28 @@
 // The router: for an admitted job, the first of the shortest allowed plans that serve its list.
 //
-// Read out of the table (crate `table`) aisle by aisle, from the first to the last.
+// Read out of the table (crate `table`) aisle by aisle, from the first to the last; for an empty list it treads nothing.
 mod choices;
 mod ranks;
 mod trace;
 
 use rows::STATES;
+use rules::Action;
+use rules::Layout;
+use rules::Passage;
 use table::filling::Order;
 use values::JobValue;
+use values::PlanValue;
 use values::Routed;
 use values::Shelf;
+use values::Stage;
 ghost use mathlib.Core.Path.{_≡_};
 ghost use Prim.Native.Nat.{_≤_};
 ghost use lib.ListN.{length, replicate};
 ghost use Rattle.rows.specs.Rows.{workArea};
 ghost use Rattle.table.specs.TableHolds.{OrderOf};
 ghost use Rattle.values.specs.Shelves.{ShelfOf};
-ghost use Rattle.values.specs.Values.{jobOf, RoutedOf, Sound};
+ghost use Rattle.rules.specs.BestPlan.{emptyPlan};
+ghost use Rattle.values.specs.Values.{jobOf, planOf, RoutedOf, Sound};
 
 // What the table needs of a job.
 fn order_of(job: JobValue, shelf: Shelf) -> Order
@@ -35,11 +41,32 @@ fn order_of(job: JobValue, shelf: Shelf) -> Order
     }
 }
 
-// The best plan of a job and its length. The work area holds the table on the way, and is all zero at the end.
+// The plan that treads nothing.
+fn empty_plan(layout: Layout) -> PlanValue
+    requires { ⌜ layout .aisles ≤ 16 ⌝ }
+    ensures { λ r. ⌜ (r .aisles ≡ layout .aisles) × (planOf r ≡ emptyPlan layout) ⌝ }
+{
+    let aisles = layout.aisles;
+    let nothing = Stage {
+        action: Action::Void,
+        passage: Passage::P00,
+    };
+    let stages = [nothing; 16];
+    PlanValue { aisles, stages }
+}
+
+// The best plan of a job and its length. The work area holds the table on the way, and is all zero at the end. For an empty
+// list no table is needed.
 pub fn route(job: JobValue, shelf: Shelf, work: &mut [u16]) -> Routed
     requires { ⌜ Sound job × ShelfOf (jobOf job) shelf × (workArea ≤ length (now work)) ⌝ }
     ensures { λ r. ⌜ RoutedOf (jobOf job) r × (now (work .exit) ≡ replicate (length (now (work .entry))) 0) ⌝ }
 {
+    let orders = job.orders;
+    if orders < 1 {
+        table::filling::clear(work);
+        let plan = empty_plan(job.layout);
+        return Routed { length: 0, plan };
+    }
     let o = order_of(job, shelf);
     let weight = o.digits.weight;
     table::filling::fill_table(work, o);

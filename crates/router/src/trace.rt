@@ -16,7 +16,7 @@ use table::passages::fill_after;
 use values::PlanValue;
 use values::Stage;
 ghost use Prim.Native.Nat.{_<_, _≤_, suc};
-ghost use Rattle.router.specs.Tracing.{TraceAsked, Traced, withStage};
+ghost use Rattle.router.specs.Tracing.{TableOf, TraceAsked, Traced, withStage};
 ghost use Rattle.rules.specs.BestPlan.{bestPlan};
 ghost use Rattle.rules.specs.Jobs.{Job};
 ghost use Rattle.rows.specs.Rows.{numbers, workArea};
@@ -86,8 +86,8 @@ fn trace_on(work: &[u16], o: Order, n: usize, t: Trace) -> Trace
 
 // The best plan, read out of the table.
 pub fn read_plan(work: &[u16], o: Order) -> PlanValue
-    requires { ⌜ ((job : Job) × OrderOf job o × TableFrom job 1 (now work)) × (workArea ≤ length (now work)) ⌝ }
-    ensures { λ r. ⌜ ((job : Job) → OrderOf job o → TableFrom job 1 (now (work .entry)) → (r .aisles ≡ job .layout .aisles) × (planOf r ≡ bestPlan job)) ⌝ }
+    requires { ⌜ ((job : Job) × TableOf job o (now work)) × (workArea ≤ length (now work)) ⌝ }
+    ensures { λ r. ⌜ ((job : Job) → TableOf job o (now (work .entry)) → (r .aisles ≡ job .layout .aisles) × (planOf r ≡ bestPlan job)) ⌝ }
 {
     let aisles = o.layout.aisles;
     let first = Stage {

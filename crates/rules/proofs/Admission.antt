@@ -78,7 +78,7 @@ line-within l =
 pub list-within : (job : Job) → (listInBounds job ≡ true) ↔ ListWithin job
 unfolding listInBounds
 list-within job =
-    simp (and-eq-true-iff, within-bounds, all-true, line-within) (λ p. record { count = p .0; lines = p .1 }, λ b. (b .count, b .lines))
+    simp (and-eq-true-iff, leb-bound, within-bounds, all-true, line-within) (λ p. record { count = p .0; lines = p .1 }, λ b. (b .count, b .lines))
 
 -- no line exceeds all the stock of its article
 pub lines-in-stock : (job : Job) → (shortOfStock job ≡ false) ↔ ((l : OrderLine) → List·Memᴰ l (job .lines) → l .quantity ≤ allStock job (l .article))

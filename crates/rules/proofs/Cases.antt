@@ -8,6 +8,7 @@ use mathlib.Core.Bool.{true}
 use lib.ListN.{replicate}
 use Rattle.rules.specs.declared.Action.{Action}
 use Rattle.rules.specs.declared.Policy.{Policy}
+use Rattle.rules.specs.declared.Policy.the-variants.{Exact, Return, Traversal, Midpoint, Composite}
 use Rattle.rules.specs.declared.Action.the-variants.{Bottom}
 use Rattle.rules.specs.declared.Passage.{Passage}
 use Rattle.rules.specs.declared.Passage.the-variants.{P02}
@@ -21,11 +22,11 @@ use Rattle.rules.specs.Lists.{allOf}
 use Rattle.rules.specs.Lengths.{actionLength, passageLength}
 use Rattle.rules.specs.Answers.{refused, served, answer, hostAnswer, output}
 use Rattle.rules.specs.BestPlan.{actionsOf, passagesInOrder, single, prepend, shorterOf, emptyPlan, servingPlans, bestPlan}
-use Rattle.rules.specs.Examples.{stocked, _⨯_, alpha, beta, steps, roundTrip, cases, ownJob, oneEach, midwayFront, midwayBack, farBack, nearBack, bothEnds, bottomOrTop, topOrGap, gapOrOnce, frontOrBack, leftFirst, topTie, withOthers, gapByFront, gapByBack, wrongLayout, wrongStock, sharedCell, sharedArticle, bothBottom, bothOnce, ownCases, texts, overfull, RefusedWith, workedJob, workedSheet}
+use Rattle.rules.specs.Examples.{stocked, _⨯_, alpha, beta, steps, roundTrip, cases, ownJob, oneEach, midwayFront, midwayBack, farBack, nearBack, bothEnds, bottomOrTop, topOrGap, gapOrOnce, frontOrBack, leftFirst, topTie, withOthers, gapByFront, gapByBack, wrongLayout, wrongStock, sharedCell, sharedArticle, bothBottom, bothOnce, nineLines, frontOnly, awayFromDepot, ownCases, texts, overfull, RefusedWith, workedJob, workedSheet}
 use Rattle.rules.specs.FirstWalk.{without, stepsOf, firstWalk}
 use Rattle.rules.specs.JobFile.{numeral, field, header, sectionText, jobText, layoutText, recordText, lineText, isDigit, isNumber, readField, readHeader, readPolicyAs, readPolicy, readLayout, readRecord, readLine, readSection, readLayoutSection, readSections, readJob}
 use Rattle.rules.specs.Jobs.{listed, holdsListed}
-use Rattle.rules.specs.Machine.{actionPossible, actionStep, passageStep, accepts}
+use Rattle.rules.specs.Machine.{actionPossible, actionStep, passageStep, treadsNothing, accepts}
 use Rattle.rules.specs.Picks.{cellsOf, lackOf, lessOf, recordAt, taken, passedRecords, picksOf}
 use Rattle.rules.specs.Plans.{actionAt, passageAt, multiplicity, lengthOf, planLength, planPasses}
 use Rattle.rules.specs.Policies.{inFrontHalf, inBackHalf}
@@ -88,6 +89,14 @@ abbrev AllComputed : List Case → Type 0
 AllComputed [] = Unit {0}
 AllComputed (c ∷ rest) = RowComputed c × AllComputed rest
 
+-- what holds under each policy holds under every policy
+under-each : (P : Policy → Type 0) → P Exact → P Return → P Traversal → P Midpoint → P Composite → (policy : Policy) → P policy
+under-each P e r t m c Exact = e
+under-each P e r t m c Return = r
+under-each P e r t m c Traversal = t
+under-each P e r t m c Midpoint = m
+under-each P e r t m c Composite = c
+
 infixr 5 _▸_
 -- a row before others
 abbrev _▸_ : {A B : Type 0} → A → B → A × B
@@ -103,7 +112,7 @@ all-hold (c ∷ cs) (r, rs) = (row-holds c r, all-hold cs rs)
 
 -- the rows of the cases 1 to 14
 cases-computed : AllComputed cases
-unfolding actionsOf passagesInOrder single prepend shorterOf stocked _⨯_ alpha beta listed holdsListed actionPossible actionStep passageStep accepts actionAt passageAt multiplicity lengthOf planLength planPasses inFrontHalf inBackHalf supply serves aisleLength position backHeight depotPoint distance edgesOf boundedBest actionLength passageLength recordInBounds stockInBounds sameCell lineInBounds listInBounds sameArticle weight allStock shortOfStock jobRows jobRefusal within layoutInBounds without stepsOf firstWalk sameEdge samePoint isCrossing canStep stepTo stepEdge one steps roundTrip cases RefusedWith
+unfolding actionsOf passagesInOrder single prepend shorterOf stocked _⨯_ alpha beta listed holdsListed actionPossible actionStep passageStep accepts actionAt passageAt multiplicity lengthOf planLength planPasses inFrontHalf inBackHalf supply serves aisleLength position backHeight depotPoint distance edgesOf boundedBest actionLength passageLength recordInBounds stockInBounds sameCell lineInBounds listInBounds sameArticle weight allStock shortOfStock jobRows jobRefusal within layoutInBounds without stepsOf firstWalk sameEdge samePoint isCrossing canStep stepTo stepEdge one steps roundTrip cases RefusedWith treadsNothing servingPlans
 cases-computed =
     (refl, refl, refl, refl)
     ▸ ((refl, refl, refl, refl), record { allowed = refl; serving = refl; length = refl }, record { allowed = refl; serving = refl; length = refl })
@@ -118,7 +127,7 @@ cases-computed =
     ▸ (λ policy. (refl, (ShortOfStock, refl, refl)))
     ▸ (λ policy. (ListBounds, refl, refl))
     ▸ (λ policy. (refl, (TooHeavy, refl, refl)))
-    ▸ (λ policy. (ListBounds, refl, refl))
+    ▸ under-each _ ((refl, refl, refl, refl), refl) ((refl, refl, refl, refl), refl) ((refl, refl, refl, refl), refl) ((refl, refl, refl, refl), refl) ((refl, refl, refl, refl), refl)
     ▸ tt
 
 -- the table of the cases 1 to 14
@@ -127,7 +136,7 @@ cases-hold = all-hold cases cases-computed
 
 -- the rows of our own cases
 own-cases-computed : AllComputed ownCases
-unfolding actionsOf passagesInOrder single prepend shorterOf stocked _⨯_ alpha beta listed holdsListed actionPossible actionStep passageStep accepts actionAt passageAt multiplicity lengthOf planLength planPasses inFrontHalf inBackHalf supply serves aisleLength position backHeight depotPoint distance edgesOf boundedBest actionLength passageLength recordInBounds stockInBounds sameCell lineInBounds listInBounds sameArticle weight allStock shortOfStock jobRows jobRefusal within layoutInBounds without stepsOf firstWalk sameEdge samePoint isCrossing canStep stepTo stepEdge one steps RefusedWith ownJob oneEach midwayFront midwayBack farBack nearBack bothEnds bottomOrTop topOrGap gapOrOnce frontOrBack leftFirst topTie withOthers gapByFront gapByBack wrongLayout wrongStock sharedCell sharedArticle bothBottom bothOnce ownCases
+unfolding actionsOf passagesInOrder single prepend shorterOf stocked _⨯_ alpha beta listed holdsListed actionPossible actionStep passageStep accepts actionAt passageAt multiplicity lengthOf planLength planPasses inFrontHalf inBackHalf supply serves aisleLength position backHeight depotPoint distance edgesOf boundedBest actionLength passageLength recordInBounds stockInBounds sameCell lineInBounds listInBounds sameArticle weight allStock shortOfStock jobRows jobRefusal within layoutInBounds without stepsOf firstWalk sameEdge samePoint isCrossing canStep stepTo stepEdge one steps RefusedWith ownJob oneEach midwayFront midwayBack farBack nearBack bothEnds bottomOrTop topOrGap gapOrOnce frontOrBack leftFirst topTie withOthers gapByFront gapByBack wrongLayout wrongStock sharedCell sharedArticle bothBottom bothOnce nineLines frontOnly awayFromDepot ownCases treadsNothing
 own-cases-computed =
     (refl, refl)
     ▸ (refl, refl)
@@ -151,6 +160,9 @@ own-cases-computed =
     ▸ (refl, refl, refl, refl)
     ▸ (refl, refl, refl, refl)
     ▸ ((refl, refl, refl, refl), refl)
+    ▸ (λ policy. (ListBounds, refl, refl))
+    ▸ under-each _ (refl, refl) (refl, refl) (refl, refl) (refl, refl) (refl, refl)
+    ▸ (refl, refl)
     ▸ tt
 
 -- the table of our own cases

@@ -6,7 +6,9 @@ pub mod Answering
 pub mod Lengths
 pub mod Serving
 pub mod Listing
+pub mod EmptyPlan
 pub mod Enumeration
+pub mod EmptyList
 pub mod Pruning
 pub mod Cases
 pub mod WrongTurnings

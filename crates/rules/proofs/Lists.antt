@@ -6,7 +6,7 @@ use mathlib.Core.List.{List, [], _∷_, _++_, map, List·Memᴰ, List·Memᴰ·h
 use mathlib.Core.Bool.{Bool, true, false, cond, _&&_, _||_, true≢false, false≢true, and-eq-true-iff}
 use native.Mathlib.Nat.{eq-or-lt-of-le, suc-mul}
 use native.Mathlib.Omega.{arith}
-use lib.ListN.{length}
+use lib.ListN.{length, replicate}
 use Rattle.rules.specs.Lists.{from, sumOf, concatOf, nth, allOf, anyOf, anyTwo, select, Sorted}
 
 -- tests joined by "or"
@@ -14,11 +14,11 @@ or-false : (a b : Bool) → (a || b) ≡ false → (a ≡ false) × (b ≡ false
 or-false true b h = absurd (true≢false h)
 or-false false b h = (refl, h)
 
-or-true : (a b : Bool) → (a || b) ≡ true → (a ≡ true) ⊎ (b ≡ true)
+pub or-true : (a b : Bool) → (a || b) ≡ true → (a ≡ true) ⊎ (b ≡ true)
 or-true true b h = inl refl
 or-true false b h = inr h
 
-or-right : (a : Bool) → (a || true) ≡ true
+pub or-right : (a : Bool) → (a || true) ≡ true
 or-right true = refl
 or-right false = refl
 
@@ -348,3 +348,36 @@ module _ {A B C : Type 0} where
   pub map-concat : (f : B → C) (g : A → List B) (xs : List A) → map f (concatOf g xs) ≡ concatOf (λ x. map f (g x)) xs
   map-concat f g [] = refl
   map-concat f g (x ∷ xs) = map-append f (g x) (concatOf g xs) ∙ ap (λ l. map f (g x) ++ l) (map-concat f g xs)
+
+module _ {A : Type 0} where
+  -- a sum of nothings is nothing, and where a sum is nothing each of its terms is
+  pub sum-none : (f : A → ℕ) (xs : List A) → ((x : A) → f x ≡ 0) → sumOf f xs ≡ 0
+  sum-none f [] h = refl
+  sum-none f (x ∷ xs) h = omega (arith, h x, sum-none f xs h)
+
+  pub none-of-sum : (f : A → ℕ) (xs : List A) → sumOf f xs ≡ 0 → (x : A) → List·Memᴰ x xs → f x ≡ 0
+  none-of-sum f ys e y (List·Memᴰ·head {x} {xs} same) = let first : f x ≡ 0 = omega arith in ap f same ∙ first
+  none-of-sum f ys e y (List·Memᴰ·tail {x} {xs} m) = none-of-sum f xs (omega arith) y m
+
+  -- a test that holds at every place of a list holds of all
+  pub all-places : (t : A → Bool) (d : A) (xs : List A) → ((j : ℕ) → j < length xs → t (nth xs (suc j) d) ≡ true) → allOf t xs ≡ true
+  all-places t d [] h = refl
+  all-places t d (x ∷ xs) h = rw (h 0 (omega arith)) (all-places t d xs (λ j l. h (suc j) (omega arith)))
+
+  -- a list of which a test holds that tells one element is that element over and over
+  pub all-alike : (t : A → Bool) (d : A) → ((x : A) → t x ≡ true → x ≡ d) → (xs : List A) → allOf t xs ≡ true → xs ≡ replicate (length xs) d
+  all-alike t d told [] e = refl
+  all-alike t d told (x ∷ xs) e =
+      let both = and-eq-true-iff (t x) (allOf t xs) .0 e in
+      ap₂ _∷_ (told x both.0) (all-alike t d told xs both.1)
+
+  -- and of such a list the test holds; each of its places has the element
+  pub all-replicate : (t : A → Bool) (d : A) → t d ≡ true → (n : ℕ) → allOf t (replicate n d) ≡ true
+  all-replicate t d e zero = refl
+  all-replicate t d e (suc n) = rw e (all-replicate t d e n)
+
+  pub nth-replicate : (n j : ℕ) (d : A) → nth (replicate n d) j d ≡ d
+  nth-replicate n zero d = refl
+  nth-replicate zero (suc j) d = refl
+  nth-replicate (suc n) (suc zero) d = refl
+  nth-replicate (suc n) (suc (suc j)) d = nth-replicate n (suc j) d

@@ -5,7 +5,7 @@ use Prim.Native.Nat.{ℕ, zero, suc, _+_, _-_, _≤_, _<_, min}
 use mathlib.Core.Path.{_≡_, refl, sym, _∙_, ap, subst}
 use mathlib.Core.Logic.{_⊎_, inl, inr}
 use mathlib.Core.List.{List, [], _∷_, map, tail, List·Memᴰ, List·Memᴰ·head, List·Memᴰ·tail}
-use mathlib.Core.Bool.{Bool, true, false, cond, _&&_, and-eq-true-iff}
+use mathlib.Core.Bool.{Bool, true, false, cond, _&&_, _||_, and-eq-true-iff}
 use mathlib.Core.Option.{Option, none, some, Option·getD}
 use lib.Dec.{leb}
 use native.Mathlib.Omega.{arith}
@@ -19,10 +19,10 @@ use Rattle.rules.specs.declared.Passage.{Passage}
 use Rattle.rules.specs.declared.Passage.the-variants.{P00, P02, P11, P20, P22}
 use Rattle.rules.specs.Lists.{headOr, select, concatOf, sumOf, allOf}
 use Rattle.rules.specs.Lengths.{actionLength, passageLength}
-use Rattle.rules.specs.Jobs.{Job}
+use Rattle.rules.specs.Jobs.{Job, emptyList}
 use Rattle.rules.specs.Plans.{Plan, Fits, WellFormed, planLength, planPasses}
 use Rattle.rules.specs.Policies.{passageNamed}
-use Rattle.rules.specs.Machine.{State, nothing, closed, atFront, atBack, odd, joined, split, ending, dead, lawfulStep, traversalStep, midpointStep, policyStep, actionPossible, actionStep, crossStep, passageStep, runFrom, isClosed, accepts}
+use Rattle.rules.specs.Machine.{State, nothing, closed, atFront, atBack, odd, joined, split, ending, dead, lawfulStep, traversalStep, midpointStep, policyStep, actionPossible, actionStep, crossStep, passageStep, runFrom, isClosed, treadsNothing, accepts}
 use Rattle.rules.specs.Serving.{serves}
 use Rattle.rules.proofs.Lengths.{plan-length}
 use Rattle.rules.proofs.Listing.{listed-sound}
@@ -295,21 +295,41 @@ module _ (job : Job) (bound : ℕ) where
   abbrev servesList : Plan → Bool
   servesList plan = serves job (planPasses plan)
 
-  -- the first of the shortest that serve the list, among the plans no longer than the bound, beside its length
+  -- all plans that serve the list and are no longer than the bound, one by one
+  abbrev allShort : List Rest
+  allShort = map (weighed z) (select short (servingPlans job))
+
+  -- the first of the shortest that serve the list, among the plans no longer than the bound, beside its length;
+  -- for an empty list, which the machine does not decide alone, by going through all plans
   unfoldable pub boundedBest : Option Rest
   unfolding acceptsFrom
-  boundedBest =
-      firstShortest (λ (r : Rest). r .0) (select (λ (r : Rest). servesList (r .1)) (restsAt (layerFrom (z .aisles) 1) nothing))
+  boundedBest = firstShortest (λ (r : Rest). r .0) (elim (emptyList (job .lines)) [
+    | true ↦ allShort
+    | false ↦ select (λ (r : Rest). servesList (r .1)) (restsAt (layerFrom (z .aisles) 1) nothing)
+  ])
 
   -- it is the first of the shortest of all that serve the list, as far as these are no longer than the bound
-  bounded-serving : boundedBest ≡ firstShortest (λ (r : Rest). r .0) (map (weighed z) (select short (servingPlans job)))
+  bounded-serving : boundedBest ≡ firstShortest (λ (r : Rest). r .0) allShort
   unfolding boundedBest servingPlans accepts acceptsFrom
-  bounded-serving =
-      let accepted = select (accepts job) (plansOf (z .cells) (z .aisles)) in
-      ap (λ rests. firstShortest (λ (r : Rest). r .0) (select (λ (r : Rest). servesList (r .1)) rests)) (sym (kept-from (z .aisles) 1 nothing))
-      ∙ ap (firstShortest (λ (r : Rest). r .0))
-      (select-map (λ (r : Rest). servesList (r .1)) (weighed z) (select short accepted)
-      ∙ ap (map (weighed z)) (select-swap short servesList accepted ∙ ap (select short) (sym (select-both (accepts job) servesList (plansOf (z .cells) (z .aisles))))))
+  bounded-serving = ap (firstShortest (λ (r : Rest). r .0)) (go (emptyList (job .lines)) refl)
+    where
+      plans : List Plan
+      plans = plansOf (z .cells) (z .aisles)
+
+      accepted : List Plan
+      accepted = select (acceptsFrom job 1 nothing) plans
+
+      -- those that are accepted, where the list is empty or is not
+      listed : Bool → List Rest
+      listed b = map (weighed z) (select short (select (λ plan. ((b && treadsNothing plan) || acceptsFrom job 1 nothing plan) && servesList plan) plans))
+
+      go : (b : Bool) → emptyList (job .lines) ≡ b → elim b [ true ↦ allShort | false ↦ select (λ (r : Rest). servesList (r .1)) (restsAt (layerFrom (z .aisles) 1) nothing) ] ≡ allShort
+      go true e = refl
+      go false e =
+          ap (select (λ (r : Rest). servesList (r .1))) (sym (kept-from (z .aisles) 1 nothing))
+          ∙ select-map (λ (r : Rest). servesList (r .1)) (weighed z) (select short accepted)
+          ∙ ap (map (weighed z)) (select-swap short servesList accepted ∙ ap (select short) (sym (select-both (acceptsFrom job 1 nothing) servesList plans)))
+          ∙ ap listed (sym e)
 
 -- Of the shorter of two these laws hold whichever way a tie goes.
 module _ {A : Type 0} (len : A → ℕ) (x y : A) where

@@ -1,4 +1,4 @@
--- Document 01, "Walked examples": the cases 1 to 14 and the job and sheet of "Sheet", byte for byte.
+-- Document 01, "Walked examples": the cases 1 to 14 (14 as request #101 has it) and the job and sheet of "Sheet", byte for byte.
 use Prim.Native.Nat.{ℕ}
 use mathlib.Core.Path.{_≡_}
 use mathlib.Core.List.{List, [], _∷_, _++_}
@@ -132,7 +132,7 @@ cases =
     ∷ underEvery (alpha ((9 ⨯ 255) ∷ [])) (weighing 256 8)  -- 11
     ∷ underEvery (alpha ((9 ⨯ 256) ∷ [])) (refusal 5)  -- 12
     ∷ underEvery (alpha ((9 ⨯ 255) ∷ (7 ⨯ 1) ∷ [])) (weighing 512 7)  -- 13
-    ∷ underEvery (alpha []) (refusal 5)  -- 14
+    ∷ underEvery (alpha []) (walked 0 (Void ∷ Void ∷ []) (P00 ∷ []) [])  -- 14
     ∷ []
 
 -- a job of our own: m C f p b w d, its stock and its list
@@ -242,6 +242,17 @@ bothBottom b = allowing b (Bottom 1 ∷ Bottom 1 ∷ []) (P02 ∷ [])
 unfoldable pub bothOnce : Bool → Expected
 bothOnce b = allowing b (Once ∷ Once ∷ []) (P11 ∷ [])
 
+-- nine lines, one each of the articles 1 to 9
+unfoldable pub nineLines : List OrderLine
+nineLines = (1 ⨯ 1) ∷ (2 ⨯ 1) ∷ (3 ⨯ 1) ∷ (4 ⨯ 1) ∷ (5 ⨯ 1) ∷ (6 ⨯ 1) ∷ (7 ⨯ 1) ∷ (8 ⨯ 1) ∷ (9 ⨯ 1) ∷ []
+
+-- plans of store α for an empty list: one that treads only the front cross-aisle, and one that does not touch the depot
+unfoldable pub frontOnly : Bool → Expected
+frontOnly b = allowing b (Void ∷ Void ∷ []) (P02 ∷ [])
+
+unfoldable pub awayFromDepot : Bool → Expected
+awayFromDepot b = allowing b (Void ∷ Bottom 1 ∷ []) (P00 ∷ [])
+
 -- cases of our own: each pins what none of the fourteen does
 unfoldable pub ownCases : List Case
 ownCases =
@@ -267,6 +278,9 @@ ownCases =
     ∷ under Midpoint gapByBack (tour 30 (Once ∷ Gap 1 5 ∷ Gap 1 6 ∷ Once ∷ []) (P11 ∷ P11 ∷ P11 ∷ []))  -- then small i
     ∷ under Exact gapOrOnce (tour 32 (Once ∷ Gap 1 3 ∷ Once ∷ []) (P11 ∷ P11 ∷ []))  -- GAP before ONCE
     ∷ under Composite frontOrBack (walked 26 (Once ∷ Once ∷ Bottom 2 ∷ []) (P11 ∷ P02 ∷ []) leftFirst)  -- 02 before 20; L before R
+    ∷ underEvery (alpha nineLines) (refusal 5)  -- no line is no cause of 5, nine lines still are
+    ∷ underEvery (alpha []) (frontOnly true)  -- the plan that treads nothing is lawful too: the others stay so
+    ∷ under Exact (alpha []) (awayFromDepot false)  -- and nothing else becomes lawful
     ∷ []
 
 -- texts and their bytes: every word, the order of the fields of a line, and what a refusal prints

@@ -1,7 +1,7 @@
 -- A job: what one job file says. Its numbers are within the bounds only if no refusal applies (Refusals).
 use Prim.Native.Nat.{ℕ}
-use mathlib.Core.List.{List}
-use mathlib.Core.Bool.{Bool, _&&_}
+use mathlib.Core.List.{List, [], _∷_}
+use mathlib.Core.Bool.{Bool, true, false, _&&_}
 use lib.Dec.{eqb}
 use Rattle.rules.specs.declared.Layout.{Layout}
 use Rattle.rules.specs.declared.Policy.{Policy}
@@ -14,6 +14,11 @@ pub record Job : Type 0 where
   pub policy : Policy
   pub stock : List StockRecord
   pub lines : List OrderLine
+
+-- an empty list: it has no line, and there is nothing to fetch
+abbrev pub emptyList : List OrderLine → Bool
+emptyList [] = true
+emptyList (l ∷ lines) = false
 
 -- the article stands on a line of the list
 unfoldable pub listed : Job → ℕ → Bool

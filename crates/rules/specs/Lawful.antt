@@ -1,8 +1,10 @@
--- Document 01, "Plans": when a plan is lawful.
+-- Document 01, "Plans": when a plan is lawful; and request #101: for an empty list.
 use Prim.Native.Nat.{ℕ, zero, suc, _+_, _-_, _%_, _≤_, _<_}
 use mathlib.Core.Path.{_≡_}
 use mathlib.Core.Logic.{_⊎_}
+use mathlib.Core.List.{List, [], _∷_}
 use Rattle.rules.specs.declared.Layout.{Layout}
+use Rattle.rules.specs.declared.OrderLine.{OrderLine}
 use Rattle.rules.specs.Store.{Point, Edge, along, front, back, startOf, endOf, Joins, InStore, depotPoint}
 use Rattle.rules.specs.Plans.{Plan, WellFormed, multiplicity}
 
@@ -35,3 +37,13 @@ pub record Lawful (z : Layout) (plan : Plan) : Type 0 where
   pub back-even : (j : ℕ) → 1 ≤ j → j ≤ z .aisles → backDegree z (multiplicity plan) j % 2 ≡ 0
   pub together : (x y : Point) → Touched z (multiplicity plan) x → Touched z (multiplicity plan) y → Linked z (multiplicity plan) y x
   pub depot-touched : Touched z (multiplicity plan) (depotPoint z)
+
+-- the plan that treads nothing: a plan of the store in which every edge has no tread
+pub record TreadsNothing (z : Layout) (plan : Plan) : Type 0 where
+  pub well-formed : WellFormed z plan
+  pub untrodden : (e : Edge) → InStore z e → multiplicity plan e ≡ 0
+
+-- lawful for a list: for an empty list the plan that treads nothing is lawful too
+abbrev pub LawfulFor : Layout → List OrderLine → Plan → Type 0
+LawfulFor z [] plan = Lawful z plan ⊎ TreadsNothing z plan
+LawfulFor z (l ∷ lines) plan = Lawful z plan

@@ -11,8 +11,8 @@ use Rattle.rules.specs.declared.Action.{Action}
 use Rattle.rules.specs.declared.Action.the-variants.{Void, Bottom, Top, Gap, Once, Twice}
 use Rattle.rules.specs.declared.Passage.{Passage}
 use Rattle.rules.specs.declared.Passage.the-variants.{P00, P02, P11, P20, P22}
-use Rattle.rules.specs.Lists.{headOr}
-use Rattle.rules.specs.Jobs.{Job, holdsListed}
+use Rattle.rules.specs.Lists.{allOf, headOr}
+use Rattle.rules.specs.Jobs.{Job, emptyList, holdsListed}
 use Rattle.rules.specs.Plans.{Plan}
 use Rattle.rules.specs.Policies.{actionNamed, passageNamed, halved}
 
@@ -181,6 +181,22 @@ isClosed split = false
 isClosed ending = false
 isClosed dead = false
 
--- the machine accepts the plan when all is closed off, the depot inside
+-- the machine closes the plan off, the depot inside
+abbrev pub closesOff : Job → Plan → Bool
+closesOff job plan = isClosed (runFrom job 1 nothing (plan .actions) (plan .passages))
+
+-- passage 00
+abbrev pub is00 : Passage → Bool
+is00 P00 = true
+is00 P02 = false
+is00 P11 = false
+is00 P20 = false
+is00 P22 = false
+
+-- a plan that treads nothing: every aisle is VOID, every passage 00
+unfoldable pub treadsNothing : Plan → Bool
+treadsNothing plan = allOf isVoid (plan .actions) && allOf is00 (plan .passages)
+
+-- a plan is accepted when the machine closes it off; for an empty list the plan that treads nothing is too
 unfoldable pub accepts : Job → Plan → Bool
-accepts job plan = isClosed (runFrom job 1 nothing (plan .actions) (plan .passages))
+accepts job plan = (emptyList (job .lines) && treadsNothing plan) || closesOff job plan

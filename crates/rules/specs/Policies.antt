@@ -15,7 +15,7 @@ use Rattle.rules.specs.Lists.{sumOf, anyOf}
 use Rattle.rules.specs.Store.{aisleLength, position}
 use Rattle.rules.specs.Jobs.{Job, holdsListed}
 use Rattle.rules.specs.Plans.{Plan, Kind, VOID, BOTTOM, TOP, GAP, ONCE, TWICE, kindOf, kindRank, actionAt, passageAt, backTreads, frontTreads, entered}
-use Rattle.rules.specs.Lawful.{Lawful}
+use Rattle.rules.specs.Lawful.{LawfulFor}
 
 -- the kinds of actions that a policy names
 abbrev pub kindsNamed : Policy → List Kind
@@ -118,7 +118,7 @@ Follows Traversal job plan = PolicyRules job plan
 Follows Midpoint job plan = PolicyRules job plan
 Follows Composite job plan = PolicyRules job plan
 
--- the plans that the job's policy allows: lawful plans that follow it
+-- the plans that the job's policy allows: those that are lawful for its list and follow it
 pub record Allowed (job : Job) (plan : Plan) : Type 0 where
-  pub lawful : Lawful (job .layout) plan
+  pub lawful : LawfulFor (job .layout) (job .lines) plan
   pub follows : Follows (job .policy) job plan

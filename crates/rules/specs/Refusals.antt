@@ -48,9 +48,9 @@ sameCell r s = eqb (r .aisle) (s .aisle) && eqb (r .cell) (s .cell)
 unfoldable pub lineInBounds : OrderLine → Bool
 lineInBounds l = within 1 65535 (l .article) && within 1 255 (l .quantity)
 
--- order lines 1 to 8, each within its bounds
+-- order lines 0 to 8, each within its bounds
 unfoldable pub listInBounds : Job → Bool
-listInBounds job = within 1 8 (length (job .lines)) && allOf lineInBounds (job .lines)
+listInBounds job = leb (length (job .lines)) 8 && allOf lineInBounds (job .lines)
 
 -- the same bounds, number by number
 pub record LineWithin (l : OrderLine) : Type 0 where
@@ -58,7 +58,7 @@ pub record LineWithin (l : OrderLine) : Type 0 where
   pub quantity : (1 ≤ l .quantity) × (l .quantity ≤ 255)
 
 pub record ListWithin (job : Job) : Type 0 where
-  pub count : (1 ≤ length (job .lines)) × (length (job .lines) ≤ 8)
+  pub count : length (job .lines) ≤ 8
   pub lines : (l : OrderLine) → List·Memᴰ l (job .lines) → LineWithin l
 
 -- two lines of one article

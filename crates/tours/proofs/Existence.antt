@@ -26,9 +26,12 @@ use Rattle.rules.specs.Plans.{Plan, WellFormed, Fits, actionAt, passesCell, pla
 use Rattle.rules.specs.Policies.{Allowed, actionNamed, passageNamed, inFrontHalf, inBackHalf}
 use Rattle.rules.specs.Serving.{supply, Serves, PlanServes}
 use Rattle.rules.specs.Refusals.{Admitted, allStock, RecordWithin}
-use Rattle.rules.specs.Machine.{State, nothing, closed, atFront, odd, joined, ending, dead, lawfulStep, midpointStep, policyStep, crossStep, isVoid, mayEnter, actionPossible, actionStep, passageStep, runFrom, isClosed, accepts}
+use Rattle.rules.specs.Machine.{State, nothing, closed, atFront, odd, joined, ending, dead, lawfulStep, midpointStep, policyStep, crossStep, isVoid, mayEnter, actionPossible, actionStep, passageStep, runFrom, isClosed, closesOff, accepts}
 use Rattle.rules.proofs.Lists.{any-true, from-member, sum-agree}
+use Rattle.rules.specs.BestPlan.{emptyPlan}
 use Rattle.rules.proofs.Admission.{layout-within, stock-within, list-within, lines-in-stock}
+use Rattle.rules.proofs.EmptyPlan.{empty-well-formed}
+use Rattle.rules.proofs.EmptyList.{closed-accepted, empty-accepted, empty-serves}
 use Rattle.tours.proofs.Basics.{split-at, true-not-false, or-true}
 use Rattle.tours.proofs.Machine.{accepts-allowed}
 
@@ -305,12 +308,12 @@ module _ (job : Job) (a : Admitted job) where
   in-stock : (l : OrderLine) → List·Memᴰ l (job .lines) → l .quantity ≤ allStock job (l .article)
   in-stock = lines-in-stock job .0 (a .in-stock)
 
-  -- some aisle holds a listed article
-  some-aisle : anyOf (holdsListed job) (from 1 (job .layout .aisles)) ≡ true
+  -- where the list has a line some aisle holds a listed article
+  some-aisle : 1 ≤ length (job .lines) → anyOf (holdsListed job) (from 1 (job .layout .aisles)) ≡ true
   unfolding allStock
-  some-aisle =
+  some-aisle some-line =
       let list = list-within job .0 (a .list) in
-      let (l, m) = first (job .lines) (list .count .0) in
+      let (l, m) = first (job .lines) some-line in
       let (r, n, t) = some-term (λ (r : StockRecord). cond (eqb (r .article) (l .article)) (r .quantity) 0) (job .stock) (omega (arith, in-stock l m, list .lines l m .quantity .0)) in
       let e = eqb-true (r .article) (l .article) (told (eqb (r .article) (l .article)) (r .quantity) t) in
       let w = record-in r n .aisle in
@@ -336,21 +339,33 @@ module _ (job : Job) (a : Admitted job) where
           rw (e, h (r .aisle) (w .aisle .0) (w .aisle .1) (holds l r m n (eqb-true (r .article) (l .article) e)) .passes (r .cell) (w .cell .0) (w .cell .1))
       go r n false e = rw e
 
-  -- for each policy some plan that the machine accepts serves the list
-  pub serving-exists : (plan : Plan) × WellFormed (job .layout) plan × (accepts job plan ≡ true) × PlanServes job plan
-  unfolding accepts actionAt
-  serving-exists = go (job .layout .aisles) refl (within .aisles .0)
+  -- for each policy some plan that the machine closes off serves a list with lines
+  closed-exists : 1 ≤ length (job .lines) → (plan : Plan) × WellFormed (job .layout) plan × (closesOff job plan ≡ true) × PlanServes job plan
+  unfolding actionAt
+  closed-exists some-line = go (job .layout .aisles) refl (within .aisles .0)
     where
-      go : (m : ℕ) → job .layout .aisles ≡ m → 1 ≤ m → (plan : Plan) × WellFormed (job .layout) plan × (accepts job plan ≡ true) × PlanServes job plan
+      go : (m : ℕ) → job .layout .aisles ≡ m → 1 ≤ m → (plan : Plan) × WellFormed (job .layout) plan × (closesOff job plan ≡ true) × PlanServes job plan
       go zero e some = absurd (omega arith)
       go (suc n) e some =
-          let t = rest job within n 1 nothing (omega arith) (none-yet (subst (λ (k : ℕ). anyOf (holdsListed job) (from 1 k) ≡ true) e some-aisle)) in
+          let t = rest job within n 1 nothing (omega arith) (none-yet (subst (λ (k : ℕ). anyOf (holdsListed job) (from 1 k) ≡ true) e (some-aisle some-line))) in
           let plan : Plan = record { actions = t .actions; passages = t .passages } in
           (plan, record { aisles = t .aisles ∙ sym e; passages = ap suc (t .gaps) ∙ sym e; fits = t .fits }, ap isClosed (t .closes), whole-stock plan (at-aisle (t .actions) (t .passes)))
         where
           at-aisle : (actions : List Action) → PassedFrom job 1 actions → (j : ℕ) → 1 ≤ j → j ≤ job .layout .aisles → holdsListed job j ≡ true → Whole (job .layout .cells) (nth actions j Void)
           at-aisle actions p zero low high h = absurd (omega arith)
           at-aisle actions p (suc k) low high h = p k (suc k) (omega arith) high h
+
+  -- for each policy some plan that is accepted serves the list: for an empty one the plan that treads nothing
+  pub serving-exists : (plan : Plan) × WellFormed (job .layout) plan × (accepts job plan ≡ true) × PlanServes job plan
+  serving-exists = go (job .lines) refl
+    where
+      go : (lines : List OrderLine) → job .lines ≡ lines → (plan : Plan) × WellFormed (job .layout) plan × (accepts job plan ≡ true) × PlanServes job plan
+      go [] e =
+          let idle = emptyPlan (job .layout) in
+          (idle, empty-well-formed (job .layout) (within .aisles .0), empty-accepted job e, empty-serves job e idle)
+      go (l ∷ lines) e =
+          let t = closed-exists (rw e (omega arith)) in
+          (t .0, t .1, closed-accepted job (t .0) (t .2), t .3)
 
 -- for each policy some allowed plan serves the list
 pub allowed-exists : (job : Job) → Admitted job → (plan : Plan) × Allowed job plan × PlanServes job plan

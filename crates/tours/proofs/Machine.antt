@@ -1,38 +1,69 @@
 -- The machine is the rules: under each policy it accepts just the plans that the policy allows.
 use Prim.Native.Nat.{_≤_}
-use mathlib.Core.Path.{_≡_, refl}
-use mathlib.Core.Logic.{_↔_}
+use mathlib.Core.Path.{_≡_, refl, sym, subst}
+use mathlib.Core.Logic.{_⊎_, inl, inr, _↔_}
+use mathlib.Core.List.{List, [], _∷_}
 use mathlib.Core.Bool.{true}
+use Rattle.rules.specs.declared.OrderLine.{OrderLine}
 use Rattle.rules.specs.declared.Policy.the-variants.{Exact}
 use Rattle.rules.specs.Jobs.{Job}
 use Rattle.rules.specs.Plans.{Plan, WellFormed}
-use Rattle.rules.specs.Lawful.{Lawful}
-use Rattle.rules.specs.Policies.{Allowed}
-use Rattle.rules.specs.Machine.{accepts}
-use Rattle.tours.proofs.Runs.{accepts-by-table}
+use Rattle.rules.specs.Lawful.{Lawful, TreadsNothing, LawfulFor}
+use Rattle.rules.specs.Policies.{Follows, Allowed}
+use Rattle.rules.specs.Machine.{closesOff, accepts}
+use Rattle.rules.proofs.EmptyPlan.{one-empty-plan, empty-follows}
+use Rattle.rules.proofs.EmptyList.{lawful-for, lawful-well-formed, accepted-by}
+use Rattle.tours.proofs.Runs.{closes-by-table}
 use Rattle.tours.proofs.Rules.{policy-table, follows-rules}
 
--- the job's policy allows just the plans of the store that the machine accepts
-pub accepts-allowed : (job : Job) (plan : Plan) → 1 ≤ job .layout .depot
-    → (WellFormed (job .layout) plan × (accepts job plan ≡ true)) ↔ Allowed job plan
-accepts-allowed job plan depot-low = (λ p. forth (p .0) (p .1), λ a. (a .lawful .well-formed, back a))
-  where
-    forth : WellFormed (job .layout) plan → accepts job plan ≡ true → Allowed job plan
-    forth wf h =
-        let t = accepts-by-table job wf .0 h in
-        let r = policy-table wf depot-low (job .policy) (λ j. t .0 j .passage) .0 (t .1) in
-        record { lawful = r .0; follows = follows-rules job plan (job .policy) refl .0 (t .0, r .1) }
+module _ (job : Job) (plan : Plan) (depot-low : 1 ≤ job .layout .depot) where
+  -- the machine closes off just the lawful plans that follow the policy
+  pub closes-lawful : WellFormed (job .layout) plan → (closesOff job plan ≡ true) ↔ (Lawful (job .layout) plan × Follows (job .policy) job plan)
+  closes-lawful wf = (forth, back)
+    where
+      forth : closesOff job plan ≡ true → Lawful (job .layout) plan × Follows (job .policy) job plan
+      forth h =
+          let t = closes-by-table job wf .0 h in
+          let r = policy-table wf depot-low (job .policy) (λ j. t .0 j .passage) .0 (t .1) in
+          (r .0, follows-rules job plan (job .policy) refl .0 (t .0, r .1))
 
-    back : Allowed job plan → accepts job plan ≡ true
-    back a =
-        let wf = a .lawful .well-formed in
-        let f = follows-rules job plan (job .policy) refl .1 (a .follows) in
-        accepts-by-table job wf .1
-        (f .0, policy-table wf depot-low (job .policy) (λ j. f .0 j .passage) .1 (a .lawful, f .1))
+      back : Lawful (job .layout) plan × Follows (job .policy) job plan → closesOff job plan ≡ true
+      back (law, follows) =
+          let f = follows-rules job plan (job .policy) refl .1 follows in
+          closes-by-table job wf .1
+          (f .0, policy-table wf depot-low (job .policy) (λ j. f .0 j .passage) .1 (law, f .1))
+
+  -- a plan is lawful for the list: lawful, or it treads nothing and the list is empty
+  by-list : (lines : List OrderLine) → job .lines ≡ lines → LawfulFor (job .layout) lines plan → Lawful (job .layout) plan ⊎ ((job .lines ≡ []) × TreadsNothing (job .layout) plan)
+  by-list [] e (inl law) = inl law
+  by-list [] e (inr idle) = inr (e, idle)
+  by-list (l ∷ lines) e law = inl law
+
+  -- the job's policy allows just the plans of the store that are accepted
+  pub accepts-allowed : (WellFormed (job .layout) plan × (accepts job plan ≡ true)) ↔ Allowed job plan
+  accepts-allowed = (λ p. forth (p .0) (accepted-by job plan (p .0) .0 (p .1)), λ a. (formed a, accepted-by job plan (formed a) .1 (back a)))
+    where
+      formed : Allowed job plan → WellFormed (job .layout) plan
+      formed a = lawful-well-formed (job .layout) (job .lines) plan (a .lawful)
+
+      forth : WellFormed (job .layout) plan → (closesOff job plan ≡ true) ⊎ ((job .lines ≡ []) × TreadsNothing (job .layout) plan) → Allowed job plan
+      forth wf (inl h) =
+          let t = closes-lawful wf .0 h in record { lawful = lawful-for (job .layout) (job .lines) plan (t .0); follows = t .1 }
+      forth wf (inr (none, idle)) =
+          record {
+            lawful = subst (λ lines. LawfulFor (job .layout) lines plan) (sym none) (inr idle);
+            follows = subst (Follows (job .policy) job) (sym (one-empty-plan (job .layout) plan idle)) (empty-follows job (job .policy));
+          }
+
+      back : Allowed job plan → (closesOff job plan ≡ true) ⊎ ((job .lines ≡ []) × TreadsNothing (job .layout) plan)
+      back a = elim (by-list (job .lines) refl (a .lawful)) [
+        | inl law ↦ inl (closes-lawful (formed a) .1 (law, a .follows))
+        | inr idle ↦ inr idle
+      ]
 
 -- under EXACT: just the lawful plans
 pub accepts-lawful : (job : Job) (plan : Plan) → job .policy ≡ Exact → 1 ≤ job .layout .depot
-    → (WellFormed (job .layout) plan × (accepts job plan ≡ true)) ↔ Lawful (job .layout) plan
+    → (WellFormed (job .layout) plan × (accepts job plan ≡ true)) ↔ LawfulFor (job .layout) (job .lines) plan
 accepts-lawful job plan e depot-low =
     let a = accepts-allowed job plan depot-low in
     ((λ h. a .0 h .lawful), (λ l. a .1 (record { lawful = l; follows = rw e tt })))

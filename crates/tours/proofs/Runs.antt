@@ -17,8 +17,9 @@ use Rattle.rules.specs.declared.Passage.the-variants.{P00}
 use Rattle.rules.specs.Lists.{nth, headOr}
 use Rattle.rules.specs.Jobs.{Job}
 use Rattle.rules.specs.Plans.{Plan, WellFormed, actionAt, passageAt}
-use Rattle.rules.specs.Policies.{actionNamed, passageNamed}
-use Rattle.rules.specs.Machine.{State, nothing, closed, atFront, atBack, odd, joined, split, ending, dead, policyStep, crossStep, actionPossible, actionStep, passageStep, runFrom, isClosed, accepts}
+use Rattle.rules.specs.Policies.{passageNamed}
+use Rattle.rules.specs.Machine.{State, nothing, closed, atFront, atBack, odd, joined, split, ending, dead, policyStep, crossStep, actionPossible, actionStep, passageStep, runFrom, isClosed, closesOff}
+use Rattle.rules.proofs.EmptyPlan.{named-void}
 use Rattle.tours.specs.Prefixes.{stateAt, policyState}
 use Rattle.tours.proofs.Basics.{below, split-at}
 use Rattle.tours.proofs.Aisles.{action-past, passage-past}
@@ -59,11 +60,11 @@ is-closed split e = cc
 is-closed ending e = cc
 is-closed dead e = cc
 
--- the machine accepts a plan when the state behind its last aisle is `closed`
-accepts-closed : (job : Job) {plan : Plan} → WellFormed (job .layout) plan
-    → (accepts job plan ≡ true) ↔ (stateAt job plan (job .layout .aisles) ≡ closed)
-unfolding accepts actionAt passageAt
-accepts-closed job {plan} wf =
+-- the machine closes a plan off when the state behind its last aisle is `closed`
+closes-off : (job : Job) {plan : Plan} → WellFormed (job .layout) plan
+    → (closesOff job plan ≡ true) ↔ (stateAt job plan (job .layout .aisles) ≡ closed)
+unfolding actionAt passageAt
+closes-off job {plan} wf =
     let e = wf .aisles in
     let r = run-from job plan (plan .actions) (plan .passages) 0 (job .layout .aisles)
     (λ k i p. let q : i ≡ k = omega arith in rw q)
@@ -136,13 +137,6 @@ module _ (job : Job) (plan : Plan) where
   tests-pass f zero = refl
   tests-pass f (suc i) = rw (f (suc i) .action, f (suc i) .passage, tests-pass f i)
 
-named-void : (p : Policy) → (actionNamed p Void ≡ true) × (passageNamed p P00 ≡ true)
-named-void Exact = (refl, refl)
-named-void Return = (refl, refl)
-named-void Traversal = (refl, refl)
-named-void Midpoint = (refl, refl)
-named-void Composite = (refl, refl)
-
 module _ (job : Job) {plan : Plan} (wf : WellFormed (job .layout) plan) where
   -- outside the store every policy has what the plan holds
   outside : (j : ℕ) → actionAt plan j ≡ Void → passageAt plan j ≡ P00 → Possible job plan j
@@ -159,13 +153,13 @@ module _ (job : Job) {plan : Plan} (wf : WellFormed (job .layout) plan) where
     | inr l ↦ outside (suc j) (action-past wf (suc j) (omega arith)) (passage-past wf (suc j) (omega arith))
   ]
 
-  -- the machine accepts a plan whose actions and passages are the policy's and which the policy's table closes off
-  pub accepts-by-table : (accepts job plan ≡ true)
+  -- the machine closes off a plan whose actions and passages are the policy's and which the policy's table closes off
+  pub closes-by-table : (closesOff job plan ≡ true)
       ↔ (((j : ℕ) → Possible job plan j) × (policyState (job .policy) (job .layout) plan (job .layout .aisles) ≡ closed))
-  accepts-by-table = (
+  closes-by-table = (
     (λ h.
-        let c = accepts-closed job wf .0 h in
+        let c = closes-off job wf .0 h in
         let p = all-possible c in
         (p, sym (tests-pass job plan p (job .layout .aisles)) ∙ c)),
-    (λ h. accepts-closed job wf .1 (tests-pass job plan (h .0) (job .layout .aisles) ∙ h .1)),
+    (λ h. closes-off job wf .1 (tests-pass job plan (h .0) (job .layout .aisles) ∙ h .1)),
   )

@@ -129,4 +129,4 @@ module _ (z : Layout) (plan : PlanValue) (w : LawfulPlan z plan) where
 
   -- which are at most 860
   pub walk-short : length (firstWalk z (planOf plan)) ≤ 860
-  walk-short = few-steps z low high (planOf plan) (firstWalk z (planOf plan)) (first-walk z low high (planOf plan) (w .lawful) .0) (w .bounds)
+  walk-short = few-steps z low high (planOf plan) (firstWalk z (planOf plan)) (first-walk z low high [] (planOf plan) (w .lawful) .0) (w .bounds)

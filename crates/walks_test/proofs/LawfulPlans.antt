@@ -2,6 +2,7 @@
 use Prim.Native.Nat.{ℕ, zero, suc}
 use native.Mathlib.Omega.{arith}
 use mathlib.Core.Path.{_≡_, refl}
+use mathlib.Core.Logic.{inl}
 use mathlib.Core.List.{List, [], _∷_}
 use mathlib.Core.Bool.{Bool, true, false, _&&_}
 use lib.Dec.{leb, ltb, eqb}
@@ -104,7 +105,7 @@ module _ (z : Layout) (value : PlanValue) where
       record {
         bounds = b .0;
         aisles = eqb-true (value .aisles) (z .aisles) (d .1);
-        lawful = closed-lawful formed (ltb-true 0 (z .depot) (b .1)) (is-closed (lawfulState (z .depot) plan (z .aisles)) (e .1));
+        lawful = inl (closed-lawful formed (ltb-true 0 (z .depot) (b .1)) (is-closed (lawfulState (z .depot) plan (z .aisles)) (e .1)));
       }
 
 pub mixed-lawful : LawfulPlan (storeOf 4 5 2) mixed
