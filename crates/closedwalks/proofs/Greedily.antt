@@ -121,7 +121,7 @@ module _ (z : Layout) where
     greedy-found (suc n) left x r e =
         pick n left x r e (λ rest y. greedy-found n rest y) (admits z test left x Back) (admits z test left x Front) (admits z test left x Left) (admits z test left x Right) refl refl refl refl
 
-    -- its greedy walk is its first walk
+    -- the greedy walk of such a plan is its first walk
     pub greedy-first : (plan : Plan) → 1 ≤ z .depot → z .depot ≤ z .aisles → LawfulFor z [] plan
         → greedy z test (stepsOf z (multiplicity plan)) (multiplicity plan) (depotPoint z) ≡ firstWalk z plan
     unfolding firstWalk

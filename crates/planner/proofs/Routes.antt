@@ -41,7 +41,7 @@ module _ (job : JobValue) (routed : Routed) (s : Sound job) (r : RoutedOf (jobOf
         its-aisles = sym same-aisles;
       }
 
-  -- it is lawful
+  -- it is lawful for the job's list, so for an empty one
   pub routed-lawful : LawfulPlan (job .layout) (routed .plan)
   unfolding jobOf
   routed-lawful =

@@ -8,6 +8,7 @@ use Prim.Native.Nat.{ℕ, _≤_, _<_}
 use mathlib.Core.Path.{_≡_, refl, sym, _∙_, ap, subst}
 use mathlib.Core.Logic.{_⊎_, _↔_}
 use mathlib.Core.List.{List, [], _++_}
+use mathlib.Core.Bool.{true}
 use lib.ListN.{length, take, drop}
 use Rattle.rules.specs.declared.Layout.{Layout}
 use Rattle.rules.specs.declared.Policy.{Policy}
@@ -15,19 +16,20 @@ use Rattle.rules.specs.declared.Policy.the-variants.{Exact}
 use Rattle.rules.specs.declared.Refusal.{Refusal}
 use Rattle.rules.specs.declared.Refusal.the-variants.{WorkArea, ListBounds, ShortOfStock, SheetSpace}
 use Rattle.rules.specs.declared.Reply.the-variants.{Served, Refused}
-use Rattle.rules.specs.Store.{Edge, InStore}
+use Rattle.rules.specs.Store.{Edge, InStore, layoutInBounds}
 use Rattle.rules.specs.Jobs.{Job}
-use Rattle.rules.specs.JobFile.{lineFeed, header, field, jobFileLimit}
+use Rattle.rules.specs.JobFile.{lineFeed, header, field, jobText, jobFileLimit}
 use Rattle.rules.specs.Plans.{Plan}
 use Rattle.rules.specs.Lawful.{Lawful}
 use Rattle.rules.specs.Walks.{Walk, ClosedWalk, walkTreads}
 use Rattle.rules.specs.Picks.{picksOf}
 use Rattle.rules.specs.BestPlan.{emptyPlan}
-use Rattle.rules.specs.Refusals.{numberOf, cleared, Admitted}
+use Rattle.rules.specs.Refusals.{numberOf, workLimit, cleared, Admitted}
+use Rattle.rules.specs.Sheet.{sheetText}
 use Rattle.rules.specs.Answers.{answer, hostAnswer, sheetLimit, letterR, output}
 use Rattle.rules.specs.Policies.{Follows, Allowed}
 use Rattle.rules.specs.Serving.{PlanServes}
-use Rattle.rules.specs.Examples.{AllHold, cases, ownCases}
+use Rattle.rules.specs.Examples.{alpha, AllHold, cases, ownCases}
 use Rattle.rules.proofs.Cases as Cases
 use Rattle.closedwalks.proofs.Statements.{walk-reads, plan-determined}
 use Rattle.promises.specs.Causes.{JobFileOf, LineOutOfStock, OfJob, Cause, tableRow, FirstCause}
@@ -183,6 +185,15 @@ pub empty-list : (bytes sheet work : List ℕ) (job : Job) → NothingToFetch by
     → answer bytes sheet work
     ≡ record { reply = Served (length (emptySheet job)); sheet = emptySheet job ++ drop (length (emptySheet job)) sheet; work = cleared work }
 empty-list = EmptyLists.empty-served
+
+-- there are such calls: case 14, under every policy
+pub empty-list-met : (policy : Policy) (sheet work : List ℕ) → sheetLimit ≤ length sheet → workLimit ≤ length work
+    → NothingToFetch (jobText (alpha [] policy)) sheet work (alpha [] policy)
+empty-list-met = EmptyLists.nothing-to-fetch
+
+-- its sheet by 01, so 9 applies where the space is shorter than that
+pub empty-list-sheet : (job : Job) → layoutInBounds (job .layout) ≡ true → job .lines ≡ [] → sheetText job ≡ emptySheet job
+empty-list-sheet = EmptyLists.empty-sheet
 
 -- "5 no longer covers a list count of 0": it does not apply to an empty list, and neither do 6, 7 and 8
 pub empty-list-passes : (bytes sheet work : List ℕ) (job : Job) → JobFileOf bytes job → job .lines ≡ []

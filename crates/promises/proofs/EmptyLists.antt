@@ -1,40 +1,44 @@
 -- A ward with nothing to fetch: what the policy allows for an empty list, that no refusal of the list applies to it, and its sheet.
 use Prim.Native.Nat.{ℕ, _-_, _≤_, _<_}
 use native.Mathlib.Omega.{arith}
-use mathlib.Core.Path.{_≡_, refl, sym, _∙_, ap, ap₂, subst}
+use mathlib.Core.Path.{_≡_, refl, sym, _∙_, ap, subst}
 use mathlib.Core.Logic.{_⊎_, inl, inr, _↔_}
 use mathlib.Core.List.{List, [], _++_, append-nil, List·Memᴰ, List·Memᴰ·not-nil}
+use mathlib.Core.Option.{some}
 use mathlib.Core.Bool.{true}
 use lib.ListN.{length, drop, length-replicate}
 use Rattle.rules.specs.declared.OrderLine.{OrderLine}
 use Rattle.rules.specs.declared.Action.the-variants.{Void}
 use Rattle.rules.specs.declared.Passage.the-variants.{P00}
-use Rattle.rules.specs.declared.Pick.{Pick}
+use Rattle.rules.specs.declared.Policy.{Policy}
+use Rattle.rules.specs.declared.Policy.the-variants.{Exact, Return, Traversal, Midpoint, Composite}
 use Rattle.rules.specs.declared.Refusal.{Refusal}
 use Rattle.rules.specs.declared.Refusal.the-variants.{WorkArea, NotAJobFile, LayoutBounds, StockBounds, CellTwice, ListBounds, ArticleTwice, TooHeavy, ShortOfStock, SheetSpace}
 use Rattle.rules.specs.declared.Reply.the-variants.{Served}
-use Rattle.rules.specs.Lists.{concatOf}
 use Rattle.rules.specs.Store.{layoutInBounds}
 use Rattle.rules.specs.Jobs.{Job}
-use Rattle.rules.specs.JobFile.{header, sectionText}
+use Rattle.rules.specs.JobFile.{numeral, field, header, layoutText, recordText, lineText, sectionText, jobText}
+use Rattle.rules.specs.JobFile.{isDigit, isNumber, readField, readHeader, readPolicyAs, readPolicy, readLayout, readRecord, readLine, readSection, readLayoutSection, readSections, readJob}
 use Rattle.rules.specs.Plans.{Plan, planLength}
 use Rattle.rules.specs.Lawful.{Lawful, LawfulFor}
 use Rattle.rules.specs.Policies.{Follows, Allowed}
-use Rattle.rules.specs.Walks.{Walk}
 use Rattle.rules.specs.FirstWalk.{firstWalk}
 use Rattle.rules.specs.BestPlan.{emptyPlan, bestPlan}
-use Rattle.rules.specs.Picks.{picksOf}
-use Rattle.rules.specs.Refusals.{weight, cleared}
-use Rattle.rules.specs.Sheet.{letterT, letterA, letterC, letterP, letterW, totalText, actionText, passageText, runsOf, runText, pickText, sheetOf, sheetText}
-use Rattle.rules.specs.Answers.{answer}
+use Rattle.rules.specs.Refusals.{weight, workLimit, cleared}
+use Rattle.rules.specs.Sheet.{letterP, letterW, sheetOf, sheetText}
+use Rattle.rules.specs.Answers.{sheetLimit, answer}
+use Rattle.rules.specs.Examples.{stocked, alpha, cases}
+use Rattle.rules.proofs.Admission.{admitted}
+use Rattle.rules.proofs.Cases.{cases-hold}
 use Rattle.rules.proofs.EmptyPlan.{one-empty-plan, empty-length, empty-walk}
 use Rattle.rules.proofs.EmptyList.{lawful-for, lawful-with-lines, empty-allowed, empty-picks, best-empty}
 use Rattle.tours.proofs.Basics.{split-at}
+use Rattle.planner.proofs.Space.{sheet-suffices}
 use Rattle.promises.specs.Causes.{JobFileOf, TwoAlike, here, later, SameArticle, LineOutOfStock, Cause, tableRow}
 use Rattle.promises.specs.Contents.{Content, contentOf}
 use Rattle.promises.specs.Calls.{Shows}
 use Rattle.promises.specs.EmptyLists.{NothingToFetch, emptySheet, ShowsNothing}
-use Rattle.promises.proofs.Table.{job-file-read, NoCause, served-for, served-admitted}
+use Rattle.promises.proofs.Table.{job-file-read, NoCause, served-for, served-admitted, admitted-served}
 use Rattle.promises.proofs.Shown.{best-obeys, shown-best}
 
 -- a list with lines: the lawful plans that follow the policy, as ever
@@ -93,19 +97,6 @@ module _ (bytes sheet work : List ℕ) (job : Job) (file : JobFileOf bytes job) 
   no-list-cause ShortOfStock low high (other, f, line) = none-listed other f (line .0) (line .1)
   no-list-cause SheetSpace low high c = absurd (omega arith)
 
--- the text of a length, of so many VOID and 00, and of two more sections
-abbrev textWith : Job → (n a c : ℕ) → (p w : List ℕ) → List ℕ
-textWith job n a c p w =
-    (header letterT 1 ++ totalText n (job .policy))
-    ++ ((header letterA a ++ concatOf actionText (emptyPlan (job .layout) .actions))
-    ++ ((header letterC c ++ concatOf passageText (emptyPlan (job .layout) .passages))
-    ++ (p ++ w)))
-
--- what is written for a length, picks and a walk
-abbrev textOf : Job → ℕ → List Pick → Walk → List ℕ
-textOf job n picks walk =
-    textWith job n (length (emptyPlan (job .layout) .actions)) (length (emptyPlan (job .layout) .passages)) (sectionText letterP pickText picks) (sectionText letterW runText (runsOf walk))
-
 -- the sheet of an empty list
 pub empty-sheet : (job : Job) → layoutInBounds (job .layout) ≡ true → job .lines ≡ [] → sheetText job ≡ emptySheet job
 unfolding sheetText sheetOf emptySheet sectionText emptyPlan
@@ -113,11 +104,15 @@ empty-sheet job bounds no-line =
     let z = job .layout in
     let idle = emptyPlan z in
     ap (sheetOf job) (best-empty job no-line bounds)
-    ∙ ap (λ n. textOf job n (picksOf job idle) (firstWalk z idle)) (empty-length z)
-    ∙ ap (λ picks. textOf job 0 picks (firstWalk z idle)) (empty-picks job no-line idle)
-    ∙ ap (λ walk. textOf job 0 [] walk) (empty-walk z)
-    ∙ ap₂ (λ a c. textWith job 0 a c (header letterP 0 ++ []) (header letterW 0 ++ [])) (length-replicate (z .aisles) Void) (length-replicate (z .aisles - 1) P00)
-    ∙ ap₂ (λ p w. textWith job 0 (z .aisles) (z .aisles - 1) p w) (append-nil (header letterP 0)) (append-nil (header letterW 0))
+    ∙ rw (
+      empty-length z,
+      empty-picks job no-line idle,
+      empty-walk z,
+      length-replicate (z .aisles) Void,
+      length-replicate (z .aisles - 1) P00,
+      append-nil (header letterP 0),
+      append-nil (header letterW 0),
+    )
 
 module _ (bytes sheet work : List ℕ) (job : Job) (f : NothingToFetch bytes sheet work job) where
   -- so no refusal applies
@@ -142,6 +137,29 @@ module _ (bytes sheet work : List ℕ) (job : Job) (f : NothingToFetch bytes she
       let bounds = served-admitted bytes sheet work none-applies job own .0 .layout in
       let text = ap sheetText same ∙ empty-sheet job bounds (f .no-line) in
       t ∙ ap (λ bytes. record { reply = Served (length bytes); sheet = bytes ++ drop (length bytes) sheet; work = cleared work }) text
+
+-- the job of case 14: it is read, and no refusal applies to it in space enough
+abbrev noneOfAlpha : Policy → Job
+noneOfAlpha = alpha []
+
+none-read : (policy : Policy) → readJob (jobText (noneOfAlpha policy)) ≡ some (noneOfAlpha policy)
+unfolding stocked alpha jobText numeral field header layoutText recordText lineText sectionText isDigit isNumber readField readHeader readPolicyAs readPolicy readLayout readRecord readLine readSection readLayoutSection readSections readJob
+none-read Exact = refl
+none-read Return = refl
+none-read Traversal = refl
+none-read Midpoint = refl
+none-read Composite = refl
+
+pub nothing-to-fetch : (policy : Policy) (sheet work : List ℕ) → sheetLimit ≤ length sheet → workLimit ≤ length work
+    → NothingToFetch (jobText (noneOfAlpha policy)) sheet work (noneOfAlpha policy)
+unfolding alpha cases
+nothing-to-fetch policy sheet work space numbers =
+    let job = noneOfAlpha policy in
+    let read = none-read policy in
+    let case14 = cases-hold .1 .1 .1 .1 .1 .1 .1 .1 .1 .1 .1 .1 .1 .0 policy in
+    let a = admitted job .0 (case14 .0 .admitted) in
+    let none-applies = admitted-served (jobText job) sheet work job read a numbers (omega (arith, sheet-suffices job a)) in
+    record { file = job-file-read (jobText job) job .0 read; no-line = refl; no-other = λ r other c. none-applies r c }
 
 -- what it shows
 pub empty-shown : (bytes sheet work : List ℕ) (job : Job) (c : Content) → Shows bytes sheet work job c → job .lines ≡ [] → ShowsNothing job c

@@ -24,7 +24,7 @@ use Rattle.tours.proofs.Existence
 use Rattle.optimum.proofs.Best.{best-plan, best-plan-only}
 use Rattle.closedwalks.proofs.Statements
 
--- the plans of the store that the machine accepts are just those that the policy allows
+-- the plans of the store that the executable test accepts are just those that the policy allows
 pub machine-is-rules : (job : Job) (plan : Plan) → 1 ≤ job .layout .depot
     → (WellFormed (job .layout) plan × (accepts job plan ≡ true)) ↔ Allowed job plan
 machine-is-rules = Machine.accepts-allowed

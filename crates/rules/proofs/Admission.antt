@@ -74,7 +74,8 @@ unfolding lineInBounds
 line-within l =
     simp (and-eq-true-iff, within-bounds) (λ p. record { article = p .0; quantity = p .1 }, λ b. (b .article, b .quantity))
 
--- the test of the list says so
+-- the test of the list says so. (`within-bounds` is not used: with it an edit that lets 5 cover a count of 0 again is refused at its
+-- case and not here)
 pub list-within : (job : Job) → (listInBounds job ≡ true) ↔ ListWithin job
 unfolding listInBounds
 list-within job =

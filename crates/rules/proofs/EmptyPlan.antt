@@ -47,11 +47,11 @@ none-told P22 e = absurd (true≢false (sym e))
 
 module _ (z : Layout) where
   -- in every aisle VOID, behind it 00
-  pub empty-action : (j : ℕ) → actionAt (emptyPlan z) j ≡ Void
+  empty-action : (j : ℕ) → actionAt (emptyPlan z) j ≡ Void
   unfolding actionAt emptyPlan
   empty-action j = nth-replicate (z .aisles) j Void
 
-  pub empty-passage : (j : ℕ) → passageAt (emptyPlan z) j ≡ P00
+  empty-passage : (j : ℕ) → passageAt (emptyPlan z) j ≡ P00
   unfolding passageAt emptyPlan
   empty-passage j = nth-replicate (z .aisles - 1) j P00
 

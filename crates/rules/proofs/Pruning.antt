@@ -295,21 +295,22 @@ module _ (job : Job) (bound : ℕ) where
   abbrev servesList : Plan → Bool
   servesList plan = serves job (planPasses plan)
 
-  -- all plans that serve the list and are no longer than the bound, one by one
-  abbrev allShort : List Rest
-  allShort = map (weighed z) (select short (servingPlans job))
+  -- the plans that serve the list and are no longer than the bound, one by one
+  abbrev oneByOne : List Rest
+  oneByOne = map (weighed z) (select short (servingPlans job))
 
-  -- the first of the shortest that serve the list, among the plans no longer than the bound, beside its length;
-  -- for an empty list, which the machine does not decide alone, by going through all plans
+  -- the same by the layers; for an empty list, which the machine alone does not decide, one by one
+  abbrev byLayers : Bool → List Rest
+  byLayers true = oneByOne
+  byLayers false = select (λ (r : Rest). servesList (r .1)) (restsAt (layerFrom (z .aisles) 1) nothing)
+
+  -- the first of the shortest that serve the list, among the plans no longer than the bound, beside its length
   unfoldable pub boundedBest : Option Rest
   unfolding acceptsFrom
-  boundedBest = firstShortest (λ (r : Rest). r .0) (elim (emptyList (job .lines)) [
-    | true ↦ allShort
-    | false ↦ select (λ (r : Rest). servesList (r .1)) (restsAt (layerFrom (z .aisles) 1) nothing)
-  ])
+  boundedBest = firstShortest (λ (r : Rest). r .0) (byLayers (emptyList (job .lines)))
 
   -- it is the first of the shortest of all that serve the list, as far as these are no longer than the bound
-  bounded-serving : boundedBest ≡ firstShortest (λ (r : Rest). r .0) allShort
+  bounded-serving : boundedBest ≡ firstShortest (λ (r : Rest). r .0) oneByOne
   unfolding boundedBest servingPlans accepts acceptsFrom
   bounded-serving = ap (firstShortest (λ (r : Rest). r .0)) (go (emptyList (job .lines)) refl)
     where
@@ -323,7 +324,7 @@ module _ (job : Job) (bound : ℕ) where
       listed : Bool → List Rest
       listed b = map (weighed z) (select short (select (λ plan. ((b && treadsNothing plan) || acceptsFrom job 1 nothing plan) && servesList plan) plans))
 
-      go : (b : Bool) → emptyList (job .lines) ≡ b → elim b [ true ↦ allShort | false ↦ select (λ (r : Rest). servesList (r .1)) (restsAt (layerFrom (z .aisles) 1) nothing) ] ≡ allShort
+      go : (b : Bool) → emptyList (job .lines) ≡ b → byLayers b ≡ oneByOne
       go true e = refl
       go false e =
           ap (select (λ (r : Rest). servesList (r .1))) (sym (kept-from (z .aisles) 1 nothing))

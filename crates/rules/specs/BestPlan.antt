@@ -102,8 +102,8 @@ servingPlans job =
 unfoldable pub emptyPlan : Layout → Plan
 emptyPlan z = record { actions = replicate (z .aisles) Void; passages = replicate (z .aisles - 1) P00 }
 
--- the plan of the sheet: the first of the shortest. (There is one for every job that is not refused;
--- the plan that treads nothing only stands in where there is none.)
+-- the plan of the sheet: the first of the shortest. (There is one for every job that is not refused: of an empty list the plan
+-- that treads nothing. Else that only stands in where there is none.)
 unfoldable pub bestPlan : Job → Plan
 bestPlan job = Option·getD (firstShortest (planLength (job .layout)) (servingPlans job)) (emptyPlan (job .layout))
 

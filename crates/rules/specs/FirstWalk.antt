@@ -49,7 +49,7 @@ unfoldable pub stepsOf : Layout → (Edge → ℕ) → ℕ
 stepsOf z treads = sumOf treads (edgesOf z)
 
 -- the walk of the sheet: as many steps as the plan has treads, so that none is left over.
--- (There is one for every lawful plan; the empty walk only stands in where there is none.)
+-- (There is one for every lawful plan, and for the plan that treads nothing the empty walk. Else that only stands in.)
 unfoldable pub firstWalk : Layout → Plan → Walk
 firstWalk z plan =
     Option·getD (firstFrom z (stepsOf z (multiplicity plan)) (multiplicity plan) (depotPoint z)) []

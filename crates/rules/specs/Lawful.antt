@@ -39,9 +39,9 @@ pub record Lawful (z : Layout) (plan : Plan) : Type 0 where
   pub depot-touched : Touched z (multiplicity plan) (depotPoint z)
 
 -- the plan that treads nothing: a plan of the store in which every edge has no tread
-pub record TreadsNothing (z : Layout) (plan : Plan) : Type 0 where
-  pub well-formed : WellFormed z plan
-  pub untrodden : (e : Edge) → InStore z e → multiplicity plan e ≡ 0
+pub record TreadsNothing (z : Layout) (idle : Plan) : Type 0 where
+  pub well-formed : WellFormed z idle
+  pub untrodden : (e : Edge) → InStore z e → multiplicity idle e ≡ 0
 
 -- lawful for a list: for an empty list the plan that treads nothing is lawful too
 abbrev pub LawfulFor : Layout → List OrderLine → Plan → Type 0

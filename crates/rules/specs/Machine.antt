@@ -1,4 +1,5 @@
--- The executable test whether a job's policy allows a plan: a machine that goes through the plan from left to right.
+-- The executable test whether a job's policy allows a plan: a machine that goes through the plan from left to right, and for an
+-- empty list whether the plan treads nothing.
 -- Its states are those of Ratliff and Rosenthal (the paper's names in brackets) and one more, `ending`.
 use Prim.Native.Nat.{ℕ, zero, suc}
 use mathlib.Core.List.{List, [], _∷_, tail}

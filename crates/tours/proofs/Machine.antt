@@ -1,4 +1,4 @@
--- The machine is the rules: under each policy it accepts just the plans that the policy allows.
+-- The executable test is the rules: under each policy it accepts just the plans that the policy allows.
 use Prim.Native.Nat.{_≤_}
 use mathlib.Core.Path.{_≡_, refl, sym, subst}
 use mathlib.Core.Logic.{_⊎_, inl, inr, _↔_}
@@ -18,7 +18,7 @@ use Rattle.tours.proofs.Rules.{policy-table, follows-rules}
 
 module _ (job : Job) (plan : Plan) (depot-low : 1 ≤ job .layout .depot) where
   -- the machine closes off just the lawful plans that follow the policy
-  pub closes-lawful : WellFormed (job .layout) plan → (closesOff job plan ≡ true) ↔ (Lawful (job .layout) plan × Follows (job .policy) job plan)
+  closes-lawful : WellFormed (job .layout) plan → (closesOff job plan ≡ true) ↔ (Lawful (job .layout) plan × Follows (job .policy) job plan)
   closes-lawful wf = (forth, back)
     where
       forth : closesOff job plan ≡ true → Lawful (job .layout) plan × Follows (job .policy) job plan
@@ -61,7 +61,7 @@ module _ (job : Job) (plan : Plan) (depot-low : 1 ≤ job .layout .depot) where
         | inr idle ↦ inr idle
       ]
 
--- under EXACT: just the lawful plans
+-- under EXACT: just the plans that are lawful for the list
 pub accepts-lawful : (job : Job) (plan : Plan) → job .policy ≡ Exact → 1 ≤ job .layout .depot
     → (WellFormed (job .layout) plan × (accepts job plan ≡ true)) ↔ LawfulFor (job .layout) (job .lines) plan
 accepts-lawful job plan e depot-low =

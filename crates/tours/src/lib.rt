@@ -1,1 +1,1 @@
-// The laws of plans: which plans the machine accepts. No function; definitions in specs/, theorems in proofs/.
+// The laws of plans: which plans the executable test accepts. No function; definitions in specs/, theorems in proofs/.

@@ -1,4 +1,5 @@
--- Where the walk starts: the treads of a lawful plan can be walked from the depot, and the letters to come are those of its first walk.
+-- Where the walk starts: the treads of a plan that is lawful, if only for an empty list, can be walked from the depot, and the letters
+-- to come are those of its first walk.
 use Prim.Native.Nat.{ℕ, zero, suc, _+_, _*_, _%_, _≤_, _<_}
 use native.Mathlib.Omega.{arith}
 use mathlib.Core.Path.{_≡_, refl, sym, ap, _∙_, subst}
@@ -92,7 +93,7 @@ module _ (z : Layout) (plan : PlanValue) (w : LawfulPlan z plan) where
   agrees : (e : Edge) → InStore z e → multiplicity (planOf plan) e ≡ leftOf z (plan-list z plan) e
   agrees e i = sym (plan-treads z wide deep plan (w .aisles) e i)
 
-  -- a lawful plan can be walked
+  -- such a plan can be walked
   planned : Ready z (multiplicity (planOf plan)) (depotPoint z)
   planned = lawful-ready z (planOf plan) low high (w .lawful)
 
