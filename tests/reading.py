@@ -1,4 +1,4 @@
-"""Document 01's job file and its refusals 1 to 8, read on its own; 5 is as request #101 has it."""
+"""Document 01's job file and its refusals 1 to 8, read on its own; 5 is as request #101 has it, the L section and 2 as #102."""
 import re
 from math import prod
 
@@ -17,7 +17,7 @@ def number(field):
 
 
 def read(job):
-    """The layout's seven numbers, the stock records and the list lines."""
+    """The layout's seven numbers, the posts (cells between two, width of one), the stock records and the list lines."""
     lines = job.split(b"\n")
     if len(job) > 16384 or lines.pop() != b"":
         raise NotAJobFile
@@ -34,17 +34,20 @@ def read(job):
             raise NotAJobFile
         return [[number(field) for field in line(width)] for _ in range(number(count))]
 
-    if line(2) != [b"L", b"1"]:
+    opening = line(2)
+    if opening not in ([b"L", b"1"], [b"L", b"2"]):
         raise NotAJobFile
     *layout, policy = line(8)
     if policy not in POLICIES:
         raise NotAJobFile
     layout = [number(field) for field in layout]
+    # no posts are as good as posts of no width
+    posts = [number(field) for field in line(2)] if opening[1] == b"2" else [1, 0]
     stock = section(b"S", 4)
     orders = section(b"D", 2)
     if lines:
         raise NotAJobFile
-    return layout, stock, orders
+    return layout, posts, stock, orders
 
 
 def within(numbers, *bounds):
@@ -58,11 +61,11 @@ def twice(items):
 def refusal(job):
     """The number of the refusal, or 0 for a job that is served."""
     try:
-        layout, stock, orders = read(job)
+        layout, (bay, post), stock, orders = read(job)
     except NotAJobFile:
         return 1
     aisles, cells = layout[:2]
-    if not within(layout, 16, 24, 60, 30, 60, 400, aisles):
+    if not within([*layout, bay], 16, 24, 60, 30, 60, 400, aisles, 24) or post > 10:
         return 2
     if len(stock) > 384 or not all(within(record, aisles, cells, 65535, 255) for record in stock):
         return 3

@@ -41,6 +41,14 @@ def stocks(quantity, parts):
     return [min(255, found[0] + max(0, quantity - sum(found)))] + found[1:]
 
 
+def text(layout, stock, orders):
+    """The job file whose sections have these lines of fields."""
+    lines = []
+    for letter, section in ("L", layout), ("S", stock), ("D", orders):
+        lines += [(letter, len(section)), *section]
+    return "".join(" ".join(map(str, fields)) + "\n" for fields in lines).encode()
+
+
 def job(policy, aisles, cells, most_listed, others, sizes):
     front, pitch, back, width = sizes
     places = shuffled((j, i) for j in range(1, aisles + 1) for i in range(1, cells + 1))
@@ -54,10 +62,8 @@ def job(policy, aisles, cells, most_listed, others, sizes):
             stock.append((*places.pop(), article, held))
     for _ in range(min(others, len(places))):
         stock.append((*places.pop(), between(30, 65535), between(1, 255)))
-    lines = ["L 1", f"{aisles} {cells} {front} {pitch} {back} {width} {between(1, aisles)} {policy}", f"S {len(stock)}"]
-    lines += ["%d %d %d %d" % record for record in shuffled(stock)]
-    lines += [f"D {len(wanted)}"] + [f"{a} {q}" for a, q in zip(articles, wanted)]
-    return "".join(line + "\n" for line in lines).encode()
+    layout = (aisles, cells, front, pitch, back, width, between(1, aisles), policy)
+    return text([layout], shuffled(stock), list(zip(articles, wanted)))
 
 
 def sizes():
@@ -76,6 +82,55 @@ def some(count, aisles, cells, most_listed, others):
             yield job(policy, between(*aisles), between(*cells), most_listed, between(*others), sizes())
 
 
+def posted(job, bay, post):
+    """The job with a post of that width after every so many cells."""
+    layout, rest = job.split(b"\n", 2)[1:]
+    return b"L 2\n%s\n%d %d\n%s" % (layout, bay, post, rest)
+
+
+def with_posts(jobs):
+    """The jobs with posts: k is 1, a divisor of the number of cells, one less than it, itself, more; u is 10, 1 to 9, 0."""
+    for n, job in enumerate(jobs):
+        cells = int(job.split()[3])
+        divisor = max(bay for bay in range(1, cells // 2 + 1) if cells % bay == 0)
+        bay = [1, divisor, cells - 1, cells, between(min(24, cells + 1), 24)][n // 5 % 5]
+        yield posted(job, bay, [10, between(1, 9), 0][n // 5 % 3])
+
+
+def beside(jobs):
+    """Each job without posts, and with posts of no width."""
+    for job in jobs:
+        yield from (job, posted(job, between(1, 24), 0))
+
+
+def front_cells(cells, front, pitch, back, bay, post):
+    """How many cells of an aisle are no nearer the back crossing than the front one."""
+    places = [front + i * pitch + i // bay * post for i in range(cells)]
+    return sum(2 * place <= places[-1] + back for place in places)
+
+
+def over_the_middle(count):
+    """Jobs under MIDPOINT with articles in the end aisles and between them, and posts that move a cell over the middle."""
+    while count:
+        aisles, cells = between(3, 6), between(4, 8)
+        front, pitch, back, width = between(1, 60), between(1, 5), between(1, 60), between(1, 400)
+        bay, post = between(1, cells - 1), between(1, 10)
+        if front_cells(cells, front, pitch, back, bay, post) == front_cells(cells, front, pitch, back, bay, 0):
+            continue
+        count -= 1
+        inner = shuffled((j, i) for j in range(2, aisles) for i in range(1, cells + 1))
+        places = [(1, between(1, cells)), (aisles, between(1, cells)), *inner[:6]]
+        layout = (aisles, cells, front, pitch, back, width, between(1, aisles), "MIDPOINT")
+        stock = [(*place, article, 1) for article, place in enumerate(places, 1)]
+        yield text([layout, (bay, post)], stock, [(article, 1) for _, _, article, _ in stock])
+
+
+def far_ends(policy):
+    """The largest store, with an article to fetch from the back of every aisle: under RETURN the longest tour that a job can have."""
+    stock = [(aisle, 24, 7, 1) for aisle in range(1, 17)]
+    return text([(16, 24, 60, 30, 60, 400, 1, policy), (1, 10)], stock, [(7, 16)])
+
+
 JOBS = [
     *some(30, (1, 4), (1, 5), 12, (0, 3)),
     *some(20, (3, 9), (3, 12), 14, (0, 12)),
@@ -88,6 +143,17 @@ JOBS = [
     *some(5, (1, 9), (1, 12), 0, (1, 40)),
     *some(5, (10, 16), (12, 24), 0, (1, 383)),
     *some(2, (16, 16), (24, 24), 0, (384, 384)),
+    # posts
+    *with_posts([
+        *some(8, (1, 4), (2, 6), 12, (0, 3)),
+        *some(4, (3, 9), (4, 12), 14, (0, 12)),
+        *some(3, (10, 16), (12, 24), 16, (0, 20)),
+    ]),
+    *(posted(job(policy, 16, 24, 18, 384, (60, 30, 60, 400)), 1, 10) for policy in POLICIES),
+    *with_posts(some(1, (1, 9), (2, 24), 0, (1, 40))),
+    *beside(some(2, (2, 6), (3, 12), 12, (0, 12))),
+    *over_the_middle(16),
+    *map(far_ends, ["EXACT", "RETURN", "TRAVERSAL", "COMPOSITE"]),
 ]
 
 if __name__ == "__main__":

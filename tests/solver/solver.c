@@ -10,13 +10,17 @@ enum { MOST_CELLS = 18, MOST_STEPS = 3000000 }; /* what the search over walks an
 
 /* The job. */
 static int m, C, f, p, b, w, d, lines, quantity[LINES];
+static int bay, post; /* posts (request #102): the cells between two, and the width of one */
 static char policy[16];
 static int cells; /* cells that hold an article of the list */
 static struct { int aisle, height, line, stock; } listed[RECORDS];
 
-/* The distance of a height from the front: 0 the front crossing, 1 to C the cells, C + 1 the back crossing. */
+/* The distance of a height from the front: 0 the front crossing, 1 to C the cells, C + 1 the back crossing.
+   It goes from cell to cell, past the post that stands after every bay. */
 static int position(int height) {
-    return height == 0 ? 0 : f + ((height > C ? C : height) - 1) * p + (height > C ? b : 0);
+    int distance = height == 0 ? 0 : f;
+    for (int i = 1; i < height && i < C; i++) distance += i % bay == 0 ? p + post : p;
+    return height > C ? distance + b : distance;
 }
 
 static int is(const char *word) { return strcmp(policy, word) == 0; }
@@ -30,6 +34,8 @@ static int read_job(void) {
     static int record[RECORDS][4];
     int count, records, article[LINES];
     if (scanf(" L %d %d %d %d %d %d %d %d %15s", &count, &m, &C, &f, &p, &b, &w, &d, policy) != 9) return 0;
+    bay = 1, post = 0;
+    if (count == 2 && scanf("%d %d", &bay, &post) != 2) fail("no posts");
     if (scanf(" S %d", &records) != 1 || records > RECORDS) fail("no S section");
     for (int r = 0; r < records; r++)
         for (int k = 0; k < 4; k++)

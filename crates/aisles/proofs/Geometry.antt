@@ -1,7 +1,6 @@
 -- Distances of a layout within the bounds, and what a candidate's numbers stand for.
 use Prim.Native.Nat.{ℕ, suc, _*_, _-_, _≤_, _<_}
 use native.Mathlib.Omega.{arith}
-use native.Mathlib.Nat.{mul-le-mul-left}
 use mathlib.Core.Path.{_≡_, refl, _∙_, ap, ap₂}
 use mathlib.Core.Bool.{Bool, true, false, _&&_, and-eq-true-iff}
 use lib.Dec.{ltb}
@@ -21,15 +20,6 @@ module _ (z : Layout) (bounds : layoutInBounds z ≡ true) where
   -- the bounds of the layout's numbers
   pub within : LayoutWithin z
   within = layout-within z .0 bounds
-
-  -- so many pitches are at most 690 dm, the cells of an aisle among them
-  pub pitch-bound : (k : ℕ) → k ≤ 23 → k * z .pitch ≤ 690
-  pitch-bound k h = let w = within in let m : k * z .pitch ≤ k * 30 = mul-le-mul-left k (w .pitch .1) in omega arith
-
-  -- no aisle is longer than 810 dm
-  pub aisle-bound : aisleLength z ≤ 810
-  unfolding aisleLength
-  aisle-bound = let w = within in omega (arith, pitch-bound (z .cells - 1) (omega arith))
 
 -- the candidate of an action stands for it
 pub action-of-candidate : (cells : ℕ) (a : Action) → actionOf (candidateOf cells a) ≡ a

@@ -4,22 +4,21 @@ use native.Mathlib.Omega.{arith}
 use native.Mathlib.Nat.{mul-le-mul}
 use mathlib.Core.Path.{_≡_, refl, _∙_}
 use mathlib.Core.List.{[], _∷_}
-use mathlib.Core.Bool.{Bool, true, false, cond, _&&_, _||_}
+use mathlib.Core.Bool.{Bool, true, false, cond, _||_}
 use lib.Dec.{ltb, leb}
 use lib.ListN.{length}
-use borrow.Author.Tests.{leb-true}
 use Rattle.rules.specs.declared.Layout.{Layout}
 use Rattle.rules.specs.declared.Action.{Action}
 use Rattle.rules.specs.declared.Action.the-variants.{Void, Bottom, Top, Gap, Once, Twice}
 use Rattle.rules.specs.declared.Passage.{Passage}
 use Rattle.rules.specs.declared.Passage.the-variants.{P00, P02, P11, P20, P22}
 use Rattle.rules.specs.Lists.{sumOf}
-use Rattle.rules.specs.Store.{Point, Edge, along, front, back, InStore, depotPoint, distance, within, layoutInBounds}
+use Rattle.rules.specs.Store.{Point, Edge, along, front, back, InStore, depotPoint, distance, layoutInBounds}
 use Rattle.rules.specs.Plans.{Plan, multiplicity, actionAt, passageAt, aisleTreads, backTreads, frontTreads, planLength, lengthOf}
 use Rattle.rules.specs.Walks.{Walk, stepTo, walkEdges, walkLength}
 use Rattle.rules.specs.FirstWalk.{WalkOf, stepsOf}
+use Rattle.rules.proofs.Admission.{layout-within}
 use Rattle.closedwalks.specs.Ways.{PointOf, Leads, treadsFrom}
-use Rattle.closedwalks.proofs.Steps.{both-true}
 use Rattle.closedwalks.proofs.Sums.{sum-same, sum-bound}
 use Rattle.closedwalks.proofs.Parity.{walk-sum}
 use Rattle.closedwalks.proofs.Degrees.{depot-point}
@@ -55,22 +54,9 @@ treads-twice plan (along j k) = action-twice (actionAt plan j) k
 treads-twice plan (front j) = passage-twice (passageAt plan j) .1
 treads-twice plan (back j) = passage-twice (passageAt plan j) .0
 
-three-true : (a b c d e f g : Bool) → (a && b && c && d && e && f && g) ≡ true → (a ≡ true) × (b ≡ true) × (g ≡ true)
-three-true true true c d e f g h = (refl, refl, both-true (c && d && e && f) g h .1)
-three-true true false c d e f g h = absurd (let bad : _≡_ {A = ℕ} 0 1 = cc in omega arith)
-three-true false b c d e f g h = absurd (let bad : _≡_ {A = ℕ} 0 1 = cc in omega arith)
-
-between : (a b n : ℕ) → within a b n ≡ true → (a ≤ n) × (n ≤ b)
-unfolding within
-between a b n h = let t = both-true (leb a n) (leb n b) h in (leb-true a n (t .0), leb-true n b (t .1))
-
 -- the bounds of the layout that the walks need
 pub layout-bounds : (z : Layout) → layoutInBounds z ≡ true → (z .aisles ≤ 16) × (z .cells ≤ 24) × (1 ≤ z .depot) × (z .depot ≤ z .aisles)
-unfolding layoutInBounds
-layout-bounds z h =
-    let t = three-true (within 1 16 (z .aisles)) (within 1 24 (z .cells)) (within 1 60 (z .front)) (within 1 30 (z .pitch)) (within 1 60 (z .back)) (within 1 400 (z .width)) (within 1 (z .aisles) (z .depot)) h in
-    let d = between 1 (z .aisles) (z .depot) (t .2) in
-    (between 1 16 (z .aisles) (t .0) .1, between 1 24 (z .cells) (t .1) .1, d .0, d .1)
+layout-bounds z h = let b = layout-within z .0 h in (b .aisles .1, b .cells .1, b .depot .0, b .depot .1)
 
 module _ (z : Layout) where
   -- a walk has as many steps as the sum of its treads

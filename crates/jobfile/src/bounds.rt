@@ -2,20 +2,32 @@
 use marks::is_within;
 use rules::Layout;
 use rules::OrderLine;
+use rules::Posts;
 use rules::StockRecord;
 use values::JobValue;
 ghost use mathlib.Core.Path.{_≡_};
 ghost use mathlib.Core.Bool.{_&&_};
 ghost use lib.Dec.{leb};
-ghost use Rattle.rules.specs.Store.{layoutInBounds};
+ghost use Rattle.rules.specs.Store.{layoutInBounds, postsInBounds};
 ghost use Rattle.rules.specs.Refusals.{recordInBounds, stockInBounds, lineInBounds, listInBounds};
 ghost use Rattle.values.specs.Values.{jobOf};
 ghost use Rattle.jobfile.specs.Ready.{storeOnly};
+
+// The numbers of the posts, where they have a line.
+fn posts_in_bounds(posts: Posts) -> bool
+    ensures { λ r. ⌜ r ≡ postsInBounds posts ⌝ }
+{
+    match posts {
+        Posts::NoPosts => true,
+        Posts::Every(k, u) => is_within(1, 24, k) & is_within(0, 10, u),
+    }
+}
 
 // The numbers of the layout.
 pub fn layout_in_bounds(z: Layout) -> bool
     ensures { λ r. ⌜ r ≡ layoutInBounds z ⌝ }
 {
+    let posts = z.posts;
     is_within(1, 16, z.aisles)
         & is_within(1, 24, z.cells)
         & is_within(1, 60, z.front)
@@ -23,6 +35,7 @@ pub fn layout_in_bounds(z: Layout) -> bool
         & is_within(1, 60, z.back)
         & is_within(1, 400, z.width)
         & is_within(1, z.aisles, z.depot)
+        & posts_in_bounds(posts)
 }
 
 // The fields of a stock record in a store.

@@ -1,5 +1,5 @@
 -- The plan that the table of a list with lines leads to is the best plan of the rules, and the table's value at the start is its
--- length: the table weighed by length, where 'none' is 65,535 and no tour is longer than 49,920.
+-- length: the table weighed by length, where 'none' is 65,535 and no tour is longer than 57,280.
 use Prim.Native.Nat.{ℕ, suc, _+_, _≤_}
 use native.Mathlib.Omega.{arith}
 use mathlib.Core.Path.{_≡_}
@@ -18,7 +18,8 @@ use Rattle.rules.specs.Lengths.{actionLength, passageLength}
 use Rattle.rules.specs.Serving.{PlanServes}
 use Rattle.rules.specs.Machine.{nothing, accepts}
 use Rattle.rules.specs.BestPlan.{firstShortest, servingPlans, bestPlan}
-use Rattle.rules.proofs.Lengths.{plan-length, plan-length-49920}
+use Rattle.rules.proofs.Lengths.{plan-length}
+use Rattle.rules.proofs.Ceiling.{plan-length-57280}
 use Rattle.rules.proofs.Admission.{layout-within}
 use Rattle.rules.proofs.Enumeration.{first-shortest-given, first-shortest-member, first-shortest-least, serving-plans, best-plan-first-shortest}
 use Rattle.optimum.specs.Table.{Rest, value, choose}
@@ -57,7 +58,7 @@ module _ (job : Job) (bounds : layoutInBounds (job .layout) ≡ true) where
             let sum = lengths-sum (job .layout) 1 (plan .actions) (plan .passages) (omega (arith, well .passages, well .aisles)) in
             omega (arith, sum, plan-length (job .layout) plan well)
             );
-        below = λ plan well. omega (arith, plan-length-49920 (job .layout) plan bounds well);
+        below = λ plan well. omega (arith, plan-length-57280 (job .layout) plan bounds well);
       }
 
   -- by the bounds there is at least one aisle

@@ -16,7 +16,7 @@ use Rattle.optimum.specs.Least.{sumUpTo, leastOr}
 use Rattle.optimum.specs.Table.{Cost, Problem, Rest}
 use Rattle.optimum.specs.Demand.{gains, less, met}
 
--- 'none': longer than any tour, which is at most 49,920
+-- 'none': longer than any tour, which is at most 57,280
 abbrev pub noTour : ℕ
 noTour = 65535
 

@@ -3,21 +3,22 @@
 -- `answer bytes sheet work` (rules/specs/Answers) is what the library call gives on the bytes of a job file, a lent sheet and a
 -- lent work area: the reply, and what sheet and work area hold after it. The public contracts are equations with it.
 -- The words of the statements are in specs/: the causes of the table (Causes), what a sheet says (Contents), what calls give (Calls),
--- and of request #101 (EmptyLists).
-use Prim.Native.Nat.{ℕ, _≤_, _<_}
+-- and of the requests #101 (EmptyLists) and #102 (Uprights).
+use Prim.Native.Nat.{ℕ, _+_, _*_, _-_, _/_, _≤_, _<_}
 use mathlib.Core.Path.{_≡_, refl, sym, _∙_, ap, subst}
 use mathlib.Core.Logic.{_⊎_, _↔_}
-use mathlib.Core.List.{List, [], _++_}
+use mathlib.Core.List.{List, [], _∷_, _++_}
 use mathlib.Core.Bool.{true}
 use lib.ListN.{length, take, drop}
 use Rattle.rules.specs.declared.Layout.{Layout}
 use Rattle.rules.specs.declared.Policy.{Policy}
 use Rattle.rules.specs.declared.Policy.the-variants.{Exact}
+use Rattle.rules.specs.declared.Posts.the-variants.{NoPosts, Every}
 use Rattle.rules.specs.declared.Refusal.{Refusal}
 use Rattle.rules.specs.declared.Refusal.the-variants.{WorkArea, ListBounds, ShortOfStock, SheetSpace}
 use Rattle.rules.specs.declared.Reply.the-variants.{Served, Refused}
-use Rattle.rules.specs.Store.{Edge, InStore, layoutInBounds}
-use Rattle.rules.specs.Jobs.{Job}
+use Rattle.rules.specs.Store.{aisleLength, position, Edge, InStore, layoutInBounds}
+use Rattle.rules.specs.Jobs.{Job, jobWithPosts}
 use Rattle.rules.specs.JobFile.{lineFeed, header, field, jobText, jobFileLimit}
 use Rattle.rules.specs.Plans.{Plan}
 use Rattle.rules.specs.Lawful.{Lawful}
@@ -29,14 +30,16 @@ use Rattle.rules.specs.Sheet.{sheetText}
 use Rattle.rules.specs.Answers.{answer, hostAnswer, sheetLimit, letterR, output}
 use Rattle.rules.specs.Policies.{Follows, Allowed}
 use Rattle.rules.specs.Serving.{PlanServes}
-use Rattle.rules.specs.Examples.{alpha, AllHold, cases, ownCases}
+use Rattle.rules.specs.Examples.{_⨯_, alpha, AllHold, cases, ownCases}
 use Rattle.rules.proofs.Cases as Cases
 use Rattle.closedwalks.proofs.Statements.{walk-reads, plan-determined}
 use Rattle.promises.specs.Causes.{JobFileOf, LineOutOfStock, OfJob, Cause, tableRow, FirstCause}
 use Rattle.promises.specs.Contents.{Content}
 use Rattle.promises.specs.Calls.{RefusedCall, ServedCall, Shows, Obeys, Shortest, TreadsAs, hostWork, hostGets, HostCall, PrintsSheet, PrintsRefusal}
 use Rattle.promises.specs.EmptyLists.{NothingToFetch, emptySheet, ShowsNothing}
+use Rattle.promises.specs.Uprights.{PostsOfNothing}
 use Rattle.promises.proofs.EmptyLists
+use Rattle.promises.proofs.Uprights
 use Rattle.promises.proofs.Entering.{oneNine, throughAisleOne, entering-serves, entering-exact, entering-others}
 use Rattle.promises.proofs.Table.{job-file-read, refused-for, refused-by, served-for, served-by}
 use Rattle.promises.proofs.Shown.{refused-call, served-call, best, best-obeys, best-shortest, shown, shown-best}
@@ -212,3 +215,28 @@ empty-adds-one = EmptyLists.empty-adds-one
 -- lists with lines keep exactly the plans that they had
 pub lines-keep-plans : (job : Job) (plan : Plan) → (job .lines ≡ [] → ⊥) → Allowed job plan ↔ (Lawful (job .layout) plan × Follows (job .policy) job plan)
 lines-keep-plans = EmptyLists.lines-keep-plans
+
+-- Request #102: "Cell i then lies f + (i − 1)·p + u·((i − 1) divided by k, rounded down) from the front, and L grows to match."
+pub posts-between-cells : (z : Layout) (k u : ℕ) → z .posts ≡ Every k u
+    → ((i : ℕ) → 1 ≤ i → i ≤ z .cells → position z i ≡ z .front + (i - 1) * z .pitch + u * ((i - 1) / k))
+    × (aisleLength z ≡ z .front + (z .cells - 1) * z .pitch + u * ((z .cells - 1) / k) + z .back)
+posts-between-cells = Uprights.posts-between
+
+-- "With count 1 there are no posts": and a job whose second line is `k 0` has the answer of the same job with `L 1`, whatever the call
+pub no-posts : (job : Job) (k : ℕ) (plain lined : List ℕ) → PostsOfNothing job k plain lined
+    → (sheet work : List ℕ) → answer lined sheet work ≡ answer plain sheet work
+no-posts = Uprights.same-answers
+
+-- so the program prints the same
+pub no-posts-printed : (job : Job) (k : ℕ) (plain lined : List ℕ) → PostsOfNothing job k plain lined → output lined ≡ output plain
+no-posts-printed = Uprights.same-output
+
+-- there are such files, under every policy
+pub no-posts-met : (policy : Policy)
+    → let job = alpha ((9 ⨯ 1) ∷ []) policy in
+    PostsOfNothing job 3 (jobText (jobWithPosts NoPosts job)) (jobText (jobWithPosts (Every 3 0) job))
+no-posts-met = Uprights.both-files
+
+-- "The ceiling on a tour becomes 57,280 dm."
+pub ceiling : (bytes sheet work : List ℕ) (job : Job) (c : Content) → Shows bytes sheet work job c → c .length ≤ 57280
+ceiling = Uprights.below-ceiling

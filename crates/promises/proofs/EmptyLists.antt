@@ -17,8 +17,8 @@ use Rattle.rules.specs.declared.Refusal.the-variants.{WorkArea, NotAJobFile, La
 use Rattle.rules.specs.declared.Reply.the-variants.{Served}
 use Rattle.rules.specs.Store.{layoutInBounds}
 use Rattle.rules.specs.Jobs.{Job}
-use Rattle.rules.specs.JobFile.{numeral, field, header, layoutText, recordText, lineText, sectionText, jobText}
-use Rattle.rules.specs.JobFile.{isDigit, isNumber, readField, readHeader, readPolicyAs, readPolicy, readLayout, readRecord, readLine, readSection, readLayoutSection, readSections, readJob}
+use Rattle.rules.specs.JobFile.{numeral, field, header, layoutText, layoutSectionText, recordText, lineText, sectionText, jobText}
+use Rattle.rules.specs.JobFile.{isDigit, isNumber, readField, readHeader, readPolicyAs, readPolicy, readLayout, readPosts, readRecord, readLine, readSection, readLayoutSection, readSections, readJob}
 use Rattle.rules.specs.Plans.{Plan, planLength}
 use Rattle.rules.specs.Lawful.{Lawful, LawfulFor}
 use Rattle.rules.specs.Policies.{Follows, Allowed}
@@ -143,7 +143,7 @@ abbrev noneOfAlpha : Policy → Job
 noneOfAlpha = alpha []
 
 none-read : (policy : Policy) → readJob (jobText (noneOfAlpha policy)) ≡ some (noneOfAlpha policy)
-unfolding stocked alpha jobText numeral field header layoutText recordText lineText sectionText isDigit isNumber readField readHeader readPolicyAs readPolicy readLayout readRecord readLine readSection readLayoutSection readSections readJob
+unfolding stocked alpha jobText layoutSectionText numeral field header layoutText recordText lineText sectionText isDigit isNumber readField readHeader readPolicyAs readPolicy readLayout readPosts readRecord readLine readSection readLayoutSection readSections readJob
 none-read Exact = refl
 none-read Return = refl
 none-read Traversal = refl

@@ -10,5 +10,6 @@ pub mod Host
 pub mod Program
 pub mod Entering
 pub mod EmptyLists
+pub mod Uprights
 pub mod Demands
 pub mod Theory

@@ -19,6 +19,7 @@ use Rattle.rules.specs.BestPlan.{bestPlan, IsBest}
 use Rattle.rules.specs.Walks.{Walk, ClosedWalk, walkTreads, walkLength, walkPasses, NotAfter}
 use Rattle.rules.specs.FirstWalk.{WalkOf, firstWalk}
 use Rattle.rules.proofs.Lengths
+use Rattle.rules.proofs.Ceiling
 use Rattle.tours.proofs.Machine
 use Rattle.tours.proofs.Existence
 use Rattle.optimum.proofs.Best.{best-plan, best-plan-only}
@@ -67,5 +68,5 @@ plan-is-determined = Statements.plan-determined
 pub length-is-bounded : (z : Layout) (plan : Plan) → WellFormed z plan → planLength z plan ≤ z .aisles * (2 * aisleLength z) + (z .aisles - 1) * (4 * z .width)
 length-is-bounded = Lengths.plan-length-bound
 
-pub length-is-at-most-49920 : (z : Layout) (plan : Plan) → layoutInBounds z ≡ true → WellFormed z plan → planLength z plan ≤ 49920
-length-is-at-most-49920 = Lengths.plan-length-49920
+pub length-is-at-most-57280 : (z : Layout) (plan : Plan) → layoutInBounds z ≡ true → WellFormed z plan → planLength z plan ≤ 57280
+length-is-at-most-57280 = Ceiling.plan-length-57280

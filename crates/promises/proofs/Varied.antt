@@ -9,8 +9,8 @@ use Rattle.rules.specs.declared.Policy.{Policy}
 use Rattle.rules.specs.declared.Policy.the-variants.{Exact, Traversal}
 use Rattle.rules.specs.declared.Reply.the-variants.{Served}
 use Rattle.rules.specs.Jobs.{Job}
-use Rattle.rules.specs.JobFile.{numeral, field, header, layoutText, recordText, lineText, sectionText, jobText}
-use Rattle.rules.specs.JobFile.{isDigit, isNumber, readField, readHeader, readPolicyAs, readPolicy, readLayout, readRecord, readLine, readSection, readLayoutSection, readSections, readJob}
+use Rattle.rules.specs.JobFile.{numeral, field, header, layoutText, layoutSectionText, recordText, lineText, sectionText, jobText}
+use Rattle.rules.specs.JobFile.{isDigit, isNumber, readField, readHeader, readPolicyAs, readPolicy, readLayout, readPosts, readRecord, readLine, readSection, readLayoutSection, readSections, readJob}
 use Rattle.rules.specs.Refusals.{jobRefusal, workLimit}
 use Rattle.rules.specs.Answers.{sheetLimit, answer}
 use Rattle.rules.specs.Examples.{stocked, _⨯_, alpha, cases}
@@ -48,7 +48,7 @@ the-sheet text one job read passes = go (replicate sheetLimit 0) (replicate work
 
 -- both files can be read
 file-read : (readJob (jobText (twoSevens Exact)) ≡ some (twoSevens Exact)) × (readJob (jobText (twoSevens Traversal)) ≡ some (twoSevens Traversal))
-unfolding _⨯_ stocked alpha jobText numeral field header layoutText recordText lineText sectionText isDigit isNumber readField readHeader readPolicyAs readPolicy readLayout readRecord readLine readSection readLayoutSection readSections readJob
+unfolding _⨯_ stocked alpha jobText layoutSectionText numeral field header layoutText recordText lineText sectionText isDigit isNumber readField readHeader readPolicyAs readPolicy readLayout readPosts readRecord readLine readSection readLayoutSection readSections readJob
 file-read = (refl, refl)
 
 -- "one fixed sheet for all jobs"

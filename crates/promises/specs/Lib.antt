@@ -2,3 +2,4 @@ pub mod Causes
 pub mod Contents
 pub mod Calls
 pub mod EmptyLists
+pub mod Uprights

@@ -1,19 +1,15 @@
--- Sections: the count of the L section, and lines that are read one by one into an array with room for the first of them.
+-- Sections: lines that are read one by one into an array with room for the first of them.
 use Prim.Native.Nat.{ℕ, suc, _+_, _-_, _≤_, _<_}
 use mathlib.Core.Path.{_≡_, refl, sym, _∙_, ap, subst}
 use mathlib.Core.List.{List, [], _∷_, _++_, append-nil, append-assoc}
 use mathlib.Core.Bool.{Bool, true, false}
 use mathlib.Core.Option.{none, some}
 use native.Mathlib.Omega.{arith}
-use lib.Dec.{eqb}
 use lib.ListN.{length, take, drop, set, replicate, length-append}
 use lib.Seq.{take-nil, take-all, take-append-le, take-append-seam, set-append-seam}
-use borrow.Author.Tests.{eq-eqb, ne-eqb}
-use Rattle.rules.specs.declared.Layout.{Layout}
-use Rattle.rules.specs.declared.Policy.{Policy}
 use Rattle.rules.specs.declared.StockRecord.{StockRecord}
 use Rattle.rules.specs.declared.OrderLine.{OrderLine}
-use Rattle.rules.specs.JobFile.{Reading, _>>=_, readHeader, readLayout, readLines, readLayoutSection, letterL}
+use Rattle.rules.specs.JobFile.{Reading, _>>=_, readLines}
 use Rattle.reading.specs.declared.cursor.Cursor.{Cursor}
 use Rattle.reading.specs.declared.sections.StockRead.{StockRead}
 use Rattle.reading.specs.declared.sections.ListRead.{ListRead}
@@ -21,21 +17,6 @@ use Rattle.marks.specs.Marking.{cellTwice}
 use Rattle.values.specs.Values.{noLine}
 use Rattle.reading.specs.Kept.{noRecord, padded, stockRead, listRead, Answers}
 use Rattle.reading.proofs.Behind.{behind, behind-nothing, behind-one}
-
--- the line of the L section, if its count is 1
-abbrev layoutIfOne : ℕ × List ℕ → Reading (Layout × Policy)
-layoutIfOne r = elim (eqb (r .0) 1) [ true ↦ readLayout (r .1) | false ↦ none ]
-
-module _ (t : List ℕ) (n : ℕ) (rest : List ℕ) (e : readHeader letterL t ≡ some (n, rest)) where
-  -- the L section whose count is 1
-  pub layout-one : n ≡ 1 → readLayoutSection t ≡ readLayout rest
-  unfolding readLayoutSection
-  layout-one h = ap (λ (r : Reading ℕ). r >>= layoutIfOne) e ∙ rw (layoutIfOne, eq-eqb n 1 h)
-
-  -- an L section with another count
-  pub layout-other : (n ≡ 1 → ⊥) → readLayoutSection t ≡ none
-  unfolding readLayoutSection
-  layout-other h = ap (λ (r : Reading ℕ). r >>= layoutIfOne) e ∙ rw (layoutIfOne, ne-eqb n 1 h)
 
 module _ {A : Type 0} (room : ℕ) (blank : A) where
   -- an array of blanks holds nothing

@@ -6,6 +6,7 @@ use mathlib.Core.Bool.{true, false}
 use mathlib.Core.Option.{Option, none, some}
 use lib.ListN.{length, take, drop, replicate}
 use Rattle.rules.specs.declared.Policy.the-variants.{Exact}
+use Rattle.rules.specs.declared.Posts.the-variants.{NoPosts}
 use Rattle.rules.specs.declared.StockRecord.{StockRecord}
 use Rattle.rules.specs.declared.OrderLine.{OrderLine}
 use Rattle.rules.specs.Jobs.{Job}
@@ -64,7 +65,7 @@ jobValue job =
 unfoldable pub noJob : Job
 noJob =
     record {
-      layout = record { aisles = 0; cells = 0; front = 0; pitch = 0; back = 0; width = 0; depot = 0 };
+      layout = record { aisles = 0; cells = 0; front = 0; pitch = 0; back = 0; width = 0; depot = 0; posts = NoPosts };
       policy = Exact;
       stock = [];
       lines = [];

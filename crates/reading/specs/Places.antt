@@ -6,6 +6,7 @@ use lib.ListN.{length, drop}
 use Rattle.rules.specs.JobFile.{Reading, leadingDigits, valueOf}
 use Rattle.rules.specs.declared.Layout.{Layout}
 use Rattle.rules.specs.declared.Policy.{Policy}
+use Rattle.rules.specs.declared.Posts.{Posts}
 use Rattle.rules.specs.declared.StockRecord.{StockRecord}
 use Rattle.rules.specs.declared.OrderLine.{OrderLine}
 use Rattle.reading.specs.declared.cursor.Step.{Step}
@@ -13,6 +14,7 @@ use Rattle.reading.specs.declared.cursor.Field.{Field}
 use Rattle.reading.specs.declared.cursor.Digits.{Digits}
 use Rattle.reading.specs.declared.lines.PolicyWord.{PolicyWord}
 use Rattle.reading.specs.declared.lines.LayoutLine.{LayoutLine}
+use Rattle.reading.specs.declared.lines.PostsLine.{PostsLine}
 use Rattle.reading.specs.declared.lines.RecordLine.{RecordLine}
 use Rattle.reading.specs.declared.lines.ListLine.{ListLine}
 
@@ -40,6 +42,11 @@ policyOf s PolicyWord.Bad = none
 abbrev pub layoutOf : List ℕ → LayoutLine → Reading (Layout × Policy)
 layoutOf s (LayoutLine.Read z policy c) = some ((z, policy), drop (c .at) s)
 layoutOf s LayoutLine.Bad = none
+
+-- posts that were read, or nothing
+abbrev pub postsOf : List ℕ → PostsLine → Reading Posts
+postsOf s (PostsLine.Read posts c) = some (posts, drop (c .at) s)
+postsOf s PostsLine.Bad = none
 
 -- a stock record that was read, or nothing
 abbrev pub recordOf : List ℕ → RecordLine → Reading StockRecord

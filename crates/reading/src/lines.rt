@@ -5,11 +5,12 @@ use crate::cursor::Step;
 use rules::Layout;
 use rules::OrderLine;
 use rules::Policy;
+use rules::Posts;
 use rules::StockRecord;
 ghost use mathlib.Core.Path.{_≡_};
 ghost use lib.ListN.{drop};
-ghost use Rattle.rules.specs.JobFile.{readPolicy, readLayout, readRecord, readLine};
-ghost use Rattle.reading.specs.Places.{policyOf, layoutOf, recordOf, lineOf};
+ghost use Rattle.rules.specs.JobFile.{readPolicy, readLayout, readPostsLine, readRecord, readLine};
+ghost use Rattle.reading.specs.Places.{policyOf, layoutOf, postsOf, recordOf, lineOf};
 
 // What reading a policy word finds.
 pub enum PolicyWord {
@@ -17,9 +18,15 @@ pub enum PolicyWord {
     Bad,
 }
 
-// What reading the line of the L section finds.
+// What reading the first line of the L section finds, or the whole section.
 pub enum LayoutLine {
     Read(Layout, Policy, Cursor),
+    Bad,
+}
+
+// What reading its second line finds.
+pub enum PostsLine {
+    Read(Posts, Cursor),
     Bad,
 }
 
@@ -58,7 +65,7 @@ impl Cursor {
         PolicyWord::Bad
     }
 
-    // The line of the L section: seven numbers and the policy word.
+    // The first line of the L section: seven numbers and the policy word.
     pub fn layout(self, s: &[u8]) -> LayoutLine
         ensures { λ r. ⌜ layoutOf (now (s .entry)) r ≡ readLayout (drop (self .at) (now (s .entry))) ⌝ }
     {
@@ -94,8 +101,23 @@ impl Cursor {
             back,
             width,
             depot,
+            posts: Posts::NoPosts,
         };
         LayoutLine::Read(z, word, next)
+    }
+
+    // The second line of the L section: how many cells stand between posts, and how wide a post is.
+    pub fn posts(self, s: &[u8]) -> PostsLine
+        ensures { λ r. ⌜ postsOf (now (s .entry)) r ≡ readPostsLine (drop (self .at) (now (s .entry))) ⌝ }
+    {
+        let Field::Number(cells, c1) = self.field(s, 32) else {
+            return PostsLine::Bad;
+        };
+        let Field::Number(wide, next) = c1.field(s, 10) else {
+            return PostsLine::Bad;
+        };
+        let posts = Posts::Every(cells, wide);
+        PostsLine::Read(posts, next)
     }
 
     // A line of the S section: aisle, cell, article, quantity.

@@ -5,6 +5,7 @@ use crate::sections::no_line;
 use crate::sections::no_record;
 use rules::Layout;
 use rules::Policy;
+use rules::Posts;
 use values::JobValue;
 ghost use mathlib.Core.Path.{_≡_};
 ghost use mathlib.Core.Option.{none};
@@ -33,6 +34,7 @@ fn not_a_job_file() -> RawJob
         back: 0,
         width: 0,
         depot: 0,
+        posts: Posts::NoPosts,
     };
     let job = JobValue {
         layout,

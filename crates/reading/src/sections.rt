@@ -3,17 +3,21 @@ use crate::cursor::Cursor;
 use crate::cursor::Field;
 use crate::lines::LayoutLine;
 use crate::lines::ListLine;
+use crate::lines::PostsLine;
 use crate::lines::RecordLine;
 use marks::mark;
 use marks::no_marks;
+use rules::Layout;
 use rules::OrderLine;
+use rules::Posts;
 use rules::StockRecord;
 ghost use mathlib.Core.Path.{_≡_};
 ghost use lib.ListN.{drop};
-ghost use Rattle.rules.specs.JobFile.{readRecord, readLine, readLines, readSection, readLayoutSection, letterS, letterD};
+ghost use Rattle.rules.specs.JobFile.{readRecord, readLine, readLines, readSection, readPosts, readLayoutSection, letterS, letterD};
+ghost use Rattle.rules.specs.Store.{withPosts};
 ghost use Rattle.values.specs.Values.{noLine};
 ghost use Rattle.reading.specs.Kept.{noRecord, noStock, noList, stockRead, listRead, Answers};
-ghost use Rattle.reading.specs.Places.{layoutOf};
+ghost use Rattle.reading.specs.Places.{layoutOf, postsOf};
 
 // The stock records that were read: whether all lines were, the place behind them, their number, the first 384 of them, and
 // whether a cell stands in two.
@@ -81,6 +85,22 @@ fn no_list() -> ListRead
         next,
         count: 0,
         lines,
+    }
+}
+
+// The store with other posts.
+fn with_posts(z: Layout, posts: Posts) -> Layout
+    ensures { λ r. ⌜ r ≡ withPosts posts z ⌝ }
+{
+    Layout {
+        aisles: z.aisles,
+        cells: z.cells,
+        front: z.front,
+        pitch: z.pitch,
+        back: z.back,
+        width: z.width,
+        depot: z.depot,
+        posts,
     }
 }
 
@@ -158,6 +178,19 @@ impl Cursor {
         first.order_lines(s, count)
     }
 
+    // What is behind the first line of the L section, by the section's count.
+    fn posts_behind(self, s: &[u8], count: usize) -> PostsLine
+        ensures { λ r. ⌜ postsOf (now (s .entry)) r ≡ readPosts count (drop (self .at) (now (s .entry))) ⌝ }
+    {
+        if count == 1 {
+            return PostsLine::Read(Posts::NoPosts, self);
+        }
+        if count == 2 {
+            return self.posts(s);
+        }
+        PostsLine::Bad
+    }
+
     // The L section.
     pub fn layout_section(self, s: &[u8]) -> LayoutLine
         ensures { λ r. ⌜ layoutOf (now (s .entry)) r ≡ readLayoutSection (drop (self .at) (now (s .entry))) ⌝ }
@@ -165,9 +198,12 @@ impl Cursor {
         let Field::Number(count, first) = self.header(s, 76) else {
             return LayoutLine::Bad;
         };
-        if count != 1 {
+        let LayoutLine::Read(z, policy, behind) = first.layout(s) else {
             return LayoutLine::Bad;
-        }
-        first.layout(s)
+        };
+        let PostsLine::Read(posts, next) = behind.posts_behind(s, count) else {
+            return LayoutLine::Bad;
+        };
+        LayoutLine::Read(with_posts(z, posts), policy, next)
     }
 }

@@ -15,7 +15,7 @@ use Rattle.rules.specs.BestPlan.{bestPlan}
 use Rattle.rules.specs.Machine.{nothing}
 use Rattle.rules.proofs.Lists.{map-map}
 use Rattle.rules.proofs.Enumeration.{serving-plans}
-use Rattle.rules.proofs.Lengths.{plan-length-49920}
+use Rattle.rules.proofs.Ceiling.{plan-length-57280}
 use Rattle.tours.proofs.Existence.{serving-exists}
 use Rattle.optimum.specs.Table.{Rest, value}
 use Rattle.optimum.specs.Demand.{radices, demandOf, wholeDemand}
@@ -62,7 +62,7 @@ module _ (job : Job) (ok : Admitted job) where
         demand-below = omega (arith, whole-code job);
         rest = restOf (bestPlan job);
         leads = rw (m-is, start-demand) (table-plan job (ok .layout) (x .0) (serving-plans job (x .0) .1 (x .1, x .2, x .3)) some-line);
-        finite = rw m-is (omega (arith, start-length some-line, plan-length-49920 (job .layout) (bestPlan job) (ok .layout) best-well));
+        finite = rw m-is (omega (arith, start-length some-line, plan-length-57280 (job .layout) (bestPlan job) (ok .layout) best-well));
         whole = refl;
       }
 

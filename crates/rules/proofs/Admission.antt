@@ -9,13 +9,15 @@ use mathlib.Core.Option.{Option, none, some}
 use borrow.Author.Tests.{leb-true, le-leb, ltb-true, lt-ltb, ltb-false, le-ltb, eqb-true, eq-eqb, not-false}
 use lib.Dec.{leb, ltb, eqb}
 use lib.ListN.{length}
+use Rattle.rules.specs.declared.Posts.{Posts}
+use Rattle.rules.specs.declared.Posts.the-variants.{NoPosts, Every}
 use Rattle.rules.specs.declared.Layout.{Layout}
 use Rattle.rules.specs.declared.StockRecord.{StockRecord}
 use Rattle.rules.specs.declared.OrderLine.{OrderLine}
 use Rattle.rules.specs.declared.Refusal.{Refusal}
 use Rattle.rules.specs.declared.Refusal.the-variants.{LayoutBounds, StockBounds, CellTwice, ListBounds, ArticleTwice, TooHeavy, ShortOfStock}
 use Rattle.rules.specs.Lists.{anyTwo, Sorted}
-use Rattle.rules.specs.Store.{within, layoutInBounds, LayoutWithin}
+use Rattle.rules.specs.Store.{within, postsInBounds, PostsWithin, layoutInBounds, LayoutWithin}
 use Rattle.rules.specs.Jobs.{Job}
 use Rattle.rules.specs.Refusals.{recordInBounds, stockInBounds, sameCell, lineInBounds, listInBounds, sameArticle, weight, weightLimit, allStock, shortOfStock, numberOf, firstRow, jobRows, jobRefusal, Admitted, RecordWithin, StockWithin, LineWithin, ListWithin}
 use Rattle.rules.proofs.Lists.{all-true, any-false, any-true, sorted-imply, no-two-alike, alike-members}
@@ -46,13 +48,21 @@ once {A} alike P says xs = (
     go x y true e h = absurd (h (says x y .0 e))
     go x y false e h = e
 
+-- the test of the posts' numbers says so
+posts-within : (p : Posts) → (postsInBounds p ≡ true) ↔ PostsWithin p
+posts-within NoPosts = (λ e. tt, λ b. refl)
+posts-within (Every k u) =
+    simp (and-eq-true-iff, within-bounds) (λ p. (p .0 .0, p .0 .1, p .1 .1), λ b. ((b .0, b .1), (omega arith, b .2)))
+
 -- the test of the layout's numbers says so
 pub layout-within : (z : Layout) → (layoutInBounds z ≡ true) ↔ LayoutWithin z
 unfolding layoutInBounds
 layout-within z =
-    simp (and-eq-true-iff, within-bounds) (
-      λ p. record { aisles = p .0 .0 .0 .0 .0 .0; cells = p .0 .0 .0 .0 .0 .1; front = p .0 .0 .0 .0 .1; pitch = p .0 .0 .0 .1; back = p .0 .0 .1; width = p .0 .1; depot = p .1 },
-      λ b. ((((((b .aisles, b .cells), b .front), b .pitch), b .back), b .width), b .depot),
+    simp (and-eq-true-iff, within-bounds, posts-within) (
+      λ p.
+          let q = p .0 .0 .0 in
+          record { aisles = q .0 .0 .0 .0; cells = q .0 .0 .0 .1; front = q .0 .0 .1; pitch = q .0 .1; back = q .1; width = p .0 .0 .1; depot = p .0 .1; posts = p .1 },
+      λ b. (((((((b .aisles, b .cells), b .front), b .pitch), b .back), b .width), b .depot), b .posts),
     )
 
 pub record-within : (job : Job) (r : StockRecord) → (recordInBounds job r ≡ true) ↔ RecordWithin (job .layout) r

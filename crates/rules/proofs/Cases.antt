@@ -22,9 +22,9 @@ use Rattle.rules.specs.Lists.{allOf}
 use Rattle.rules.specs.Lengths.{actionLength, passageLength}
 use Rattle.rules.specs.Answers.{refused, served, answer, hostAnswer, output}
 use Rattle.rules.specs.BestPlan.{actionsOf, passagesInOrder, single, prepend, shorterOf, emptyPlan, servingPlans, bestPlan}
-use Rattle.rules.specs.Examples.{stocked, _⨯_, alpha, beta, steps, roundTrip, cases, ownJob, oneEach, midwayFront, midwayBack, farBack, nearBack, bothEnds, bottomOrTop, topOrGap, gapOrOnce, frontOrBack, leftFirst, topTie, withOthers, gapByFront, gapByBack, wrongLayout, wrongStock, sharedCell, sharedArticle, bothBottom, bothOnce, eightLines, nineLines, frontOnly, awayFromDepot, ownCases, texts, overfull, RefusedWith, workedJob, workedSheet}
+use Rattle.rules.specs.Examples.{stocked, _⨯_, alpha, beta, steps, roundTrip, cases, ownJob, oneEach, midwayFront, midwayBack, farBack, nearBack, bothEnds, bottomOrTop, topOrGap, gapOrOnce, frontOrBack, leftFirst, topTie, withOthers, gapByFront, gapByBack, posted, thirdCells, beforeMiddle, wrongLayout, wrongStock, sharedCell, sharedArticle, bothBottom, bothOnce, eightLines, nineLines, frontOnly, awayFromDepot, ownCases, texts, overfull, RefusedWith, workedJob, workedSheet}
 use Rattle.rules.specs.FirstWalk.{without, stepsOf, firstWalk}
-use Rattle.rules.specs.JobFile.{numeral, field, header, sectionText, jobText, layoutText, recordText, lineText, isDigit, isNumber, readField, readHeader, readPolicyAs, readPolicy, readLayout, readRecord, readLine, readSection, readLayoutSection, readSections, readJob}
+use Rattle.rules.specs.JobFile.{numeral, field, header, sectionText, jobText, layoutText, layoutSectionText, recordText, lineText, isDigit, isNumber, readField, readHeader, readPolicyAs, readPolicy, readLayout, readPostsLine, readPosts, readRecord, readLine, readSection, readLayoutSection, readSections, readJob}
 use Rattle.rules.specs.Jobs.{listed, holdsListed}
 use Rattle.rules.specs.Machine.{actionPossible, actionStep, passageStep, treadsNothing, accepts}
 use Rattle.rules.specs.Picks.{cellsOf, lackOf, lessOf, recordAt, taken, passedRecords, picksOf}
@@ -136,7 +136,7 @@ cases-hold = all-hold cases cases-computed
 
 -- the rows of our own cases
 own-cases-computed : AllComputed ownCases
-unfolding actionsOf passagesInOrder single prepend shorterOf stocked _⨯_ alpha beta listed holdsListed actionPossible actionStep passageStep accepts actionAt passageAt multiplicity lengthOf planLength planPasses inFrontHalf inBackHalf supply serves aisleLength position backHeight depotPoint distance edgesOf boundedBest actionLength passageLength recordInBounds stockInBounds sameCell lineInBounds listInBounds sameArticle weight allStock shortOfStock jobRows jobRefusal within layoutInBounds without stepsOf firstWalk sameEdge samePoint isCrossing canStep stepTo stepEdge one steps RefusedWith ownJob oneEach midwayFront midwayBack farBack nearBack bothEnds bottomOrTop topOrGap gapOrOnce frontOrBack leftFirst topTie withOthers gapByFront gapByBack wrongLayout wrongStock sharedCell sharedArticle bothBottom bothOnce eightLines nineLines frontOnly awayFromDepot ownCases treadsNothing
+unfolding actionsOf passagesInOrder single prepend shorterOf stocked _⨯_ alpha beta listed holdsListed actionPossible actionStep passageStep accepts actionAt passageAt multiplicity lengthOf planLength planPasses inFrontHalf inBackHalf supply serves aisleLength position backHeight depotPoint distance edgesOf boundedBest actionLength passageLength recordInBounds stockInBounds sameCell lineInBounds listInBounds sameArticle weight allStock shortOfStock jobRows jobRefusal within layoutInBounds without stepsOf firstWalk sameEdge samePoint isCrossing canStep stepTo stepEdge one steps RefusedWith ownJob oneEach midwayFront midwayBack farBack nearBack bothEnds bottomOrTop topOrGap gapOrOnce frontOrBack leftFirst topTie withOthers gapByFront gapByBack posted thirdCells beforeMiddle wrongLayout wrongStock sharedCell sharedArticle bothBottom bothOnce eightLines nineLines frontOnly awayFromDepot ownCases treadsNothing
 own-cases-computed =
     (refl, refl)
     ▸ (refl, refl)
@@ -164,6 +164,14 @@ own-cases-computed =
     ▸ (λ policy. (ListBounds, refl, refl))
     ▸ under-each _ (refl, refl) (refl, refl) (refl, refl) (refl, refl) (refl, refl)
     ▸ (refl, refl)
+    ▸ (refl, refl, refl, refl)
+    ▸ (refl, refl, refl, refl)
+    ▸ (refl, refl, refl, refl)
+    ▸ (refl, refl, refl, refl)
+    ▸ (refl, refl, refl, refl)
+    ▸ (λ policy. (LayoutBounds, refl, refl))
+    ▸ (λ policy. (LayoutBounds, refl, refl))
+    ▸ (λ policy. (LayoutBounds, refl, refl))
     ▸ tt
 
 -- the table of our own cases
@@ -172,13 +180,13 @@ own-cases-hold = all-hold ownCases own-cases-computed
 
 -- the texts of words and lines, byte for byte
 pub texts-hold : AllSame texts
-unfolding texts ownJob stocked _⨯_ numeral field header layoutText recordText lineText passageText pickText isDigit isNumber readField readHeader readLayoutSection readSections readJob answer refused hostAnswer output
+unfolding texts ownJob stocked _⨯_ numeral field header layoutText layoutSectionText recordText lineText passageText pickText isDigit isNumber readField readHeader readLayoutSection readSections readJob answer refused hostAnswer output
 texts-hold =
-    (refl, (refl, (refl, (refl, (refl, (refl, (refl, (refl, (refl, (refl, (refl, (refl, (refl, (refl, (refl, (refl, tt))))))))))))))))
+    (refl, (refl, (refl, (refl, (refl, (refl, (refl, (refl, (refl, (refl, (refl, (refl, (refl, (refl, (refl, (refl, (refl, tt)))))))))))))))))
 
 -- a sheet space of 69 bytes is too short for the worked sheet: 9, and the work area is all zero
 pub short-space : CallGives (replicate 69 0) (replicate 32768 1) 9 0
-unfolding servingPlans cleared refused served answer hostAnswer output actionsOf passagesInOrder single prepend shorterOf emptyPlan bestPlan workedJob without stepsOf firstWalk numeral field header sectionText isDigit isNumber readField readHeader readPolicyAs readPolicy readLayout readRecord readLine readSection readLayoutSection readSections readJob listed holdsListed actionPossible actionStep passageStep accepts cellsOf lackOf lessOf recordAt taken passedRecords picksOf actionAt passageAt multiplicity lengthOf planLength planPasses inFrontHalf inBackHalf recordInBounds stockInBounds sameCell lineInBounds listInBounds sameArticle weight allStock shortOfStock jobRows jobRefusal supply serves totalText passageText pickText runText sheetOf sheetText aisleLength position backHeight depotPoint distance edgesOf within layoutInBounds sameEdge samePoint isCrossing canStep stepTo stepEdge one
+unfolding servingPlans cleared refused served answer hostAnswer output actionsOf passagesInOrder single prepend shorterOf emptyPlan bestPlan workedJob without stepsOf firstWalk numeral field header sectionText isDigit isNumber readField readHeader readPolicyAs readPolicy readLayout readPosts readRecord readLine readSection readLayoutSection readSections readJob listed holdsListed actionPossible actionStep passageStep accepts cellsOf lackOf lessOf recordAt taken passedRecords picksOf actionAt passageAt multiplicity lengthOf planLength planPasses inFrontHalf inBackHalf recordInBounds stockInBounds sameCell lineInBounds listInBounds sameArticle weight allStock shortOfStock jobRows jobRefusal supply serves totalText passageText pickText runText sheetOf sheetText aisleLength position backHeight depotPoint distance edgesOf within layoutInBounds sameEdge samePoint isCrossing canStep stepTo stepEdge one
 short-space = record { its-number = refl; its-work = refl }
 
 -- a work area of 32,767 numbers is too small: 10, and it is left as it was
@@ -188,14 +196,14 @@ small-area = record { its-number = refl; its-work = refl }
 
 -- a job file of 16,384 bytes is read to its end: its records are too many; with a byte more it is not a job file
 pub longest-file : FileEnds (overfull 2042 1) 16384 StockBounds
-unfolding numeral field header sectionText isDigit isNumber readField readHeader readPolicyAs readPolicy readLayout readRecord readLine readSection readLayoutSection readSections readJob checkJob checkBytes recordInBounds stockInBounds sameCell lineInBounds listInBounds sameArticle weight allStock shortOfStock jobRows jobRefusal within layoutInBounds stocked _⨯_ alpha overfull jobText layoutText recordText lineText
+unfolding numeral field header sectionText isDigit isNumber readField readHeader readPolicyAs readPolicy readLayout readPosts readRecord readLine readSection readLayoutSection readSections readJob checkJob checkBytes recordInBounds stockInBounds sameCell lineInBounds listInBounds sameArticle weight allStock shortOfStock jobRows jobRefusal within layoutInBounds stocked _⨯_ alpha overfull jobText layoutSectionText layoutText recordText lineText
 longest-file = record { bytes = refl; ends = refl }
 
 pub longer-file : FileEnds (overfull 2041 2) 16385 NotAJobFile
-unfolding numeral field header sectionText isDigit isNumber readField readHeader readPolicyAs readPolicy readLayout readRecord readLine readSection readLayoutSection readSections readJob checkJob checkBytes recordInBounds stockInBounds sameCell lineInBounds listInBounds sameArticle weight allStock shortOfStock jobRows jobRefusal within layoutInBounds stocked _⨯_ alpha overfull jobText layoutText recordText lineText
+unfolding numeral field header sectionText isDigit isNumber readField readHeader readPolicyAs readPolicy readLayout readPosts readRecord readLine readSection readLayoutSection readSections readJob checkJob checkBytes recordInBounds stockInBounds sameCell lineInBounds listInBounds sameArticle weight allStock shortOfStock jobRows jobRefusal within layoutInBounds stocked _⨯_ alpha overfull jobText layoutSectionText layoutText recordText lineText
 longer-file = record { bytes = refl; ends = refl }
 
 -- the worked example, byte for byte
 pub worked-example : output workedJob ≡ workedSheet
-unfolding servingPlans cleared refused served answer hostAnswer output actionsOf passagesInOrder single prepend shorterOf emptyPlan bestPlan workedJob without stepsOf firstWalk numeral field header sectionText isDigit isNumber readField readHeader readPolicyAs readPolicy readLayout readRecord readLine readSection readLayoutSection readSections readJob listed holdsListed actionPossible actionStep passageStep accepts cellsOf lackOf lessOf recordAt taken passedRecords picksOf actionAt passageAt multiplicity lengthOf planLength planPasses inFrontHalf inBackHalf recordInBounds stockInBounds sameCell lineInBounds listInBounds sameArticle weight allStock shortOfStock jobRows jobRefusal supply serves totalText passageText pickText runText sheetOf sheetText aisleLength position backHeight depotPoint distance edgesOf within layoutInBounds sameEdge samePoint isCrossing canStep stepTo stepEdge one workedSheet
+unfolding servingPlans cleared refused served answer hostAnswer output actionsOf passagesInOrder single prepend shorterOf emptyPlan bestPlan workedJob without stepsOf firstWalk numeral field header sectionText isDigit isNumber readField readHeader readPolicyAs readPolicy readLayout readPosts readRecord readLine readSection readLayoutSection readSections readJob listed holdsListed actionPossible actionStep passageStep accepts cellsOf lackOf lessOf recordAt taken passedRecords picksOf actionAt passageAt multiplicity lengthOf planLength planPasses inFrontHalf inBackHalf recordInBounds stockInBounds sameCell lineInBounds listInBounds sameArticle weight allStock shortOfStock jobRows jobRefusal supply serves totalText passageText pickText runText sheetOf sheetText aisleLength position backHeight depotPoint distance edgesOf within layoutInBounds sameEdge samePoint isCrossing canStep stepTo stepEdge one workedSheet
 worked-example = refl

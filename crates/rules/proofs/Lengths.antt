@@ -1,24 +1,43 @@
--- Distances and lengths: positions in an aisle, the closed forms of lengths, and their bounds.
-use Prim.Native.Nat.{ℕ, zero, suc, _+_, _*_, _-_, _≤_, _<_}
+-- Distances and lengths: positions in an aisle, the closed forms of lengths, and what bounds them.
+use Prim.Native.Nat.{ℕ, zero, suc, _+_, _*_, _-_, _/_, _≤_, _<_}
 use mathlib.Core.Path.{_≡_, refl, sym, _∙_, ap, ap₂, subst}
 use mathlib.Core.List.{_++_, map, List·Memᴰ}
 use mathlib.Core.Bool.{Bool, true, false}
-use native.Mathlib.Nat.{mul-zero, mul-add, add-mul, mul-le-mul, mul-le-mul-right}
+use native.Mathlib.Nat.{mul-zero, mul-add, add-mul, mul-le-mul-left, mul-le-mul-right, div-zero, div-mul-le-self, le-div-iff-mul-le}
 use native.Mathlib.Omega.{arith}
 use lib.Dec.{ltb}
 use lib.ListN.{length}
 use borrow.Author.Tests.{lt-ltb, le-ltb, le-leb, lt-leb, ltb-true, ltb-false}
+use Rattle.rules.specs.declared.Posts.{Posts}
+use Rattle.rules.specs.declared.Posts.the-variants.{NoPosts, Every}
 use Rattle.rules.specs.declared.Layout.{Layout}
 use Rattle.rules.specs.declared.Action.{Action}
 use Rattle.rules.specs.declared.Action.the-variants.{Void, Bottom, Top, Gap, Once, Twice}
 use Rattle.rules.specs.declared.Passage.{Passage}
 use Rattle.rules.specs.declared.Passage.the-variants.{P00, P02, P11, P20, P22}
 use Rattle.rules.specs.Lists.{from, sumOf, concatOf}
-use Rattle.rules.specs.Store.{aisleLength, position, Edge, along, front, back, distance, edgesOf, layoutInBounds}
+use Rattle.rules.specs.Store.{postsBefore, WithoutPosts, cellPosition, aisleLength, position, Edge, along, front, back, distance, edgesOf}
 use Rattle.rules.specs.Plans.{Plan, Fits, WellFormed, actionAt, passageAt, aisleTreads, backTreads, frontTreads, multiplicity, lengthOf, planLength}
 use Rattle.rules.specs.Lengths.{actionLength, passageLength}
 use Rattle.rules.proofs.Lists.{sum-append, sum-agree, sum-plus, sum-below, sum-map, sum-concat, sum-from-append, sum-places, member-place}
-use Rattle.rules.proofs.Admission.{layout-within}
+
+-- division rounded down grows with what is divided
+div-monotone : (k : ℕ) {x y : ℕ} → x ≤ y → x / k ≤ y / k
+div-monotone zero {x} {y} l = rw (div-zero x, div-zero y) (omega arith)
+div-monotone (suc k) {x} {y} l = le-div-iff-mul-le {k = suc k} {x = x / suc k} {y = y} (omega arith) .1 (omega (arith, div-mul-le-self x (suc k)))
+
+-- the further a cell, the more posts are before it
+posts-monotone : (p : Posts) (h k : ℕ) → h ≤ k → postsBefore p h ≤ postsBefore p k
+posts-monotone NoPosts h k le = omega arith
+posts-monotone (Every q u) h k le = mul-le-mul-left u (div-monotone q (omega arith))
+
+-- without posts cell i lies f + (i − 1)·p from the front
+none-before : (p : Posts) → WithoutPosts p → (i : ℕ) → postsBefore p i ≡ 0
+none-before NoPosts w i = refl
+none-before (Every k u) w i = rw w (omega arith)
+
+pub cell-without-posts : (z : Layout) → WithoutPosts (z .posts) → (i : ℕ) → cellPosition z i ≡ z .front + (i - 1) * z .pitch
+cell-without-posts z w i = omega (arith, none-before (z .posts) w i)
 
 module _ (z : Layout) where
   -- the front crossing
@@ -27,7 +46,7 @@ module _ (z : Layout) where
   position-front = refl
 
   -- a cell
-  pub position-cell : (i : ℕ) → 1 ≤ i → i ≤ z .cells → position z i ≡ z .front + (i - 1) * z .pitch
+  pub position-cell : (i : ℕ) → 1 ≤ i → i ≤ z .cells → position z i ≡ cellPosition z i
   unfolding position
   position-cell zero low high = absurd (omega arith)
   position-cell (suc k) low high =
@@ -62,7 +81,7 @@ module _ (z : Layout) where
       go (at-front e) = rw (e, position-front) (omega arith)
       go (at-cell low high) =
           let p : (i - 1) * z .pitch ≤ (z .cells - 1) * z .pitch = mul-le-mul-right (z .pitch) (omega arith) in
-          rw (position-cell i low high) (omega arith)
+          rw (position-cell i low high) (omega (arith, posts-monotone (z .posts) i (z .cells) high))
       go (at-back h) = rw (position-back i h) (omega arith)
 
   -- positions grow with the height
@@ -74,7 +93,7 @@ module _ (z : Layout) where
       go (at-cell low high) (at-front e) = absurd (omega arith)
       go (at-cell low high) (at-cell l g) =
           let p : (h - 1) * z .pitch ≤ (k - 1) * z .pitch = mul-le-mul-right (z .pitch) (omega arith) in
-          rw (position-cell h low high, position-cell k l g) (omega arith)
+          rw (position-cell h low high, position-cell k l g) (omega (arith, posts-monotone (z .posts) h k le))
       go (at-cell low high) (at-back b) = rw (position-back k b) (position-within h)
       go (at-back b) (at-front e) = absurd (omega arith)
       go (at-back b) (at-cell l g) = absurd (omega arith)
@@ -190,13 +209,3 @@ plan-length-bound z plan wf =
     let passages = sum-below (passageLength z) (4 * z .width) (plan .passages) (λ p m. passage-length-bound z p) in
     let count : length (plan .passages) ≡ z .aisles - 1 = omega (arith, wf .passages) in
     omega (arith, plan-length z plan wf, rw (wf .aisles) at actions, rw count at passages)
-
--- within the bounds of the layout no tour exceeds 49,920
-pub plan-length-49920 : (z : Layout) (plan : Plan) → layoutInBounds z ≡ true → WellFormed z plan → planLength z plan ≤ 49920
-unfolding aisleLength
-plan-length-49920 z plan bounds wf =
-    let b = layout-within z .0 bounds in
-    let whole : (z .cells - 1) * z .pitch ≤ 23 * 30 = mul-le-mul {n₂ = 23} {m₂ = 30} (omega arith) (omega arith) in
-    let actions : z .aisles * (2 * aisleLength z) ≤ 16 * 1620 = mul-le-mul {n₂ = 16} {m₂ = 1620} (omega arith) (omega arith) in
-    let passages : (z .aisles - 1) * (4 * z .width) ≤ 15 * 1600 = mul-le-mul {n₂ = 15} {m₂ = 1600} (omega arith) (omega arith) in
-    omega (arith, plan-length-bound z plan wf)

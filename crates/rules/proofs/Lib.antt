@@ -11,4 +11,6 @@ pub mod Enumeration
 pub mod EmptyList
 pub mod Pruning
 pub mod Cases
+pub mod Ceiling
+pub mod NoPosts
 pub mod WrongTurnings

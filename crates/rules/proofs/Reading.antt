@@ -10,12 +10,15 @@ use lib.Dec.{leb, eqb}
 use lib.ListN.{length, drop}
 use lib.Seq.{drop-append-seam}
 use borrow.Author.Tests.{leb-true, le-leb, eqb-true, eq-eqb}
+use Rattle.rules.specs.declared.Posts.{Posts}
+use Rattle.rules.specs.declared.Posts.the-variants.{NoPosts, Every}
 use Rattle.rules.specs.declared.Layout.{Layout}
 use Rattle.rules.specs.declared.Policy.{Policy}
 use Rattle.rules.specs.declared.Policy.the-variants.{Exact, Return, Traversal, Midpoint, Composite}
 use Rattle.rules.specs.Lists.{concatOf}
+use Rattle.rules.specs.Store.{withPosts}
 use Rattle.rules.specs.Jobs.{Job}
-use Rattle.rules.specs.JobFile.{Reading, _>>=_, space, lineFeed, numeral, field, header, isDigit, leadingDigits, valueOf, isNumber, readByte, readField, readHeader, readWord, policyWord, readPolicyAs, orElse, readPolicy, layoutText, readLayout, recordText, readRecord, lineText, readLine, readLines, sectionText, readSection, letterL, letterS, letterD, readLayoutSection, jobText, readSections, atEnd, jobFileLimit, readJob, WritableLayout, WritableRecord, WritableLine, WritableSection, Writable}
+use Rattle.rules.specs.JobFile.{Reading, _>>=_, space, lineFeed, numeral, field, header, isDigit, leadingDigits, valueOf, isNumber, readByte, readField, readHeader, readWord, policyWord, readPolicyAs, orElse, readPolicy, layoutText, readLayout, postsText, layoutLines, layoutSectionText, readPostsLine, readPosts, recordText, readRecord, lineText, readLine, readLines, sectionText, readSection, letterL, letterS, letterD, readLayoutSection, jobText, readSections, atEnd, jobFileLimit, readJob, WritablePosts, WritableLayout, WritableRecord, WritableLine, WritableSection, Writable}
 use Rattle.rules.proofs.Numbers.{numeral-digits, valueOf-numeral, isNumber-numeral, numeral-isNumber, leadingDigits-append, leadingDigits-digits, leadingDigits-drop}
 
 -- a reader and a text are inverse: the text of each valid value is read as it, and whatever is read is such a text
@@ -180,12 +183,16 @@ policy-inverse = record { reads = reads; written = written }
         one : (q : Policy) → readPolicyAs q s ≡ some (p, rest) → (s ≡ policyText p ++ rest) × Unit {0}
         one q e = let w = policyAs-inverse q .written s p rest e in (rw (w .1) (w .0), tt)
 
--- the line of the L section
-pub layout-inverse : Inverse readLayout (λ (z : Layout × Policy). layoutText (z .0) (z .1)) (λ (z : Layout × Policy). WritableLayout (z .0))
+-- a layout that says no posts, and whose other numbers can be written
+abbrev Plain : Layout × Policy → Type 0
+Plain z = (z .0 .posts ≡ NoPosts) × WritableLayout (withPosts NoPosts (z .0))
+
+-- the first line of the L section
+pub layout-inverse : Inverse readLayout (λ (z : Layout × Policy). layoutText (z .0) (z .1)) Plain
 unfolding readLayout layoutText policyText
 layout-inverse =
     valid-as
-    (λ z. (λ v. omega arith, λ v. (refl, omega arith)))
+    (λ z. (λ v. (ap (λ (y : Layout × Policy). y .0 .posts) (v .0), record { aisles = omega arith; cells = omega arith; front = omega arith; pitch = omega arith; back = omega arith; width = omega arith; depot = omega arith; posts = tt }), λ v. (ap (λ p. (withPosts p (z .0), z .1)) (v .0), omega arith)))
     (bind-part (λ z. z .0 .aisles) (λ a z. refl) space-field (λ m.
     bind-part (λ z. z .0 .cells) (λ a z. refl) space-field (λ c.
     bind-part (λ z. z .0 .front) (λ a z. refl) space-field (λ f.
@@ -193,7 +200,44 @@ layout-inverse =
     bind-part (λ z. z .0 .back) (λ a z. refl) space-field (λ b.
     bind-part (λ z. z .0 .width) (λ a z. refl) space-field (λ w.
     bind-part (λ z. z .0 .depot) (λ a z. refl) space-field (λ d.
-    made (λ word. (record { aisles = m; cells = c; front = f; pitch = p; back = b; width = w; depot = d }, word)) (λ z. z .1) (λ a v. refl) policy-inverse))))))))
+    made (λ word. (record { aisles = m; cells = c; front = f; pitch = p; back = b; width = w; depot = d; posts = NoPosts }, word)) (λ z. z .1) (λ a v. refl) policy-inverse))))))))
+
+-- its second line
+posts-line-inverse : Inverse readPostsLine postsText (λ (p : Posts). (layoutLines p ≡ 2) × WritablePosts p)
+unfolding readPostsLine
+posts-line-inverse = record { reads = reads; written = written }
+  where
+    reads : (p : Posts) (rest : List ℕ) → (layoutLines p ≡ 2) × WritablePosts p → readPostsLine (postsText p ++ rest) ≡ some (p, rest)
+    reads NoPosts rest v = absurd (omega arith)
+    reads (Every k u) rest v = rw (append-assoc, space-field .reads k (field lineFeed u ++ rest) (v .1 .0), line-field .reads u rest (v .1 .1))
+
+    written : (s : List ℕ) (p : Posts) (rest : List ℕ) → readPostsLine s ≡ some (p, rest) → (s ≡ postsText p ++ rest) × ((layoutLines p ≡ 2) × WritablePosts p)
+    written s p rest e =
+        let w = read-some (readField space s) (λ q. readField lineFeed (q .1) >>= λ r. some (Every (q .0) (r .0), r .1)) e in
+        let (k, behind) = w .0 in
+        let v = read-some (readField lineFeed behind) (λ r. some (Every k (r .0), r .1)) (w .2) in
+        let (u, last) = v .0 in
+        let same = same-reading (v .2) in
+        let first = space-field .written s k behind (w .1) in
+        let second = line-field .written behind u last (v .1) in
+        subst₂ (λ (q : Posts) (end : List ℕ). (s ≡ postsText q ++ end) × ((layoutLines q ≡ 2) × WritablePosts q)) (same .0) (same .1)
+        (rw append-assoc (first .0 ∙ ap (λ (t : List ℕ). field space k ++ t) (second .0)), (refl, (first .1, second .1)))
+
+-- what is behind the first line, by the section's count
+posts-inverse : (n : ℕ) → Inverse (readPosts n) postsText (λ (p : Posts). (layoutLines p ≡ n) × WritablePosts p)
+unfolding readPosts
+posts-inverse n = record { reads = reads; written = λ s p rest e. written s p rest (eqb n 1) (eqb n 2) refl refl e }
+  where
+    reads : (p : Posts) (rest : List ℕ) → (layoutLines p ≡ n) × WritablePosts p → readPosts n (postsText p ++ rest) ≡ some (p, rest)
+    reads NoPosts rest v = rw (← v .0) refl
+    reads (Every k u) rest v = rw (← v .0) (posts-line-inverse .reads (Every k u) rest (refl, v .1))
+
+    written : (s : List ℕ) (p : Posts) (rest : List ℕ) (b c : Bool) → eqb n 1 ≡ b → eqb n 2 ≡ c
+        → _≡_ {A = Reading Posts} (elim b [ true ↦ some (NoPosts, s) | false ↦ elim c [ true ↦ readPostsLine s | false ↦ none ] ]) (some (p, rest))
+        → (s ≡ postsText p ++ rest) × ((layoutLines p ≡ n) × WritablePosts p)
+    written s p rest true c one two e = let same = same-reading e in rw (← same .0) (same .1, (sym (eqb-true n 1 one), tt))
+    written s p rest false true one two e = rw (eqb-true n 2 two) (posts-line-inverse .written s p rest e)
+    written s p rest false false one two e = nothing-read e
 
 -- a line of the S section
 pub record-inverse : Inverse readRecord recordText WritableRecord
@@ -261,29 +305,42 @@ section-inverse letter i =
     (λ xs. (λ v. record { count = v .0; each = v .1 .1 }, λ v. (v .count, (refl, v .each))))
     (bind (λ xs. length xs) (header-inverse letter) (λ n. lines-inverse i n) (λ n xs p q. q .0))
 
--- a reader that reads only if the test holds
-if-inverse : {A : Type 0} {read : List ℕ → Reading A} {text : A → List ℕ} {P : A → Type 0} (b : Bool) → Inverse read text P → Inverse (λ (s : List ℕ). elim b [ true ↦ read s | false ↦ none ]) text (λ (x : A). (b ≡ true) × P x)
-if-inverse true i = valid-as (λ x. (λ v. (refl, v), λ v. v .1)) i
-if-inverse false i = record { reads = λ x rest v. let e = v .0 in cc; written = λ s x rest e. nothing-read e }
+-- one line or two
+few-lines : (p : Posts) → layoutLines p ≤ 65535
+few-lines NoPosts = omega arith
+few-lines (Every k u) = omega arith
+
+-- what the first line says of a layout
+abbrev firstLine : Layout × Policy → Layout × Policy
+firstLine z = (withPosts NoPosts (z .0), z .1)
 
 -- the L section
-pub layout-section-inverse : Inverse readLayoutSection (λ (z : Layout × Policy). header letterL 1 ++ layoutText (z .0) (z .1)) (λ (z : Layout × Policy). WritableLayout (z .0))
-unfolding readLayoutSection
+pub layout-section-inverse : Inverse readLayoutSection (λ (z : Layout × Policy). layoutSectionText (z .0) (z .1)) (λ (z : Layout × Policy). WritableLayout (z .0))
+unfolding readLayoutSection layoutSectionText layoutText
 layout-section-inverse =
     valid-as
-    (λ z. (λ v. v .1 .1, λ v. (omega arith, (refl, v))))
-    (bind (λ z. 1) (header-inverse letterL) (λ n. if-inverse (eqb n 1) layout-inverse) (λ n z p q. sym (eqb-true n 1 (q .0))))
+    (λ z. (λ v. whole z (v .1 .0 .1) (v .1 .1 .1 .1), λ v. (few-lines (z .0 .posts), ((refl, first z v), (refl, (refl, v .posts))))))
+    (bind (λ z. layoutLines (z .0 .posts)) (header-inverse letterL) (λ n.
+    bind firstLine layout-inverse (λ z.
+    made (λ posts. (withPosts posts (z .0), z .1)) (λ y. y .0 .posts) (λ a v. refl) (posts-inverse n))
+    (λ a y p q. ap firstLine (q .0) ∙ ap (λ t. (withPosts t (a .0), a .1)) (sym (p .0))))
+    (λ n z p q. q .1 .1 .0))
+  where
+    whole : (z : Layout × Policy) → WritableLayout (withPosts NoPosts (z .0)) → WritablePosts (z .0 .posts) → WritableLayout (z .0)
+    whole z w p = record { aisles = w .aisles; cells = w .cells; front = w .front; pitch = w .pitch; back = w .back; width = w .width; depot = w .depot; posts = p }
+
+    first : (z : Layout × Policy) → WritableLayout (z .0) → WritableLayout (withPosts NoPosts (z .0))
+    first z w = record { aisles = w .aisles; cells = w .cells; front = w .front; pitch = w .pitch; back = w .back; width = w .width; depot = w .depot; posts = tt }
 
 -- the three sections
 pub sections-inverse : Inverse readSections jobText Writable
 unfolding readSections jobText
 sections-inverse =
-    subst (λ (t : Job → List ℕ). Inverse readSections t Writable) (fun-ext (λ job. append-assoc (header letterL 1) (layoutText (job .layout) (job .policy)) (sectionText letterS recordText (job .stock) ++ sectionText letterD lineText (job .lines))))
-    (valid-as
+    valid-as
     (λ job. (λ v. record { layout = v .1 .0; stock = v .1 .1 .0; lines = v .1 .1 .1 }, λ v. (refl, (v .layout, (v .stock, v .lines)))))
     (bind-part (λ job. (job .layout, job .policy)) (λ a job. refl) layout-section-inverse (λ z.
     bind-part (λ job. job .stock) (λ a job. refl) (section-inverse letterS record-inverse) (λ records.
-    made (λ lines. record { layout = z .0; policy = z .1; stock = records; lines = lines }) (λ job. job .lines) (λ a v. refl) (section-inverse letterD line-inverse)))))
+    made (λ lines. record { layout = z .0; policy = z .1; stock = records; lines = lines }) (λ job. job .lines) (λ a v. refl) (section-inverse letterD line-inverse))))
 
 -- what is read to the end leaves no bytes behind it
 at-end : {A : Type 0} {r : Reading A} {x : A} → atEnd r ≡ some x → r ≡ some (x, [])

@@ -4,6 +4,7 @@ use native.Mathlib.Omega.{arith}
 use mathlib.Core.Path.{_≡_, refl, sym, ap, subst}
 use mathlib.Core.Logic.{_⊎_, inl, inr}
 use mathlib.Core.List.{List, [], _∷_}
+use Rattle.rules.specs.declared.Posts.the-variants.{NoPosts}
 use Rattle.rules.specs.declared.Layout.{Layout}
 use Rattle.rules.specs.declared.Action.the-variants.{Void, Bottom, Gap}
 use Rattle.rules.specs.declared.Passage.the-variants.{P00, P02}
@@ -13,7 +14,7 @@ use Rattle.rules.specs.Lawful.{Trodden, Touched, Linked, here, step, Law
 
 -- two aisles of three cells, the depot at aisle 1
 unfoldable pub twoAisles : Layout
-twoAisles = record { aisles = 2; cells = 3; front = 2; pitch = 1; back = 2; width = 5; depot = 1 }
+twoAisles = record { aisles = 2; cells = 3; front = 2; pitch = 1; back = 2; width = 5; depot = 1; posts = NoPosts }
 
 -- VOID 00 BOTTOM 1: the edge to the depot is dropped
 unfoldable pub withoutDepot : Plan
@@ -42,7 +43,7 @@ depot-dropped lawful = let t = lawful .depot-touched in untrodden (t .0) (t .1 .
 
 -- one aisle of three cells
 unfoldable pub oneAisle : Layout
-oneAisle = record { aisles = 1; cells = 3; front = 2; pitch = 1; back = 2; width = 5; depot = 1 }
+oneAisle = record { aisles = 1; cells = 3; front = 2; pitch = 1; back = 2; width = 5; depot = 1; posts = NoPosts }
 
 -- GAP 1 3 alone: two separate loops
 unfoldable pub twoLoops : Plan

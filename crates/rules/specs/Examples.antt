@@ -5,6 +5,7 @@ use mathlib.Core.List.{List, [], _∷_, _++_}
 use mathlib.Core.Bool.{Bool, true, false}
 use lib.ListN.{length, replicate}
 use mathlib.Core.Option.{Option, none, some}
+use Rattle.rules.specs.declared.Posts.the-variants.{NoPosts, Every}
 use Rattle.rules.specs.declared.Policy.{Policy}
 use Rattle.rules.specs.declared.Policy.the-variants.{Exact, Return, Traversal, Midpoint, Composite}
 use Rattle.rules.specs.declared.StockRecord.{StockRecord}
@@ -18,8 +19,9 @@ use Rattle.rules.specs.declared.Direction.the-variants.{Back, Front, Lef
 use Rattle.rules.specs.declared.Refusal.{Refusal}
 use Rattle.rules.specs.declared.Run.{Run}
 use Rattle.rules.specs.Lists.{headOr}
-use Rattle.rules.specs.Jobs.{Job}
-use Rattle.rules.specs.JobFile.{policyWord, layoutText, recordText, lineText, jobText}
+use Rattle.rules.specs.Store.{withPosts}
+use Rattle.rules.specs.Jobs.{Job, jobWithPosts}
+use Rattle.rules.specs.JobFile.{policyWord, layoutText, layoutSectionText, recordText, lineText, jobText}
 use Rattle.rules.specs.Refusals.{weight, jobRefusal, numberOf, bad, checkBytes}
 use Rattle.rules.specs.Plans.{Plan, planLength, planPasses}
 use Rattle.rules.specs.Serving.{serves}
@@ -42,7 +44,7 @@ a ⨯ q = record { article = a; quantity = q }
 unfoldable pub alpha : List OrderLine → Policy → Job
 alpha lines policy =
     record {
-      layout = record { aisles = 2; cells = 3; front = 2; pitch = 1; back = 2; width = 5; depot = 1 };
+      layout = record { aisles = 2; cells = 3; front = 2; pitch = 1; back = 2; width = 5; depot = 1; posts = NoPosts };
       policy = policy;
       stock = stocked 1 1 7 1 ∷ stocked 2 1 9 5 ∷ stocked 2 3 7 1 ∷ [];
       lines = lines;
@@ -52,7 +54,7 @@ alpha lines policy =
 unfoldable pub beta : Policy → Job
 beta policy =
     record {
-      layout = record { aisles = 3; cells = 5; front = 1; pitch = 1; back = 1; width = 1; depot = 1 };
+      layout = record { aisles = 3; cells = 5; front = 1; pitch = 1; back = 1; width = 1; depot = 1; posts = NoPosts };
       policy = policy;
       stock = stocked 1 3 3 1 ∷ stocked 2 1 1 1 ∷ stocked 2 5 2 1 ∷ stocked 3 3 4 1 ∷ [];
       lines = (1 ⨯ 1) ∷ (2 ⨯ 1) ∷ (3 ⨯ 1) ∷ (4 ⨯ 1) ∷ [];
@@ -139,7 +141,7 @@ cases =
 unfoldable pub ownJob : (m c f p b w d : ℕ) → List StockRecord → List OrderLine → Policy → Job
 ownJob m c f p b w d stock lines policy =
     record {
-      layout = record { aisles = m; cells = c; front = f; pitch = p; back = b; width = w; depot = d };
+      layout = record { aisles = m; cells = c; front = f; pitch = p; back = b; width = w; depot = d; posts = NoPosts };
       policy = policy;
       stock = stock;
       lines = lines;
@@ -222,6 +224,19 @@ gapByFront = withOthers (stocked 2 2 2 1 ∷ stocked 2 5 2 1 ∷ stocked 3 3 2 2
 unfoldable pub gapByBack : Policy → Job
 gapByBack = withOthers (stocked 2 5 2 1 ∷ stocked 3 5 2 1 ∷ []) 1
 
+-- the same job with a post after every k cells, each u wide
+unfoldable pub posted : ℕ → ℕ → (Policy → Job) → Policy → Job
+posted k u job policy = jobWithPosts (Every k u) (job policy)
+
+-- cell 3 of both aisles is wanted
+unfoldable pub thirdCells : Policy → Job
+thirdCells = ownJob 2 4 2 1 4 4 1 (stocked 1 3 1 1 ∷ stocked 2 3 2 1 ∷ []) ((1 ⨯ 1) ∷ (2 ⨯ 1) ∷ [])
+
+-- in aisle 2 the last cell is wanted, which lies before the middle
+unfoldable pub beforeMiddle : Policy → Job
+beforeMiddle =
+    ownJob 3 2 1 1 3 1 1 (stocked 1 1 1 1 ∷ stocked 2 2 2 1 ∷ stocked 3 1 3 1 ∷ []) ((1 ⨯ 1) ∷ (2 ⨯ 1) ∷ (3 ⨯ 1) ∷ [])
+
 -- jobs with two faults each: the layout and the stock; the stock, and a cell twice; a cell twice, and the list; an article twice, and the weight
 unfoldable pub wrongLayout : Policy → Job
 wrongLayout = ownJob 2 3 2 1 2 5 3 (stocked 3 1 7 1 ∷ []) ((7 ⨯ 1) ∷ [])
@@ -285,12 +300,21 @@ ownCases =
     ∷ underEvery (alpha nineLines) (refusal 5)  -- 5 still covers counts above 8
     ∷ underEvery (alpha []) (frontOnly true)  -- the plan that treads nothing is lawful "too": the others stay lawful
     ∷ under Exact (alpha []) (awayFromDepot false)  -- and nothing else becomes lawful
+    ∷ under Exact thirdCells (tour 24 (Bottom 3 ∷ Bottom 3 ∷ []) (P02 ∷ []))
+    ∷ under Exact (posted 2 4 thirdCells) (tour 34 (Once ∷ Once ∷ []) (P11 ∷ []))  -- a post before cell 3, none behind the last cell
+    ∷ under Exact (posted 24 10 thirdCells) (tour 24 (Bottom 3 ∷ Bottom 3 ∷ []) (P02 ∷ []))  -- k may exceed C
+    ∷ under Midpoint beforeMiddle (tour 18 (Once ∷ Bottom 2 ∷ Once ∷ []) (P11 ∷ P11 ∷ []))
+    ∷ under Midpoint (posted 1 2 beforeMiddle) (tour 24 (Once ∷ Top 2 ∷ Once ∷ []) (P11 ∷ P11 ∷ []))  -- a post moves it over the middle
+    ∷ underEvery (posted 0 1 thirdCells) (refusal 2)  -- 2 covers k and u: k 1 to 24
+    ∷ underEvery (posted 25 0 thirdCells) (refusal 2)  -- also where u is 0
+    ∷ underEvery (posted 24 11 thirdCells) (refusal 2)  -- u 0 to 10, also where k exceeds C
     ∷ []
 
 -- texts and their bytes: every word, the order of the fields of a line, and what a refusal prints
 unfoldable pub texts : List (List ℕ × List ℕ)
 texts =
     (layoutText (ownJob 1 2 3 4 5 6 7 [] [] Exact .layout) Exact, 49 ∷ 32 ∷ 50 ∷ 32 ∷ 51 ∷ 32 ∷ 52 ∷ 32 ∷ 53 ∷ 32 ∷ 54 ∷ 32 ∷ 55 ∷ 32 ∷ 69 ∷ 88 ∷ 65 ∷ 67 ∷ 84 ∷ 10 ∷ [])  -- 1 2 3 4 5 6 7 EXACT
+    ∷ (layoutSectionText (withPosts (Every 8 9) (ownJob 1 2 3 4 5 6 7 [] [] Exact .layout)) Exact, 76 ∷ 32 ∷ 50 ∷ 10 ∷ 49 ∷ 32 ∷ 50 ∷ 32 ∷ 51 ∷ 32 ∷ 52 ∷ 32 ∷ 53 ∷ 32 ∷ 54 ∷ 32 ∷ 55 ∷ 32 ∷ 69 ∷ 88 ∷ 65 ∷ 67 ∷ 84 ∷ 10 ∷ 56 ∷ 32 ∷ 57 ∷ 10 ∷ [])  -- L 2, the same line, 8 9
     ∷ (policyWord Return, 82 ∷ 69 ∷ 84 ∷ 85 ∷ 82 ∷ 78 ∷ [])  -- RETURN
     ∷ (policyWord Traversal, 84 ∷ 82 ∷ 65 ∷ 86 ∷ 69 ∷ 82 ∷ 83 ∷ 65 ∷ 76 ∷ [])  -- TRAVERSAL
     ∷ (policyWord Midpoint, 77 ∷ 73 ∷ 68 ∷ 80 ∷ 79 ∷ 73 ∷ 78 ∷ 84 ∷ [])  -- MIDPOINT

@@ -5,12 +5,15 @@ use mathlib.Core.Bool.{Bool, true, false, _&&_, not}
 use mathlib.Core.Option.{Option, none, some}
 use lib.Dec.{ltb, leb, eqb}
 use lib.ListN.{length, drop}
+use Rattle.rules.specs.declared.Posts.{Posts}
+use Rattle.rules.specs.declared.Posts.the-variants.{NoPosts, Every}
 use Rattle.rules.specs.declared.Layout.{Layout}
 use Rattle.rules.specs.declared.Policy.{Policy}
 use Rattle.rules.specs.declared.Policy.the-variants.{Exact, Return, Traversal, Midpoint, Composite}
 use Rattle.rules.specs.declared.StockRecord.{StockRecord}
 use Rattle.rules.specs.declared.OrderLine.{OrderLine}
 use Rattle.rules.specs.Lists.{concatOf}
+use Rattle.rules.specs.Store.{withPosts}
 use Rattle.rules.specs.Jobs.{Job}
 
 -- one space separates fields
@@ -46,7 +49,7 @@ field sep n = numeral n ++ (sep ∷ [])
 unfoldable pub header : ℕ → ℕ → List ℕ
 header letter n = letter ∷ space ∷ field lineFeed n
 
--- the line of the L section: m C f p b w d and the policy word
+-- the first line of the L section: m C f p b w d and the policy word
 unfoldable pub layoutText : Layout → Policy → List ℕ
 layoutText z policy =
     field space (z .aisles)
@@ -57,6 +60,16 @@ layoutText z policy =
     ++ (field space (z .width)
     ++ (field space (z .depot)
     ++ (policyWord policy ++ (lineFeed ∷ []))))))))
+
+-- its second line, where the posts have one: k u
+abbrev pub postsText : Posts → List ℕ
+postsText NoPosts = []
+postsText (Every k u) = field space k ++ field lineFeed u
+
+-- the number of its lines
+abbrev pub layoutLines : Posts → ℕ
+layoutLines NoPosts = 1
+layoutLines (Every k u) = 2
 
 -- a line of the S section: aisle cell article quantity
 unfoldable pub recordText : StockRecord → List ℕ
@@ -76,16 +89,19 @@ letterS = 83  -- S
 abbrev pub letterD : ℕ
 letterD = 68  -- D
 
--- a section: its letter, its count and its lines
+-- the L section: its letter, its count and its one or two lines
+unfoldable pub layoutSectionText : Layout → Policy → List ℕ
+layoutSectionText z policy = header letterL (layoutLines (z .posts)) ++ (layoutText z policy ++ postsText (z .posts))
+
+-- another section: its letter, its count and its lines
 unfoldable pub sectionText : {A : Type 0} → ℕ → (A → List ℕ) → List A → List ℕ
 sectionText letter text xs = header letter (length xs) ++ concatOf text xs
 
 -- the text of a job: the sections L, S, D
 unfoldable pub jobText : Job → List ℕ
 jobText job =
-    header letterL 1
-    ++ (layoutText (job .layout) (job .policy)
-    ++ (sectionText letterS recordText (job .stock) ++ sectionText letterD lineText (job .lines)))
+    layoutSectionText (job .layout) (job .policy)
+    ++ (sectionText letterS recordText (job .stock) ++ sectionText letterD lineText (job .lines))
 
 -- what reading gives: the value and the bytes behind it, or nothing
 abbrev pub Reading : Type 0 → Type 0
@@ -171,7 +187,7 @@ readPolicy s =
     (orElse (readPolicyAs Midpoint s)
     (readPolicyAs Composite s))))
 
--- the line of the L section
+-- the first line of the L section, which says no posts
 unfoldable pub readLayout : List ℕ → Reading (Layout × Policy)
 readLayout s = do
   (m, s) ← readField space s
@@ -182,7 +198,19 @@ readLayout s = do
   (w, s) ← readField space s
   (d, s) ← readField space s
   (word, s) ← readPolicy s
-  some ((record { aisles = m; cells = c; front = f; pitch = p; back = b; width = w; depot = d }, word), s)
+  some ((record { aisles = m; cells = c; front = f; pitch = p; back = b; width = w; depot = d; posts = NoPosts }, word), s)
+
+-- its second line
+unfoldable pub readPostsLine : List ℕ → Reading Posts
+readPostsLine s = do
+  (k, s) ← readField space s
+  (u, s) ← readField lineFeed s
+  some (Every k u, s)
+
+-- what is behind the first line: nothing where the count is 1, the second line where it is 2; other counts are no job file
+unfoldable pub readPosts : ℕ → List ℕ → Reading Posts
+readPosts n s =
+    elim (eqb n 1) [ true ↦ some (NoPosts, s) | false ↦ elim (eqb n 2) [ true ↦ readPostsLine s | false ↦ none ] ]
 
 -- a line of the S section
 unfoldable pub readRecord : List ℕ → Reading StockRecord
@@ -214,11 +242,13 @@ readSection letter read s = do
   (n, s) ← readHeader letter s
   readLines read n s
 
--- the L section, whose count is 1
+-- the L section, whose count is 1 or 2
 unfoldable pub readLayoutSection : List ℕ → Reading (Layout × Policy)
 readLayoutSection s = do
   (n, s) ← readHeader letterL s
-  elim (eqb n 1) [ true ↦ readLayout s | false ↦ none ]
+  (z, s) ← readLayout s
+  (posts, s) ← readPosts n s
+  some ((withPosts posts (z .0), z .1), s)
 
 -- the sections L, S and D
 unfoldable pub readSections : List ℕ → Reading Job
@@ -242,6 +272,11 @@ jobFileLimit = 16384
 unfoldable pub readJob : List ℕ → Option Job
 readJob s = elim (leb (length s) jobFileLimit) [ true ↦ atEnd (readSections s) | false ↦ none ]
 
+-- posts whose numbers can be written in a job file
+abbrev pub WritablePosts : Posts → Type 0
+WritablePosts NoPosts = Unit {0}
+WritablePosts (Every k u) = (k ≤ 65535) × (u ≤ 65535)
+
 -- a layout whose numbers can be written in a job file
 pub record WritableLayout (z : Layout) : Type 0 where
   pub aisles : z .aisles ≤ 65535
@@ -251,6 +286,7 @@ pub record WritableLayout (z : Layout) : Type 0 where
   pub back : z .back ≤ 65535
   pub width : z .width ≤ 65535
   pub depot : z .depot ≤ 65535
+  pub posts : WritablePosts (z .posts)
 
 -- a stock record whose numbers can be written in a job file
 pub record WritableRecord (r : StockRecord) : Type 0 where

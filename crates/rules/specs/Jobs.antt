@@ -3,17 +3,24 @@ use Prim.Native.Nat.{ℕ}
 use mathlib.Core.List.{List, [], _∷_}
 use mathlib.Core.Bool.{Bool, true, false, _&&_}
 use lib.Dec.{eqb}
+use Rattle.rules.specs.declared.Posts.{Posts}
 use Rattle.rules.specs.declared.Layout.{Layout}
 use Rattle.rules.specs.declared.Policy.{Policy}
 use Rattle.rules.specs.declared.StockRecord.{StockRecord}
 use Rattle.rules.specs.declared.OrderLine.{OrderLine}
 use Rattle.rules.specs.Lists.{anyOf}
+use Rattle.rules.specs.Store.{withPosts}
 
 pub record Job : Type 0 where
   pub layout : Layout
   pub policy : Policy
   pub stock : List StockRecord
   pub lines : List OrderLine
+
+-- the job in the same store with other posts
+abbrev pub jobWithPosts : Posts → Job → Job
+jobWithPosts posts job =
+    record { layout = withPosts posts (job .layout); policy = job .policy; stock = job .stock; lines = job .lines }
 
 -- an empty list: it has no line, and there is nothing to fetch
 abbrev pub emptyList : List OrderLine → Bool

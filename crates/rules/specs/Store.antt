@@ -1,16 +1,28 @@
 -- Document 01, "The store": points, edges, distances, the depot.
-use Prim.Native.Nat.{ℕ, zero, suc, _+_, _*_, _-_, _≤_, _<_}
+use Prim.Native.Nat.{ℕ, zero, suc, _+_, _*_, _-_, _/_, _≤_, _<_}
 use mathlib.Core.Path.{_≡_}
 use mathlib.Core.Logic.{_⊎_}
 use mathlib.Core.List.{List, [], _∷_, _++_, map}
 use mathlib.Core.Bool.{Bool, true, false, cond, _&&_}
 use lib.Dec.{ltb, leb, eqb}
+use Rattle.rules.specs.declared.Posts.{Posts}
+use Rattle.rules.specs.declared.Posts.the-variants.{NoPosts, Every}
 use Rattle.rules.specs.declared.Layout.{Layout}
 use Rattle.rules.specs.Lists.{from, concatOf}
 
--- how far cell i lies from the front: f + (i − 1)·p
+-- what the posts ("uprights") before cell i take: u·((i − 1) divided by k, rounded down)
+abbrev pub postsBefore : Posts → ℕ → ℕ
+postsBefore NoPosts i = 0
+postsBefore (Every k u) i = u * ((i - 1) / k)
+
+-- there are no posts: the job file has no line for them, or says that they are 0 wide
+abbrev pub WithoutPosts : Posts → Type 0
+WithoutPosts NoPosts = Unit {0}
+WithoutPosts (Every k u) = u ≡ 0
+
+-- how far cell i lies from the front: f + (i − 1)·p, and the posts before it
 abbrev pub cellPosition : Layout → ℕ → ℕ
-cellPosition z i = z .front + (i - 1) * z .pitch
+cellPosition z i = z .front + (i - 1) * z .pitch + postsBefore (z .posts) i
 
 -- L: the length of an aisle from its front crossing to its back crossing, b beyond cell C
 unfoldable pub aisleLength : Layout → ℕ
@@ -75,11 +87,30 @@ edgesOf z =
     concatOf (λ j. map (along j) (from 0 (suc (z .cells)))) (from 1 (z .aisles))
     ++ (map front (from 1 (z .aisles - 1)) ++ map back (from 1 (z .aisles - 1)))
 
+-- the store with other posts
+abbrev pub withPosts : Posts → Layout → Layout
+withPosts posts z =
+    record {
+      aisles = z .aisles;
+      cells = z .cells;
+      front = z .front;
+      pitch = z .pitch;
+      back = z .back;
+      width = z .width;
+      depot = z .depot;
+      posts = posts;
+    }
+
 -- a number from a to b
 unfoldable pub within : ℕ → ℕ → ℕ → Bool
 within a b n = leb a n && leb n b
 
--- the bounds of the layout's numbers: m 1 to 16; C 1 to 24; f and b 1 to 60; p 1 to 30; w 1 to 400; d 1 to m
+-- the bounds of the posts' numbers, where they have a line: k 1 to 24; u 0 to 10
+abbrev pub postsInBounds : Posts → Bool
+postsInBounds NoPosts = true
+postsInBounds (Every k u) = within 1 24 k && within 0 10 u
+
+-- the bounds of the layout's numbers: m 1 to 16; C 1 to 24; f and b 1 to 60; p 1 to 30; w 1 to 400; d 1 to m; and the posts
 unfoldable pub layoutInBounds : Layout → Bool
 layoutInBounds z =
     within 1 16 (z .aisles)
@@ -89,8 +120,13 @@ layoutInBounds z =
     && within 1 60 (z .back)
     && within 1 400 (z .width)
     && within 1 (z .aisles) (z .depot)
+    && postsInBounds (z .posts)
 
 -- the same bounds, number by number; that the test says so is proved (proofs/Admission)
+abbrev pub PostsWithin : Posts → Type 0
+PostsWithin NoPosts = Unit {0}
+PostsWithin (Every k u) = (1 ≤ k) × (k ≤ 24) × (u ≤ 10)
+
 pub record LayoutWithin (z : Layout) : Type 0 where
   pub aisles : (1 ≤ z .aisles) × (z .aisles ≤ 16)
   pub cells : (1 ≤ z .cells) × (z .cells ≤ 24)
@@ -99,6 +135,7 @@ pub record LayoutWithin (z : Layout) : Type 0 where
   pub back : (1 ≤ z .back) × (z .back ≤ 60)
   pub width : (1 ≤ z .width) × (z .width ≤ 400)
   pub depot : (1 ≤ z .depot) × (z .depot ≤ z .aisles)
+  pub posts : PostsWithin (z .posts)
 
 -- the same edge, as a test
 unfoldable pub sameEdge : Edge → Edge → Bool

@@ -1,6 +1,13 @@
 // The values that code and definitions share. What they mean is said in specs/.
 
-// The store: document 01's m, C, f, p, b, w and d, in the order of the job file.
+// The posts ("uprights") between the cells: no line of the job file says any, or its line `k u` says one after every k cells,
+// each u wide.
+pub enum Posts {
+    NoPosts,
+    Every(usize, usize),
+}
+
+// The store: document 01's m, C, f, p, b, w and d, in the order of the job file, and its posts.
 pub struct Layout {
     pub aisles: usize,
     pub cells: usize,
@@ -9,6 +16,7 @@ pub struct Layout {
     pub back: usize,
     pub width: usize,
     pub depot: usize,
+    pub posts: Posts,
 }
 
 // The routing policies.

@@ -32,7 +32,8 @@ use Rattle.rules.specs.JobFile.{space, lineFeed, numeral, field, sectionText}
 use Rattle.rules.specs.Sheet.{letterT, letterA, letterC, letterP, letterW, actionText, passageText, pickText, runText, addStep, runsOf, sheetOf}
 use Rattle.rules.proofs.Lists.{sum-below, member-concat}
 use Rattle.rules.proofs.Numbers.{numeral-induction}
-use Rattle.rules.proofs.Lengths.{well-formed-fits, plan-length-49920}
+use Rattle.rules.proofs.Lengths.{well-formed-fits}
+use Rattle.rules.proofs.Ceiling.{plan-length-57280}
 use Rattle.rules.proofs.Admission.{layout-within, stock-within}
 use Rattle.lines.specs.Written.{policyText}
 use Rattle.lines.proofs.Sizes.{digits-most, field-size, header-size, run-size, total-size, pick-size}
@@ -246,7 +247,7 @@ sheet-fits job plan ok w l =
     let z = layout-within (job .layout) .0 (ok .layout) in
     let n = planLength (job .layout) plan in
     let t = total-size n (job .policy) in
-    let total = digits-most 4 n (omega (arith, plan-length-49920 (job .layout) plan (ok .layout) w)) in
+    let total = digits-most 4 n (omega (arith, plan-length-57280 (job .layout) plan (ok .layout) w)) in
     let action-line : (a : Action) → List·Memᴰ a (plan .actions) → length (actionText a) ≤ 10 =
     λ a m. action-most (job .layout .cells) (z .cells .1) a (well-formed-fits (job .layout) plan w a m)
     in

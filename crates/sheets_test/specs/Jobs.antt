@@ -1,6 +1,7 @@
 -- The two jobs whose sheets are printed.
 use mathlib.Core.List.{[], _∷_}
 use Rattle.rules.specs.declared.Policy.the-variants.{Exact, Midpoint}
+use Rattle.rules.specs.declared.Posts.the-variants.{NoPosts}
 use Rattle.rules.specs.Jobs.{Job}
 use Rattle.rules.specs.Examples.{stocked, _⨯_, alpha}
 
@@ -12,7 +13,7 @@ workedJob = alpha ((9 ⨯ 1) ∷ []) Exact
 unfoldable pub topJob : Job
 topJob =
     record {
-      layout = record { aisles = 3; cells = 2; front = 1; pitch = 3; back = 2; width = 1; depot = 1 };
+      layout = record { aisles = 3; cells = 2; front = 1; pitch = 3; back = 2; width = 1; depot = 1; posts = NoPosts };
       policy = Midpoint;
       stock = stocked 1 2 5 1 ∷ stocked 3 2 4 2 ∷ stocked 2 2 3 1 ∷ stocked 1 1 5 2 ∷ stocked 3 1 3 2 ∷ [];
       lines = (3 ⨯ 3) ∷ (5 ⨯ 1) ∷ (4 ⨯ 1) ∷ [];

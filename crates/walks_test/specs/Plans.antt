@@ -3,6 +3,7 @@ use Prim.Native.Nat.{ℕ, _-_}
 use mathlib.Core.List.{List, [], _∷_, _++_}
 use lib.ListN.{length, replicate}
 use Rattle.rules.specs.declared.Layout.{Layout}
+use Rattle.rules.specs.declared.Posts.the-variants.{NoPosts}
 use Rattle.rules.specs.declared.Action.{Action}
 use Rattle.rules.specs.declared.Action.the-variants.{Void, Top, Gap, Once, Twice}
 use Rattle.rules.specs.declared.Passage.{Passage}
@@ -12,7 +13,7 @@ use Rattle.values.specs.declared.PlanValue.{PlanValue}
 
 -- a store in which all distances are 1
 abbrev pub storeOf : ℕ → ℕ → ℕ → Layout
-storeOf aisles cells depot = record { aisles = aisles; cells = cells; front = 1; pitch = 1; back = 1; width = 1; depot = depot }
+storeOf aisles cells depot = record { aisles = aisles; cells = cells; front = 1; pitch = 1; back = 1; width = 1; depot = depot; posts = NoPosts }
 
 -- an action and the passage behind it
 abbrev pub stage : Action → Passage → Stage

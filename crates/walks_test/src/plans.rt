@@ -1,7 +1,8 @@
-// Two plans with TWICE and 22: no sheet of tests/vectors or tests/cases has TWICE, and only two have 22.
+// Two plans with TWICE and 22: no sheet of tests/vectors or tests/cases has TWICE, and only three have 22.
 use rules::Action;
 use rules::Layout;
 use rules::Passage;
+use rules::Posts;
 use values::PlanValue;
 use values::Stage;
 ghost use mathlib.Core.Path.{_≡_};
@@ -19,6 +20,7 @@ pub fn store(aisles: usize, cells: usize, depot: usize) -> Layout
         back: 1,
         width: 1,
         depot,
+        posts: Posts::NoPosts,
     }
 }
 

@@ -1,39 +1,27 @@
--- `aisles::candidates::aisle_length` meets its contract: the sum of the definition, each part within the bounds of the layout.
+-- `aisles::candidates::aisle_length` meets its contract: where the last cell lies, and the way behind it.
 use native.Mathlib.Omega.{arith}
-use Prim.Native.Nat.{_-_}
-use mathlib.Core.Path.{refl}
 use Rattle.rules.specs.Store.{aisleLength}
-use Rattle.aisles.proofs.Geometry.{within, pitch-bound, aisle-bound}
+use Rattle.aisles.proofs.Geometry.{within}
 use Rattle.aisles.proofs.candidates.aisle_length.Statement.{statement}
 use Rattle.aisles.proofs.candidates.aisle_length.Tie as tie
 
-sub-result : tie.Need-sub-result
-sub-result c = let w = within (c .before .args .z) (c .before .pre) in omega arith
-
-mul-result : tie.Need-mul-result
-mul-result c =
-    let z = c .before .before .args .z in
-    let ok = c .before .before .pre in
-    let w = within z ok in
-    omega (arith, pitch-bound z ok (z .cells - 1) (omega arith))
+cell-position-requires : tie.Need-cell-position-requires
+cell-position-requires c κs = let w = within (c .args .z) (c .pre) in (c .pre, omega arith, omega arith)
 
 add-result : tie.Need-add-result
 add-result c =
-    let z = c .before .before .before .args .z in
-    let ok = c .before .before .before .pre in
-    let w = within z ok in
-    omega (arith, pitch-bound z ok (z .cells - 1) (omega arith))
-
-add-result-2 : tie.Need-add-result-2
-add-result-2 c =
-    let z = c .before .before .before .before .args .z in
-    let ok = c .before .before .before .before .pre in
-    let w = within z ok in
-    omega (arith, pitch-bound z ok (z .cells - 1) (omega arith))
+    let at-start = c .before .before in
+    let w = within (at-start .args .z) (at-start .pre) in
+    let last = c .before .cell-position .ensures in
+    omega arith
 
 returns : tie.Need-returns
 unfolding aisleLength
-returns c = let at-start = c .before .before .before .before in (refl, aisle-bound (at-start .args .z) (at-start .pre))
+returns c =
+    let at-start = c .before .before in
+    let w = within (at-start .args .z) (at-start .pre) in
+    let last = c .before .cell-position .ensures in
+    (omega arith, omega arith)
 
 pub aisle-length-spec : {M : Type 1} → statement M
-aisle-length-spec = tie.close (tie.spec sub-result mul-result add-result add-result-2 returns)
+aisle-length-spec = tie.close (tie.spec cell-position-requires add-result returns)

@@ -1,38 +1,27 @@
 -- `aisles::candidates::position_of` meets its contract: the front crossing, a cell, or the back crossing.
 use borrow.Author.Needs.{needs}
 use native.Mathlib.Omega.{arith}
-use Prim.Native.Nat.{_-_}
 use mathlib.Core.Path.{sym, _∙_, ap}
 use Rattle.rules.specs.Store.{position}
 use Rattle.rules.proofs.Lengths.{position-front, position-cell, position-back}
-use Rattle.aisles.proofs.Geometry.{within, pitch-bound}
+use Rattle.aisles.proofs.Geometry.{within}
 use Rattle.aisles.proofs.candidates.position_of.Statement.{statement}
 use Rattle.aisles.proofs.candidates.position_of.Tie as tie
 
 returns : tie.Need-returns
 returns c = let z = c .before .args .z in (sym (ap (position z) (c .if1 .taken) ∙ position-front z), omega arith)
 
-sub-result : tie.Need-sub-result
-sub-result c = search needs
-
-mul-result : tie.Need-mul-result
-mul-result c =
-    let at-start = c .before .before .before .before in
+cell-position-requires : tie.Need-cell-position-requires
+cell-position-requires c κs =
+    let at-start = c .before .before .before in
     let w = within (at-start .args .z) (at-start .pre) in
-    omega (arith, pitch-bound (at-start .args .z) (at-start .pre) (at-start .args .k - 1) (omega arith))
-
-add-result : tie.Need-add-result
-add-result c =
-    let at-start = c .before .before .before .before .before in
-    let w = within (at-start .args .z) (at-start .pre) in
-    omega (arith, pitch-bound (at-start .args .z) (at-start .pre) (at-start .args .k - 1) (omega arith))
+    (at-start .pre, omega arith, omega arith)
 
 returns-2 : tie.Need-returns-2
 returns-2 c =
-    let at-start = c .before .before .before .before .before in
-    let p = at-start .args in
-    let w = within (p .z) (at-start .pre) in
-    (sym (position-cell (p .z) (p .k) (omega arith) (omega arith)), omega (arith, pitch-bound (p .z) (at-start .pre) (p .k - 1) (omega arith)))
+    let p = c .before .before .before .before .args in
+    let cell = c .cell-position .ensures in
+    (cell .0 ∙ sym (position-cell (p .z) (p .k) (omega arith) (omega arith)), omega arith)
 
 aisle-length-requires : tie.Need-aisle-length-requires
 aisle-length-requires c κs = search needs
@@ -46,4 +35,4 @@ returns-3 c =
 pub position-of-spec : {M : Type 1} → statement M
 position-of-spec =
     tie.close
-    (tie.spec returns sub-result mul-result add-result returns-2 aisle-length-requires returns-3)
+    (tie.spec returns cell-position-requires returns-2 aisle-length-requires returns-3)

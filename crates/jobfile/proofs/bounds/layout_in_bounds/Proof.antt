@@ -25,14 +25,18 @@ is-within-requires-6 c κs = search needs
 is-within-requires-7 : tie.Need-is-within-requires-7
 is-within-requires-7 c κs = search needs
 
+posts-in-bounds-requires : tie.Need-posts-in-bounds-requires
+posts-in-bounds-requires c κs = search needs
+
 returns : tie.Need-returns
 unfolding layoutInBounds
 returns c =
-    let front = c .before .before .before .before in
+    let depot = c .before in
+    let front = depot .before .before .before .before in
     let aisles = front .before .before .is-within .ensures in
     let cells = front .before .is-within2 .ensures in
-    let back = c .before .before in
-    rw (layoutInBounds, ← aisles, ← cells, ← front .is-within3 .ensures, ← back .before .is-within4 .ensures, ← back .is-within5 .ensures, ← c .before .is-within6 .ensures, ← c .is-within7 .ensures)
+    let back = depot .before .before in
+    rw (layoutInBounds, ← aisles, ← cells, ← front .is-within3 .ensures, ← back .before .is-within4 .ensures, ← back .is-within5 .ensures, ← depot .before .is-within6 .ensures, ← depot .is-within7 .ensures, ← c .posts-in-bounds .ensures)
 
 pub layout-in-bounds-spec : {M : Type 1} → statement M
 layout-in-bounds-spec =
@@ -45,4 +49,5 @@ layout-in-bounds-spec =
     is-within-requires-5
     is-within-requires-6
     is-within-requires-7
+    posts-in-bounds-requires
     returns)
