@@ -17,7 +17,7 @@ use Rattle.rules.specs.declared.Posts.the-variants.{NoPosts, Every}
 use Rattle.rules.specs.declared.Refusal.{Refusal}
 use Rattle.rules.specs.declared.Refusal.the-variants.{WorkArea, ListBounds, ShortOfStock, SheetSpace}
 use Rattle.rules.specs.declared.Reply.the-variants.{Served, Refused}
-use Rattle.rules.specs.Store.{aisleLength, position, Edge, InStore, layoutInBounds}
+use Rattle.rules.specs.Store.{WithoutPosts, aisleLength, position, Edge, InStore, layoutInBounds}
 use Rattle.rules.specs.Jobs.{Job, jobWithPosts}
 use Rattle.rules.specs.JobFile.{lineFeed, header, field, jobText, jobFileLimit}
 use Rattle.rules.specs.Plans.{Plan}
@@ -222,7 +222,13 @@ pub posts-between-cells : (z : Layout) (k u : ℕ) → z .posts ≡ Every k u
     × (aisleLength z ≡ z .front + (z .cells - 1) * z .pitch + u * ((z .cells - 1) / k) + z .back)
 posts-between-cells = Uprights.posts-between
 
--- "With count 1 there are no posts": and a job whose second line is `k 0` has the answer of the same job with `L 1`, whatever the call
+-- "With count 1 there are no posts": the distances are document 01's, as they are where u is 0
+pub cells-without-posts : (z : Layout) → WithoutPosts (z .posts)
+    → ((i : ℕ) → 1 ≤ i → i ≤ z .cells → position z i ≡ z .front + (i - 1) * z .pitch)
+    × (aisleLength z ≡ z .front + (z .cells - 1) * z .pitch + z .back)
+cells-without-posts = Uprights.posts-absent
+
+-- so a job whose second line is `k 0` has the answer of the same job with `L 1`, byte for byte and number for number
 pub no-posts : (job : Job) (k : ℕ) (plain lined : List ℕ) → PostsOfNothing job k plain lined
     → (sheet work : List ℕ) → answer lined sheet work ≡ answer plain sheet work
 no-posts = Uprights.same-answers

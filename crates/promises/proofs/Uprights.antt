@@ -2,14 +2,14 @@
 use Prim.Native.Nat.{ℕ, _+_, _*_, _-_, _/_, _≤_}
 use native.Mathlib.Omega.{arith}
 use mathlib.Core.Path.{_≡_, refl, sym, _∙_, ap, subst}
-use mathlib.Core.List.{List, [], _∷_}
+use mathlib.Core.List.{List}
 use mathlib.Core.Option.{Option, some}
 use lib.ListN.{replicate}
 use Rattle.rules.specs.declared.Layout.{Layout}
 use Rattle.rules.specs.declared.Policy.{Policy}
 use Rattle.rules.specs.declared.Policy.the-variants.{Exact, Return, Traversal, Midpoint, Composite}
 use Rattle.rules.specs.declared.Posts.the-variants.{NoPosts, Every}
-use Rattle.rules.specs.Store.{postsBefore, aisleLength, position}
+use Rattle.rules.specs.Store.{postsBefore, WithoutPosts, aisleLength, position}
 use Rattle.rules.specs.Jobs.{Job, jobWithPosts}
 use Rattle.rules.specs.JobFile.{numeral, field, header, layoutText, layoutSectionText, recordText, lineText, sectionText, jobText}
 use Rattle.rules.specs.JobFile.{isDigit, isNumber, readField, readHeader, readPolicyAs, readPolicy, readLayout, readPostsLine, readPosts, readRecord, readLine, readSection, readLayoutSection, readSections, readJob}
@@ -19,7 +19,7 @@ use Rattle.rules.specs.Answers.{Answer, decided, answer, hostAnswer, sheetLimit
 use Rattle.rules.specs.Examples.{stocked, _⨯_, alpha}
 use Rattle.rules.proofs.Ceiling.{plan-length-57280}
 use Rattle.rules.proofs.EmptyList.{lawful-well-formed}
-use Rattle.rules.proofs.Lengths.{position-cell}
+use Rattle.rules.proofs.Lengths.{cell-without-posts, position-cell}
 use Rattle.rules.proofs.NoPosts.{same-answer}
 use Rattle.optimum.proofs.Best.{best-plan}
 use Rattle.promises.specs.Contents.{Content, contentOf}
@@ -27,6 +27,7 @@ use Rattle.promises.specs.Calls.{Shows}
 use Rattle.promises.specs.Uprights.{PostsOfNothing}
 use Rattle.promises.proofs.Table.{job-file-read}
 use Rattle.promises.proofs.Shown.{shown-best}
+use Rattle.promises.proofs.Entering.{oneNine}
 
 -- the answer to bytes that are read as a job
 answer-read : (bytes sheet work : List ℕ) (job : Job) → readJob bytes ≡ some job → answer bytes sheet work ≡ decided (firstRow (table (some job) sheet work)) (some job) sheet work
@@ -42,12 +43,13 @@ same-answers job k plain lined f sheet work =
     ∙ same-answer k job (f .low) (f .high) sheet work
     ∙ sym (answer-read plain sheet work (jobWithPosts NoPosts job) one)
 
+-- and the program prints the same of both
 pub same-output : (job : Job) (k : ℕ) (plain lined : List ℕ) → PostsOfNothing job k plain lined → output lined ≡ output plain
 unfolding output hostAnswer
 same-output job k plain lined f =
     ap (λ (a : Answer). printed (a .reply) (a .sheet)) (same-answers job k plain lined f (replicate sheetLimit 0) (replicate workLimit 0))
 
--- where the cells lie, and how long an aisle is
+-- where the cells lie between posts, and how long an aisle is
 pub posts-between : (z : Layout) (k u : ℕ) → z .posts ≡ Every k u
     → ((i : ℕ) → 1 ≤ i → i ≤ z .cells → position z i ≡ z .front + (i - 1) * z .pitch + u * ((i - 1) / k))
     × (aisleLength z ≡ z .front + (z .cells - 1) * z .pitch + u * ((z .cells - 1) / k) + z .back)
@@ -55,6 +57,16 @@ unfolding aisleLength
 posts-between z k u e = (
   λ i low high. position-cell z i low high ∙ ap (λ p. z .front + (i - 1) * z .pitch + postsBefore p i) e,
   ap (λ p. z .front + (z .cells - 1) * z .pitch + postsBefore p (z .cells) + z .back) e,
+)
+
+-- the same without posts
+pub posts-absent : (z : Layout) → WithoutPosts (z .posts)
+    → ((i : ℕ) → 1 ≤ i → i ≤ z .cells → position z i ≡ z .front + (i - 1) * z .pitch)
+    × (aisleLength z ≡ z .front + (z .cells - 1) * z .pitch + z .back)
+unfolding aisleLength
+posts-absent z w = (
+  λ i low high. position-cell z i low high ∙ cell-without-posts z w i,
+  ap (λ n. n + z .back) (cell-without-posts z w (z .cells)),
 )
 
 -- the plan on a sheet is one of the store, so its length is below the ceiling
@@ -65,10 +77,7 @@ below-ceiling bytes sheet work job c s =
     let well = lawful-well-formed (job .layout) (job .lines) (bestPlan job) (best-plan job a .allowed .lawful) in
     subst (λ (d : Content). d .length ≤ 57280) e (plan-length-57280 (job .layout) (bestPlan job) (a .layout) well)
 
--- the job of the worked example, without posts and with posts of 0 after every 3 cells
-abbrev oneNine : Policy → Job
-oneNine = alpha ((9 ⨯ 1) ∷ [])
-
+-- the job of the worked example is read without posts, and with posts of 0 after every 3 cells
 abbrev BothRead : Policy → Type 0
 BothRead policy =
     (readJob (jobText (jobWithPosts NoPosts (oneNine policy))) ≡ some (jobWithPosts NoPosts (oneNine policy)))

@@ -1,11 +1,10 @@
 -- Posts that are 0 wide (request #102): the store with them and the store without posts have the same distances, so the same plans,
 -- lengths, walks and sheets, and the same refusals.
 use Prim.Native.Nat.{ℕ, zero, suc, _+_, _*_, _-_, _≤_}
-use native.Mathlib.Omega.{arith}
 use mathlib.Core.Path.{_≡_, refl, sym, _∙_, ap, ap₂, fun-ext}
 use mathlib.Core.List.{List, [], _∷_, _++_, tail}
 use mathlib.Core.Option.{Option, none, some, Option·getD}
-use mathlib.Core.Bool.{Bool, true, false, cond, not, _&&_, _||_}
+use mathlib.Core.Bool.{true, false, cond, _&&_, _||_}
 use lib.Dec.{leb, ltb}
 use lib.ListN.{length, drop}
 use borrow.Author.Tests.{le-leb}
@@ -18,9 +17,8 @@ use Rattle.rules.specs.declared.Passage.the-variants.{P00}
 use Rattle.rules.specs.declared.Direction.{Direction}
 use Rattle.rules.specs.declared.Direction.the-variants.{Back, Front, Left, Right}
 use Rattle.rules.specs.declared.Refusal.{Refusal}
-use Rattle.rules.specs.declared.Refusal.the-variants.{WorkArea, NotAJobFile, LayoutBounds, StockBounds, CellTwice, ListBounds, ArticleTwice, TooHeavy, ShortOfStock, SheetSpace}
 use Rattle.rules.specs.declared.Reply.the-variants.{Served}
-use Rattle.rules.specs.Lists.{sumOf, select, headOr, anyTwo}
+use Rattle.rules.specs.Lists.{sumOf, select, headOr}
 use Rattle.rules.specs.Store.{Point, Edge, along, front, back, withPosts, cellPosition, aisleLength, position, backHeight, depotPoint, distance, edgesOf, within, layoutInBounds}
 use Rattle.rules.specs.Jobs.{Job, emptyList, jobWithPosts, listed, holdsListed}
 use Rattle.rules.specs.Plans.{Plan, multiplicity, lengthOf, planLength, planPasses}
@@ -32,8 +30,8 @@ use Rattle.rules.specs.Walks.{Walk, isCrossing, canStep, stepTo, stepEdg
 use Rattle.rules.specs.FirstWalk.{without, firstWay, stepThen, firstFrom, stepsOf, firstWalk}
 use Rattle.rules.specs.Picks.{cellsOf, passedRecords, picksOf}
 use Rattle.rules.specs.Sheet.{sheetOf, sheetText}
-use Rattle.rules.specs.Refusals.{recordInBounds, stockInBounds, sameCell, listInBounds, sameArticle, weight, weightLimit, allStock, shortOfStock, workLimit, table, cleared, firstRow}
-use Rattle.rules.specs.Answers.{Answer, served, decided}
+use Rattle.rules.specs.Refusals.{recordInBounds, stockInBounds, listInBounds, allStock, shortOfStock, table, cleared, firstRow}
+use Rattle.rules.specs.Answers.{served, decided}
 use Rattle.rules.proofs.Lengths.{cell-without-posts}
 
 module _ (k : ℕ) (z : Layout) where
@@ -147,28 +145,13 @@ module _ (k : ℕ) (job : Job) where
       ap (sheetOf lined) same-best
       ∙ rw (ap (λ len. len (bestPlan plain)) (same-length k z), same-walk k z (bestPlan plain)) refl
 
-  -- the table, with the test of the layout and the text of the sheet as they are found
-  abbrev rowsBy : Bool → List ℕ → List ℕ → List ℕ → List (Bool × Refusal)
-  rowsBy within-bounds text sheet work =
-      (ltb (length work) workLimit, WorkArea)
-      ∷ (false, NotAJobFile)
-      ∷ (not within-bounds, LayoutBounds)
-      ∷ (not (stockInBounds plain), StockBounds)
-      ∷ (anyTwo sameCell (job .stock), CellTwice)
-      ∷ (not (listInBounds plain), ListBounds)
-      ∷ (anyTwo sameArticle (job .lines), ArticleTwice)
-      ∷ (ltb weightLimit (weight (job .lines)), TooHeavy)
-      ∷ (shortOfStock plain, ShortOfStock)
-      ∷ (ltb (length sheet) (length text), SheetSpace)
-      ∷ []
-
   -- and the whole answer
   pub same-answer : 1 ≤ k → k ≤ 24 → (sheet work : List ℕ)
       → decided (firstRow (table (some lined) sheet work)) (some lined) sheet work ≡ decided (firstRow (table (some plain) sheet work)) (some plain) sheet work
   unfolding stockInBounds recordInBounds listInBounds shortOfStock allStock served
   same-answer low high sheet work =
-      let rows = ap₂ (λ b t. firstRow (rowsBy b t sheet work)) (same-bounds k (job .layout) low high) same-sheet in
-      ap (λ r. decided r (some lined) sheet work) rows ∙ go (firstRow (table (some plain) sheet work))
+      let rows : table (some lined) sheet work ≡ table (some plain) sheet work = rw (same-bounds k (job .layout) low high, same-sheet) refl in
+      ap (λ t. decided (firstRow t) (some lined) sheet work) rows ∙ go (firstRow (table (some plain) sheet work))
     where
       go : (r : Option Refusal) → decided r (some lined) sheet work ≡ decided r (some plain) sheet work
       go (some r) = refl

@@ -1,6 +1,6 @@
 -- Job files: text and reading are inverse.
 use Prim.Native.Nat.{ℕ, zero, suc, _≤_}
-use mathlib.Core.Path.{_≡_, refl, sym, _∙_, ap, subst, subst₂, fun-ext}
+use mathlib.Core.Path.{_≡_, refl, sym, _∙_, ap, subst, subst₂}
 use mathlib.Core.List.{List, [], _∷_, _++_, append-assoc, append-nil, List·Memᴰ, List·Memᴰ·head, List·Memᴰ·tail, List·Memᴰ·cases-cons, List·Memᴰ·not-nil}
 use mathlib.Core.Bool.{Bool, true, false}
 use mathlib.Core.Option.{Option, none, some}
@@ -183,16 +183,16 @@ policy-inverse = record { reads = reads; written = written }
         one : (q : Policy) → readPolicyAs q s ≡ some (p, rest) → (s ≡ policyText p ++ rest) × Unit {0}
         one q e = let w = policyAs-inverse q .written s p rest e in (rw (w .1) (w .0), tt)
 
--- a layout that says no posts, and whose other numbers can be written
+-- a layout that says no posts, and whose numbers can be written
 abbrev Plain : Layout × Policy → Type 0
-Plain z = (z .0 .posts ≡ NoPosts) × WritableLayout (withPosts NoPosts (z .0))
+Plain z = (z .0 .posts ≡ NoPosts) × WritableLayout (z .0)
 
 -- the first line of the L section
 pub layout-inverse : Inverse readLayout (λ (z : Layout × Policy). layoutText (z .0) (z .1)) Plain
 unfolding readLayout layoutText policyText
 layout-inverse =
     valid-as
-    (λ z. (λ v. (ap (λ (y : Layout × Policy). y .0 .posts) (v .0), record { aisles = omega arith; cells = omega arith; front = omega arith; pitch = omega arith; back = omega arith; width = omega arith; depot = omega arith; posts = tt }), λ v. (ap (λ p. (withPosts p (z .0), z .1)) (v .0), omega arith)))
+    (λ z. (λ v. (ap (λ (y : Layout × Policy). y .0 .posts) (v .0), omega arith), λ v. (ap (λ p. (withPosts p (z .0), z .1)) (v .0), omega arith)))
     (bind-part (λ z. z .0 .aisles) (λ a z. refl) space-field (λ m.
     bind-part (λ z. z .0 .cells) (λ a z. refl) space-field (λ c.
     bind-part (λ z. z .0 .front) (λ a z. refl) space-field (λ f.
@@ -314,30 +314,30 @@ few-lines (Every k u) = omega arith
 abbrev firstLine : Layout × Policy → Layout × Policy
 firstLine z = (withPosts NoPosts (z .0), z .1)
 
--- the L section
-pub layout-section-inverse : Inverse readLayoutSection (λ (z : Layout × Policy). layoutSectionText (z .0) (z .1)) (λ (z : Layout × Policy). WritableLayout (z .0))
+-- the L section: its numbers and those of its posts can be written
+abbrev WritableBoth : Layout × Policy → Type 0
+WritableBoth z = WritableLayout (z .0) × WritablePosts (z .0 .posts)
+
+pub layout-section-inverse : Inverse readLayoutSection (λ (z : Layout × Policy). layoutSectionText (z .0) (z .1)) WritableBoth
 unfolding readLayoutSection layoutSectionText layoutText
 layout-section-inverse =
     valid-as
-    (λ z. (λ v. whole z (v .1 .0 .1) (v .1 .1 .1 .1), λ v. (few-lines (z .0 .posts), ((refl, first z v), (refl, (refl, v .posts))))))
+    (λ z. (λ v. (omega arith, v .1 .1 .1 .1), λ v. (few-lines (z .0 .posts), ((refl, omega arith), (refl, (refl, v .1))))))
     (bind (λ z. layoutLines (z .0 .posts)) (header-inverse letterL) (λ n.
     bind firstLine layout-inverse (λ z.
     made (λ posts. (withPosts posts (z .0), z .1)) (λ y. y .0 .posts) (λ a v. refl) (posts-inverse n))
     (λ a y p q. ap firstLine (q .0) ∙ ap (λ t. (withPosts t (a .0), a .1)) (sym (p .0))))
     (λ n z p q. q .1 .1 .0))
-  where
-    whole : (z : Layout × Policy) → WritableLayout (withPosts NoPosts (z .0)) → WritablePosts (z .0 .posts) → WritableLayout (z .0)
-    whole z w p = record { aisles = w .aisles; cells = w .cells; front = w .front; pitch = w .pitch; back = w .back; width = w .width; depot = w .depot; posts = p }
-
-    first : (z : Layout × Policy) → WritableLayout (z .0) → WritableLayout (withPosts NoPosts (z .0))
-    first z w = record { aisles = w .aisles; cells = w .cells; front = w .front; pitch = w .pitch; back = w .back; width = w .width; depot = w .depot; posts = tt }
 
 -- the three sections
 pub sections-inverse : Inverse readSections jobText Writable
 unfolding readSections jobText
 sections-inverse =
     valid-as
-    (λ job. (λ v. record { layout = v .1 .0; stock = v .1 .1 .0; lines = v .1 .1 .1 }, λ v. (refl, (v .layout, (v .stock, v .lines)))))
+    (λ job. (
+      λ v. record { layout = v .1 .0 .0; posts = v .1 .0 .1; stock = v .1 .1 .0; lines = v .1 .1 .1 },
+      λ v. (refl, ((v .layout, v .posts), (v .stock, v .lines))),
+    ))
     (bind-part (λ job. (job .layout, job .policy)) (λ a job. refl) layout-section-inverse (λ z.
     bind-part (λ job. job .stock) (λ a job. refl) (section-inverse letterS record-inverse) (λ records.
     made (λ lines. record { layout = z .0; policy = z .1; stock = records; lines = lines }) (λ job. job .lines) (λ a v. refl) (section-inverse letterD line-inverse))))

@@ -310,11 +310,19 @@ ownCases =
     ∷ underEvery (posted 24 11 thirdCells) (refusal 2)  -- u 0 to 10, also where k exceeds C
     ∷ []
 
+-- an L section with posts
+unfoldable pub twoLines : List ℕ
+twoLines =
+    76 ∷ 32 ∷ 50 ∷ 10  -- L 2
+    ∷ 49 ∷ 32 ∷ 50 ∷ 32 ∷ 51 ∷ 32 ∷ 52 ∷ 32 ∷ 53 ∷ 32 ∷ 54 ∷ 32 ∷ 55 ∷ 32 ∷ 69 ∷ 88 ∷ 65 ∷ 67 ∷ 84 ∷ 10  -- 1 2 3 4 5 6 7 EXACT
+    ∷ 56 ∷ 32 ∷ 57 ∷ 10  -- 8 9
+    ∷ []
+
 -- texts and their bytes: every word, the order of the fields of a line, and what a refusal prints
 unfoldable pub texts : List (List ℕ × List ℕ)
 texts =
     (layoutText (ownJob 1 2 3 4 5 6 7 [] [] Exact .layout) Exact, 49 ∷ 32 ∷ 50 ∷ 32 ∷ 51 ∷ 32 ∷ 52 ∷ 32 ∷ 53 ∷ 32 ∷ 54 ∷ 32 ∷ 55 ∷ 32 ∷ 69 ∷ 88 ∷ 65 ∷ 67 ∷ 84 ∷ 10 ∷ [])  -- 1 2 3 4 5 6 7 EXACT
-    ∷ (layoutSectionText (withPosts (Every 8 9) (ownJob 1 2 3 4 5 6 7 [] [] Exact .layout)) Exact, 76 ∷ 32 ∷ 50 ∷ 10 ∷ 49 ∷ 32 ∷ 50 ∷ 32 ∷ 51 ∷ 32 ∷ 52 ∷ 32 ∷ 53 ∷ 32 ∷ 54 ∷ 32 ∷ 55 ∷ 32 ∷ 69 ∷ 88 ∷ 65 ∷ 67 ∷ 84 ∷ 10 ∷ 56 ∷ 32 ∷ 57 ∷ 10 ∷ [])  -- L 2, the same line, 8 9
+    ∷ (layoutSectionText (withPosts (Every 8 9) (ownJob 1 2 3 4 5 6 7 [] [] Exact .layout)) Exact, twoLines)  -- L 2, that line, 8 9
     ∷ (policyWord Return, 82 ∷ 69 ∷ 84 ∷ 85 ∷ 82 ∷ 78 ∷ [])  -- RETURN
     ∷ (policyWord Traversal, 84 ∷ 82 ∷ 65 ∷ 86 ∷ 69 ∷ 82 ∷ 83 ∷ 65 ∷ 76 ∷ [])  -- TRAVERSAL
     ∷ (policyWord Midpoint, 77 ∷ 73 ∷ 68 ∷ 80 ∷ 79 ∷ 73 ∷ 78 ∷ 84 ∷ [])  -- MIDPOINT

@@ -272,12 +272,7 @@ jobFileLimit = 16384
 unfoldable pub readJob : List ℕ → Option Job
 readJob s = elim (leb (length s) jobFileLimit) [ true ↦ atEnd (readSections s) | false ↦ none ]
 
--- posts whose numbers can be written in a job file
-abbrev pub WritablePosts : Posts → Type 0
-WritablePosts NoPosts = Unit {0}
-WritablePosts (Every k u) = (k ≤ 65535) × (u ≤ 65535)
-
--- a layout whose numbers can be written in a job file
+-- a layout whose seven numbers can be written in a job file
 pub record WritableLayout (z : Layout) : Type 0 where
   pub aisles : z .aisles ≤ 65535
   pub cells : z .cells ≤ 65535
@@ -286,7 +281,11 @@ pub record WritableLayout (z : Layout) : Type 0 where
   pub back : z .back ≤ 65535
   pub width : z .width ≤ 65535
   pub depot : z .depot ≤ 65535
-  pub posts : WritablePosts (z .posts)
+
+-- posts whose numbers can
+abbrev pub WritablePosts : Posts → Type 0
+WritablePosts NoPosts = Unit {0}
+WritablePosts (Every k u) = (k ≤ 65535) × (u ≤ 65535)
 
 -- a stock record whose numbers can be written in a job file
 pub record WritableRecord (r : StockRecord) : Type 0 where
@@ -308,5 +307,6 @@ pub record WritableSection {A : Type 0} (Line : A → Type 0) (xs : List A) : Ty
 -- a job whose numbers can be written in a job file: each is at most 65,535
 pub record Writable (job : Job) : Type 0 where
   pub layout : WritableLayout (job .layout)
+  pub posts : WritablePosts (job .layout .posts)
   pub stock : WritableSection WritableRecord (job .stock)
   pub lines : WritableSection WritableLine (job .lines)

@@ -31,12 +31,15 @@ posts-in-bounds-requires c κs = search needs
 returns : tie.Need-returns
 unfolding layoutInBounds
 returns c =
-    let depot = c .before in
-    let front = depot .before .before .before .before in
-    let aisles = front .before .before .is-within .ensures in
-    let cells = front .before .is-within2 .ensures in
-    let back = depot .before .before in
-    rw (layoutInBounds, ← aisles, ← cells, ← front .is-within3 .ensures, ← back .before .is-within4 .ensures, ← back .is-within5 .ensures, ← depot .before .is-within6 .ensures, ← depot .is-within7 .ensures, ← c .posts-in-bounds .ensures)
+    let at-depot = c .before in
+    let at-back = at-depot .before .before in
+    let at-front = at-back .before .before in
+    let aisles = at-front .before .before .is-within .ensures in
+    let cells = at-front .before .is-within2 .ensures in
+    let pitch = at-back .before .is-within4 .ensures in
+    let width = at-depot .before .is-within6 .ensures in
+    let posts = c .posts-in-bounds .ensures in
+    rw (layoutInBounds, ← aisles, ← cells, ← at-front .is-within3 .ensures, ← pitch, ← at-back .is-within5 .ensures, ← width, ← at-depot .is-within7 .ensures, ← posts)
 
 pub layout-in-bounds-spec : {M : Type 1} → statement M
 layout-in-bounds-spec =
