@@ -22,9 +22,9 @@ use Rattle.rules.specs.Lists.{allOf}
 use Rattle.rules.specs.Lengths.{actionLength, passageLength}
 use Rattle.rules.specs.Answers.{refused, served, answer, hostAnswer, output}
 use Rattle.rules.specs.BestPlan.{actionsOf, passagesInOrder, single, prepend, shorterOf, emptyPlan, servingPlans, bestPlan}
-use Rattle.rules.specs.Examples.{stocked, _⨯_, alpha, beta, steps, roundTrip, cases, ownJob, oneEach, midwayFront, midwayBack, farBack, nearBack, bothEnds, bottomOrTop, topOrGap, gapOrOnce, frontOrBack, leftFirst, topTie, withOthers, gapByFront, gapByBack, posted, thirdCells, beforeMiddle, wrongLayout, wrongStock, sharedCell, sharedArticle, bothBottom, bothOnce, eightLines, nineLines, frontOnly, awayFromDepot, ownCases, twoLines, texts, overfull, RefusedWith, workedJob, workedSheet}
+use Rattle.rules.specs.Examples.{stocked, _⨯_, alpha, beta, steps, roundTrip, cases, ownJob, oneEach, midwayFront, midwayBack, farBack, nearBack, bothEnds, bottomOrTop, topOrGap, gapOrOnce, frontOrBack, leftFirst, topTie, withOthers, gapByFront, gapByBack, posted, thirdCells, beforeMiddle, wrongLayout, wrongStock, sharedCell, sharedArticle, bothBottom, bothOnce, eightLines, nineLines, frontOnly, awayFromDepot, ownCases, twoLines, counted, texts, overfull, RefusedWith, workedJob, workedSheet}
 use Rattle.rules.specs.FirstWalk.{without, stepsOf, firstWalk}
-use Rattle.rules.specs.JobFile.{numeral, field, header, sectionText, jobText, layoutText, layoutSectionText, recordText, lineText, isDigit, isNumber, readField, readHeader, readPolicyAs, readPolicy, readLayout, readPosts, readRecord, readLine, readSection, readLayoutSection, readSections, readJob}
+use Rattle.rules.specs.JobFile.{numeral, field, header, sectionText, jobText, layoutText, layoutSectionText, recordText, lineText, isDigit, isNumber, readField, readHeader, readPolicyAs, readPolicy, readLayout, readPostsLine, readPosts, readRecord, readLine, readSection, readLayoutSection, readSections, readJob}
 use Rattle.rules.specs.Jobs.{listed, holdsListed}
 use Rattle.rules.specs.Machine.{actionPossible, actionStep, passageStep, treadsNothing, accepts}
 use Rattle.rules.specs.Picks.{cellsOf, lackOf, lessOf, recordAt, taken, passedRecords, picksOf}
@@ -180,9 +180,9 @@ own-cases-hold = all-hold ownCases own-cases-computed
 
 -- the texts of words and lines, byte for byte
 pub texts-hold : AllSame texts
-unfolding texts twoLines ownJob stocked _⨯_ numeral field header layoutText layoutSectionText recordText lineText passageText pickText isDigit isNumber readField readHeader readLayoutSection readSections readJob answer refused hostAnswer output
+unfolding texts twoLines counted posted thirdCells jobText sectionText readPolicyAs readPolicy readLayout readPostsLine readPosts readRecord readLine readSection within layoutInBounds ownJob stocked _⨯_ numeral field header layoutText layoutSectionText recordText lineText passageText pickText isDigit isNumber readField readHeader readLayoutSection readSections readJob answer refused hostAnswer output
 texts-hold =
-    (refl, (refl, (refl, (refl, (refl, (refl, (refl, (refl, (refl, (refl, (refl, (refl, (refl, (refl, (refl, (refl, (refl, tt)))))))))))))))))
+    refl ▸ refl ▸ refl ▸ refl ▸ refl ▸ refl ▸ refl ▸ refl ▸ refl ▸ refl ▸ refl ▸ refl ▸ refl ▸ refl ▸ refl ▸ refl ▸ refl ▸ refl ▸ refl ▸ refl ▸ tt
 
 -- a sheet space of 69 bytes is too short for the worked sheet: 9, and the work area is all zero
 pub short-space : CallGives (replicate 69 0) (replicate 32768 1) 9 0

@@ -3,7 +3,7 @@ use Prim.Native.Nat.{ℕ}
 use mathlib.Core.Path.{_≡_}
 use mathlib.Core.List.{List, [], _∷_, _++_}
 use mathlib.Core.Bool.{Bool, true, false}
-use lib.ListN.{length, replicate}
+use lib.ListN.{length, drop, replicate}
 use mathlib.Core.Option.{Option, none, some}
 use Rattle.rules.specs.declared.Posts.the-variants.{NoPosts, Every}
 use Rattle.rules.specs.declared.Policy.{Policy}
@@ -318,6 +318,10 @@ twoLines =
     ∷ 56 ∷ 32 ∷ 57 ∷ 10  -- 8 9
     ∷ []
 
+-- the file of a job with posts, its L section with that digit for its count
+unfoldable pub counted : ℕ → List ℕ
+counted digit = 76 ∷ 32 ∷ digit ∷ 10 ∷ drop 4 (jobText (posted 2 4 thirdCells Exact))
+
 -- texts and their bytes: every word, the order of the fields of a line, and what a refusal prints
 unfoldable pub texts : List (List ℕ × List ℕ)
 texts =
@@ -338,6 +342,9 @@ texts =
     ∷ (passageText P20, 50 ∷ 48 ∷ 10 ∷ [])  -- 20
     ∷ (pickText (record { aisle = 1; cell = 2; article = 3; quantity = 4 }), 49 ∷ 32 ∷ 50 ∷ 32 ∷ 51 ∷ 32 ∷ 52 ∷ 10 ∷ [])  -- 1 2 3 4
     ∷ (output [], 82 ∷ 32 ∷ 49 ∷ 10 ∷ 49 ∷ 10 ∷ [])  -- R 1, 1: no bytes are no job file
+    ∷ (output (counted 49), 82 ∷ 32 ∷ 49 ∷ 10 ∷ 49 ∷ 10 ∷ [])  -- R 1, 1: `L 1` with a second line is none
+    ∷ (output (counted 51), 82 ∷ 32 ∷ 49 ∷ 10 ∷ 49 ∷ 10 ∷ [])  -- R 1, 1: nor is `L 3`
+    ∷ (output (jobText (posted 25 0 thirdCells Exact)), 82 ∷ 32 ∷ 49 ∷ 10 ∷ 50 ∷ 10 ∷ [])  -- R 1, 2: a k of 25 is out of bounds
     ∷ []
 
 -- each text has its bytes

@@ -122,11 +122,12 @@ layoutInBounds z =
     && within 1 (z .aisles) (z .depot)
     && postsInBounds (z .posts)
 
--- the same bounds, number by number; that the test says so is proved (proofs/Admission)
+-- the same bounds, number by number; that the tests say so is proved (proofs/Admission): those of the posts
 abbrev pub PostsWithin : Posts → Type 0
 PostsWithin NoPosts = Unit {0}
 PostsWithin (Every k u) = (1 ≤ k) × (k ≤ 24) × (u ≤ 10)
 
+-- and those of the whole layout
 pub record LayoutWithin (z : Layout) : Type 0 where
   pub aisles : (1 ≤ z .aisles) × (z .aisles ≤ 16)
   pub cells : (1 ≤ z .cells) × (z .cells ≤ 24)
