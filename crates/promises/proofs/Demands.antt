@@ -28,7 +28,7 @@ use Rattle.rules.specs.BestPlan.{emptyPlan}
 use Rattle.rules.specs.Refusals.{numberOf, workLimit, cleared, Admitted}
 use Rattle.rules.specs.Sheet.{sheetText}
 use Rattle.rules.specs.Answers.{answer, hostAnswer, sheetLimit, letterR, output}
-use Rattle.rules.specs.Policies.{Follows, Allowed}
+use Rattle.rules.specs.Policies.{inFrontHalf, inBackHalf, Follows, Allowed}
 use Rattle.rules.specs.Serving.{PlanServes}
 use Rattle.rules.specs.Examples.{_⨯_, alpha, AllHold, cases, ownCases}
 use Rattle.rules.proofs.Cases as Cases
@@ -233,7 +233,11 @@ pub no-posts : (job : Job) (k : ℕ) (plain lined : List ℕ) → PostsOfNothing
     → (sheet work : List ℕ) → answer lined sheet work ≡ answer plain sheet work
 no-posts = Uprights.same-answers
 
--- so the program prints the same
+-- so the planning host gets the same, and the program prints the same
+pub no-posts-host : (job : Job) (k : ℕ) (plain lined : List ℕ) → PostsOfNothing job k plain lined
+    → (sheet : List ℕ) → hostAnswer lined sheet ≡ hostAnswer plain sheet
+no-posts-host = Uprights.same-host
+
 pub no-posts-printed : (job : Job) (k : ℕ) (plain lined : List ℕ) → PostsOfNothing job k plain lined → output lined ≡ output plain
 no-posts-printed = Uprights.same-output
 
@@ -242,6 +246,13 @@ pub no-posts-met : (policy : Policy)
     → let job = alpha ((9 ⨯ 1) ∷ []) policy in
     PostsOfNothing job 3 (jobText (jobWithPosts NoPosts job)) (jobText (jobWithPosts (Every 3 0) job))
 no-posts-met = Uprights.both-files
+
+-- "Whoever relies on cell distances, MIDPOINT included, takes the new ones": a cell is in the front half where it lies no further from the
+-- front crossing than from the back one, and in the back half where it lies no nearer, by the same positions and length
+pub halves-by-distance : (z : Layout) (i : ℕ)
+    → ((inFrontHalf z i ≡ true) ↔ (position z i ≤ aisleLength z - position z i))
+    × ((inBackHalf z i ≡ true) ↔ (aisleLength z - position z i ≤ position z i))
+halves-by-distance = Uprights.halves
 
 -- "The ceiling on a tour becomes 57,280 dm."
 pub ceiling : (bytes sheet work : List ℕ) (job : Job) (c : Content) → Shows bytes sheet work job c → c .length ≤ 57280

@@ -2,9 +2,12 @@
 use Prim.Native.Nat.{ℕ, _+_, _*_, _-_, _/_, _≤_}
 use native.Mathlib.Omega.{arith}
 use mathlib.Core.Path.{_≡_, refl, sym, _∙_, ap, subst}
+use mathlib.Core.Logic.{_↔_}
+use mathlib.Core.Bool.{true}
 use mathlib.Core.List.{List}
 use mathlib.Core.Option.{Option, some}
 use lib.ListN.{replicate}
+use borrow.Author.Tests.{leb-true, le-leb}
 use Rattle.rules.specs.declared.Layout.{Layout}
 use Rattle.rules.specs.declared.Policy.{Policy}
 use Rattle.rules.specs.declared.Policy.the-variants.{Exact, Return, Traversal, Midpoint, Composite}
@@ -13,13 +16,14 @@ use Rattle.rules.specs.Store.{postsBefore, WithoutPosts, aisleLength, position}
 use Rattle.rules.specs.Jobs.{Job, jobWithPosts}
 use Rattle.rules.specs.JobFile.{numeral, field, header, layoutText, layoutSectionText, recordText, lineText, sectionText, jobText}
 use Rattle.rules.specs.JobFile.{isDigit, isNumber, readField, readHeader, readPolicyAs, readPolicy, readLayout, readPostsLine, readPosts, readRecord, readLine, readSection, readLayoutSection, readSections, readJob}
+use Rattle.rules.specs.Policies.{inFrontHalf, inBackHalf}
 use Rattle.rules.specs.BestPlan.{bestPlan}
 use Rattle.rules.specs.Refusals.{workLimit, table, firstRow}
 use Rattle.rules.specs.Answers.{Answer, decided, answer, hostAnswer, sheetLimit, printed, output}
 use Rattle.rules.specs.Examples.{stocked, _⨯_, alpha}
 use Rattle.rules.proofs.Ceiling.{plan-length-57280}
 use Rattle.rules.proofs.EmptyList.{lawful-well-formed}
-use Rattle.rules.proofs.Lengths.{cell-without-posts, position-cell}
+use Rattle.rules.proofs.Lengths.{cell-without-posts, position-cell, position-within}
 use Rattle.rules.proofs.NoPosts.{same-answer}
 use Rattle.optimum.proofs.Best.{best-plan}
 use Rattle.promises.specs.Contents.{Content, contentOf}
@@ -43,11 +47,15 @@ same-answers job k plain lined f sheet work =
     ∙ same-answer k job (f .low) (f .high) sheet work
     ∙ sym (answer-read plain sheet work (jobWithPosts NoPosts job) one)
 
--- and the program prints the same of both
+-- and so it is for the planning host and for the program
+pub same-host : (job : Job) (k : ℕ) (plain lined : List ℕ) → PostsOfNothing job k plain lined → (sheet : List ℕ) → hostAnswer lined sheet ≡ hostAnswer plain sheet
+unfolding hostAnswer
+same-host job k plain lined f sheet = same-answers job k plain lined f sheet (replicate workLimit 0)
+
 pub same-output : (job : Job) (k : ℕ) (plain lined : List ℕ) → PostsOfNothing job k plain lined → output lined ≡ output plain
-unfolding output hostAnswer
+unfolding output
 same-output job k plain lined f =
-    ap (λ (a : Answer). printed (a .reply) (a .sheet)) (same-answers job k plain lined f (replicate sheetLimit 0) (replicate workLimit 0))
+    ap (λ (a : Answer). printed (a .reply) (a .sheet)) (same-host job k plain lined f (replicate sheetLimit 0))
 
 -- where the cells lie between posts, and how long an aisle is
 pub posts-between : (z : Layout) (k u : ℕ) → z .posts ≡ Every k u
@@ -68,6 +76,19 @@ posts-absent z w = (
   λ i low high. position-cell z i low high ∙ cell-without-posts z w i,
   ap (λ n. n + z .back) (cell-without-posts z w (z .cells)),
 )
+
+-- the halves, in distances from both crossings
+pub halves : (z : Layout) (i : ℕ)
+    → ((inFrontHalf z i ≡ true) ↔ (position z i ≤ aisleLength z - position z i))
+    × ((inBackHalf z i ≡ true) ↔ (aisleLength z - position z i ≤ position z i))
+unfolding inFrontHalf inBackHalf
+halves z i =
+    let p = position z i in
+    let l = aisleLength z in
+    let far = position-within z i in (
+      (λ e. omega (arith, leb-true (2 * p) l e), λ h. le-leb (2 * p) l (omega arith)),
+      (λ e. omega (arith, leb-true l (2 * p) e), λ h. le-leb l (2 * p) (omega arith)),
+    )
 
 -- the plan on a sheet is one of the store, so its length is below the ceiling
 pub below-ceiling : (bytes sheet work : List ℕ) (job : Job) (c : Content) → Shows bytes sheet work job c → c .length ≤ 57280

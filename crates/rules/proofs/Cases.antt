@@ -22,7 +22,7 @@ use Rattle.rules.specs.Lists.{allOf}
 use Rattle.rules.specs.Lengths.{actionLength, passageLength}
 use Rattle.rules.specs.Answers.{refused, served, answer, hostAnswer, output}
 use Rattle.rules.specs.BestPlan.{actionsOf, passagesInOrder, single, prepend, shorterOf, emptyPlan, servingPlans, bestPlan}
-use Rattle.rules.specs.Examples.{stocked, _⨯_, alpha, beta, steps, roundTrip, cases, ownJob, oneEach, midwayFront, midwayBack, farBack, nearBack, bothEnds, bottomOrTop, topOrGap, gapOrOnce, frontOrBack, leftFirst, topTie, withOthers, gapByFront, gapByBack, posted, thirdCells, beforeMiddle, wrongLayout, wrongStock, sharedCell, sharedArticle, bothBottom, bothOnce, eightLines, nineLines, frontOnly, awayFromDepot, ownCases, twoLines, counted, texts, overfull, RefusedWith, workedJob, workedSheet}
+use Rattle.rules.specs.Examples.{stocked, _⨯_, alpha, beta, steps, roundTrip, cases, ownJob, oneEach, midwayFront, midwayBack, farBack, nearBack, bothEnds, bottomOrTop, topOrGap, gapOrOnce, frontOrBack, leftFirst, topTie, withOthers, gapByFront, gapByBack, posted, thirdCells, beforeMiddle, behindMiddle, wrongLayout, wrongStock, sharedCell, sharedArticle, bothBottom, bothOnce, eightLines, nineLines, frontOnly, awayFromDepot, ownCases, twoLines, counted, texts, overfull, RefusedWith, workedJob, workedSheet}
 use Rattle.rules.specs.FirstWalk.{without, stepsOf, firstWalk}
 use Rattle.rules.specs.JobFile.{numeral, field, header, sectionText, jobText, layoutText, layoutSectionText, recordText, lineText, isDigit, isNumber, readField, readHeader, readPolicyAs, readPolicy, readLayout, readPostsLine, readPosts, readRecord, readLine, readSection, readLayoutSection, readSections, readJob}
 use Rattle.rules.specs.Jobs.{listed, holdsListed}
@@ -136,7 +136,7 @@ cases-hold = all-hold cases cases-computed
 
 -- the rows of our own cases
 own-cases-computed : AllComputed ownCases
-unfolding actionsOf passagesInOrder single prepend shorterOf stocked _⨯_ alpha beta listed holdsListed actionPossible actionStep passageStep accepts actionAt passageAt multiplicity lengthOf planLength planPasses inFrontHalf inBackHalf supply serves aisleLength position backHeight depotPoint distance edgesOf boundedBest actionLength passageLength recordInBounds stockInBounds sameCell lineInBounds listInBounds sameArticle weight allStock shortOfStock jobRows jobRefusal within layoutInBounds without stepsOf firstWalk sameEdge samePoint isCrossing canStep stepTo stepEdge one steps RefusedWith ownJob oneEach midwayFront midwayBack farBack nearBack bothEnds bottomOrTop topOrGap gapOrOnce frontOrBack leftFirst topTie withOthers gapByFront gapByBack posted thirdCells beforeMiddle wrongLayout wrongStock sharedCell sharedArticle bothBottom bothOnce eightLines nineLines frontOnly awayFromDepot ownCases treadsNothing
+unfolding actionsOf passagesInOrder single prepend shorterOf stocked _⨯_ alpha beta listed holdsListed actionPossible actionStep passageStep accepts actionAt passageAt multiplicity lengthOf planLength planPasses inFrontHalf inBackHalf supply serves aisleLength position backHeight depotPoint distance edgesOf boundedBest actionLength passageLength recordInBounds stockInBounds sameCell lineInBounds listInBounds sameArticle weight allStock shortOfStock jobRows jobRefusal within layoutInBounds without stepsOf firstWalk sameEdge samePoint isCrossing canStep stepTo stepEdge one steps RefusedWith ownJob oneEach midwayFront midwayBack farBack nearBack bothEnds bottomOrTop topOrGap gapOrOnce frontOrBack leftFirst topTie withOthers gapByFront gapByBack posted thirdCells beforeMiddle behindMiddle wrongLayout wrongStock sharedCell sharedArticle bothBottom bothOnce eightLines nineLines frontOnly awayFromDepot ownCases treadsNothing
 own-cases-computed =
     (refl, refl)
     ▸ (refl, refl)
@@ -164,6 +164,8 @@ own-cases-computed =
     ▸ (λ policy. (ListBounds, refl, refl))
     ▸ under-each _ (refl, refl) (refl, refl) (refl, refl) (refl, refl) (refl, refl)
     ▸ (refl, refl)
+    ▸ (refl, refl, refl, refl)
+    ▸ (refl, refl, refl, refl)
     ▸ (refl, refl, refl, refl)
     ▸ (refl, refl, refl, refl)
     ▸ (refl, refl, refl, refl)

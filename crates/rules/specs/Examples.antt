@@ -237,6 +237,11 @@ unfoldable pub beforeMiddle : Policy → Job
 beforeMiddle =
     ownJob 3 2 1 1 3 1 1 (stocked 1 1 1 1 ∷ stocked 2 2 2 1 ∷ stocked 3 1 3 1 ∷ []) ((1 ⨯ 1) ∷ (2 ⨯ 1) ∷ (3 ⨯ 1) ∷ [])
 
+-- in aisle 2 both cells are wanted, and both lie behind the middle
+unfoldable pub behindMiddle : Policy → Job
+behindMiddle =
+    ownJob 3 2 5 1 3 1 1 (stocked 1 1 1 1 ∷ stocked 2 1 2 1 ∷ stocked 2 2 4 1 ∷ stocked 3 1 3 1 ∷ []) oneEach
+
 -- jobs with two faults each: the layout and the stock; the stock, and a cell twice; a cell twice, and the list; an article twice, and the weight
 unfoldable pub wrongLayout : Policy → Job
 wrongLayout = ownJob 2 3 2 1 2 5 3 (stocked 3 1 7 1 ∷ []) ((7 ⨯ 1) ∷ [])
@@ -305,8 +310,10 @@ ownCases =
     ∷ under Exact (posted 24 10 thirdCells) (tour 24 (Bottom 3 ∷ Bottom 3 ∷ []) (P02 ∷ []))  -- k may exceed C
     ∷ under Midpoint beforeMiddle (tour 18 (Once ∷ Bottom 2 ∷ Once ∷ []) (P11 ∷ P11 ∷ []))
     ∷ under Midpoint (posted 1 2 beforeMiddle) (tour 24 (Once ∷ Top 2 ∷ Once ∷ []) (P11 ∷ P11 ∷ []))  -- a post moves it over the middle
-    ∷ underEvery (posted 0 1 thirdCells) (refusal 2)  -- 2 covers k and u: k 1 to 24
-    ∷ underEvery (posted 25 0 thirdCells) (refusal 2)  -- also where u is 0
+    ∷ under Midpoint behindMiddle (tour 30 (Once ∷ Top 1 ∷ Once ∷ []) (P11 ∷ P11 ∷ []))
+    ∷ under Midpoint (posted 1 2 behindMiddle) (tour 42 (Once ∷ Gap 1 2 ∷ Once ∷ []) (P11 ∷ P11 ∷ []))  -- the middle moves over one
+    ∷ underEvery (posted 0 0 thirdCells) (refusal 2)  -- 2 covers k and u: k 1 to 24, also where u is 0
+    ∷ underEvery (posted 25 0 thirdCells) (refusal 2)
     ∷ underEvery (posted 24 11 thirdCells) (refusal 2)  -- u 0 to 10, also where k exceeds C
     ∷ []
 

@@ -1,4 +1,4 @@
--- Document 01, "The store": points, edges, distances, the depot.
+-- Document 01, "The store": points, edges, distances, the depot; request #102: posts.
 use Prim.Native.Nat.{ℕ, zero, suc, _+_, _*_, _-_, _/_, _≤_, _<_}
 use mathlib.Core.Path.{_≡_}
 use mathlib.Core.Logic.{_⊎_}

@@ -1,4 +1,4 @@
--- `aisles::candidates::posts_before` meets its contract: the two cases of the definition; at most 24 posts of 10 fit the word.
+-- `aisles::candidates::posts_before` meets its contract: the two cases of the definition; fewer than 25 posts of 10 fit the word.
 use native.Mathlib.Omega.{arith}
 use native.Mathlib.Nat.{mul-le-mul, div-le-self}
 use Prim.Native.Nat.{ℕ, _/_, _≤_}
