@@ -1,4 +1,4 @@
--- Distances of a layout within the bounds, and what a candidate's numbers stand for.
+-- The bounds of a layout, and what a candidate's numbers stand for.
 use Prim.Native.Nat.{ℕ, suc, _*_, _<_}
 use native.Mathlib.Omega.{arith}
 use mathlib.Core.Path.{_≡_, refl, _∙_, ap, ap₂}
