@@ -24,7 +24,7 @@ cell-position-980 z bounds i le =
     let pitches : (i - 1) * z .pitch ≤ 23 * 30 = mul-le-mul {n₂ = 23} {m₂ = 30} (omega arith) (omega arith) in
     omega (arith, posts-bound (z .posts) (b .posts) i le)
 
-pub aisle-length-1040 : (z : Layout) → layoutInBounds z ≡ true → aisleLength z ≤ 1040
+aisle-length-1040 : (z : Layout) → layoutInBounds z ≡ true → aisleLength z ≤ 1040
 unfolding aisleLength
 aisle-length-1040 z bounds =
     let b = layout-within z .0 bounds in omega (arith, cell-position-980 z bounds (z .cells) (omega arith))

@@ -138,7 +138,7 @@ module _ (k : ℕ) (job : Job) where
   same-best = ap₂ (λ len plans. Option·getD (firstShortest len plans) (emptyPlan (job .layout))) (same-length k (job .layout)) same-plans
 
   -- and so is the sheet
-  pub same-sheet : sheetText lined ≡ sheetText plain
+  same-sheet : sheetText lined ≡ sheetText plain
   unfolding sheetText sheetOf picksOf passedRecords cellsOf
   same-sheet =
       let z = job .layout in

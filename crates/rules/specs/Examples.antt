@@ -305,12 +305,12 @@ ownCases =
     ∷ underEvery (alpha nineLines) (refusal 5)  -- 5 still covers counts above 8
     ∷ underEvery (alpha []) (frontOnly true)  -- the plan that treads nothing is lawful "too": the others stay lawful
     ∷ under Exact (alpha []) (awayFromDepot false)  -- and nothing else becomes lawful
-    ∷ under Exact thirdCells (tour 24 (Bottom 3 ∷ Bottom 3 ∷ []) (P02 ∷ []))
+    ∷ under Exact thirdCells (tour 24 (Bottom 3 ∷ Bottom 3 ∷ []) (P02 ∷ []))  -- without posts
     ∷ under Exact (posted 2 4 thirdCells) (tour 34 (Once ∷ Once ∷ []) (P11 ∷ []))  -- a post before cell 3, none behind the last cell
     ∷ under Exact (posted 24 10 thirdCells) (tour 24 (Bottom 3 ∷ Bottom 3 ∷ []) (P02 ∷ []))  -- k may exceed C
-    ∷ under Midpoint beforeMiddle (tour 18 (Once ∷ Bottom 2 ∷ Once ∷ []) (P11 ∷ P11 ∷ []))
+    ∷ under Midpoint beforeMiddle (tour 18 (Once ∷ Bottom 2 ∷ Once ∷ []) (P11 ∷ P11 ∷ []))  -- without posts
     ∷ under Midpoint (posted 1 2 beforeMiddle) (tour 24 (Once ∷ Top 2 ∷ Once ∷ []) (P11 ∷ P11 ∷ []))  -- a post moves it over the middle
-    ∷ under Midpoint behindMiddle (tour 30 (Once ∷ Top 1 ∷ Once ∷ []) (P11 ∷ P11 ∷ []))
+    ∷ under Midpoint behindMiddle (tour 30 (Once ∷ Top 1 ∷ Once ∷ []) (P11 ∷ P11 ∷ []))  -- without posts
     ∷ under Midpoint (posted 1 2 behindMiddle) (tour 42 (Once ∷ Gap 1 2 ∷ Once ∷ []) (P11 ∷ P11 ∷ []))  -- the middle moves over one
     ∷ underEvery (posted 0 0 thirdCells) (refusal 2)  -- 2 covers k and u: k 1 to 24, also where u is 0
     ∷ underEvery (posted 25 0 thirdCells) (refusal 2)

@@ -27,18 +27,17 @@ enum-known-posts c = search needs
 sub-result : tie.Need-sub-result
 sub-result c = search needs
 
+-- the bounds of k and u
+bounds : (c : tie.After-posts) → PostsWithin (Every (c .posts .given .0 .0) (c .posts .given .0 .1 .0))
+bounds c = subst PostsWithin (c .posts .given .1) (c .before .before .pre .0)
+
 div-result : tie.Need-div-result
-div-result c =
-    let posts = c .before .posts .given .1 in
-    let b = subst PostsWithin posts (c .before .before .before .pre .0) in
-    omega arith
+div-result c = let b = bounds (c .before) in omega arith
 
 mul-result : tie.Need-mul-result
 mul-result c =
-    let posts = c .before .posts .given .1 in
-    let b = subst PostsWithin posts (c .before .before .before .pre .0) in
     let k = c .before .posts .given .0 .0 in
-    small-fits _ (mul-le-mul {n₂ = 10} {m₂ = 24} (b .2) (small-quotient _ k 24 (omega arith)))
+    small-fits _ (mul-le-mul {n₂ = 10} {m₂ = 24} (bounds (c .before) .2) (small-quotient _ k 24 (omega arith)))
 
 returns : tie.Need-returns
 returns c = search needs
@@ -48,9 +47,8 @@ returns-2 c =
     let at-start = c .before .before .before in
     let (k, (u, _)) = c .before .posts .given .0 in
     let posts = c .before .posts .given .1 in
-    let b = subst PostsWithin posts (at-start .pre .0) in
     let i = at-start .args .i in
-    (sym (ap (λ p. postsBefore p i) posts), posts-bound (Every k u) b i (omega arith))
+    (sym (ap (λ p. postsBefore p i) posts), posts-bound (Every k u) (bounds (c .before)) i (omega arith))
 
 pub posts-before-spec : {M : Type 1} → statement M
 posts-before-spec =
