@@ -1,8 +1,9 @@
-/* Reads a job from the file named on the command line, or from standard input, and prints its sheet.
-   Of a refused job it says why on standard error, and exits with the refusal's number. */
+/* Reads a job from the file named on the command line, or from standard input, and prints its sheet, or with --page its clipboard
+   page. Of a refused job it says why on standard error, and exits with the refusal's number. */
 #include "dizhondu.h"
 
 #include <stdio.h>
+#include <string.h>
 
 static const char *const causes[] = {
     "no cause",
@@ -15,14 +16,19 @@ static const char *const causes[] = {
     "the list is too heavy: the product of (quantity + 1) over its lines is above 256",
     "a line asks for more than all the stock of its article",
     "the sheet is longer than the space for it",
+    "the work area is too small",
+    "the page is longer than the space for it",
 };
 
 int main(int argc, char **argv) {
     static uint8_t job[DIZHONDU_JOB_LIMIT + 1]; /* one byte more, so that a longer job is seen to be too long */
     static uint8_t sheet[DIZHONDU_SHEET_SPACE];
-    FILE *file = argc > 1 ? fopen(argv[1], "rb") : stdin;
+    static uint8_t page[DIZHONDU_PAGE_SPACE];
+    int with_page = argc > 1 && strcmp(argv[1], "--page") == 0;
+    const char *name = argc > 1 + with_page ? argv[1 + with_page] : NULL;
+    FILE *file = name != NULL ? fopen(name, "rb") : stdin;
     if (file == NULL) {
-        perror(argv[1]);
+        perror(name);
         return 64;
     }
     size_t length = fread(job, 1, sizeof job, file);
@@ -30,12 +36,16 @@ int main(int argc, char **argv) {
         perror("reading the job");
         return 64;
     }
-    uint32_t answer = plan_sheet(job, length, sheet, sizeof sheet);
-    if (answer > DIZHONDU_REFUSED) {
-        uint32_t number = answer - DIZHONDU_REFUSED;
-        fprintf(stderr, "refused (%u): %s\n", (unsigned)number, number < 10 ? causes[number] : "unknown cause");
+    uint64_t answer = with_page ? plan_page(job, length, sheet, sizeof sheet, page, sizeof page) : plan_sheet(job, length, sheet, sizeof sheet);
+    uint32_t number = DIZHONDU_SHEET_NUMBER(answer);
+    if (number > DIZHONDU_REFUSED) {
+        number -= DIZHONDU_REFUSED;
+        fprintf(stderr, "refused (%u): %s\n", (unsigned)number, number < 12 ? causes[number] : "unknown cause");
         return (int)number;
     }
-    fwrite(sheet, 1, answer, stdout);
+    if (with_page)
+        fwrite(page, 1, DIZHONDU_PAGE_COUNT(answer), stdout);
+    else
+        fwrite(sheet, 1, number, stdout);
     return 0;
 }

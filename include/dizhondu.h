@@ -1,4 +1,4 @@
-/* The planning host's entry to the router. Link with libhost.a, which `rt staticlib host` writes. */
+/* The planning host's entries to the router. Link with libhost.a, which `rt staticlib host` writes. */
 #ifndef DIZHONDU_H
 #define DIZHONDU_H
 
@@ -12,6 +12,9 @@ extern "C" {
 /* This much sheet space suffices for every job. */
 #define DIZHONDU_SHEET_SPACE 16384
 
+/* This much page space suffices for every job: 255 lines of 25 bytes. */
+#define DIZHONDU_PAGE_SPACE 6375
+
 /* A longer job is refused with 1. */
 #define DIZHONDU_JOB_LIMIT 16384
 
@@ -19,8 +22,8 @@ extern "C" {
 #define DIZHONDU_REFUSED 65536
 
 /* A call fits a thread with this much stack. Measured on x86-64 over all jobs of tests/vectors and tests/cases, by what a call
-   changed of a filled stack: at most 205,176 bytes below its caller's frame, and that on every served job. The tests make each
-   of their calls in a thread with just this much. */
+   changed of a filled stack below its caller's frame: 202,088 bytes by plan_sheet and 235,416 by plan_page, on every served job. The
+   tests make each of their calls in a thread with just this much. */
 #define DIZHONDU_STACK 262144
 
 /* Plans the tour of the job in job[0 .. job_length) and writes its sheet to the front of sheet[0 .. sheet_space).
@@ -40,6 +43,23 @@ extern "C" {
    Both pointers must be valid and must not overlap, also where a length is 0. Nothing is kept between calls. The work area
    is on the stack: DIZHONDU_STACK bytes suffice. */
 uint32_t plan_sheet(const uint8_t *job, size_t job_length, uint8_t *sheet, size_t sheet_space);
+
+/* What plan_page returns: the page's byte count, and the number of plan_sheet. */
+#define DIZHONDU_PAGE_COUNT(answer) ((uint32_t)((answer) >> 32))
+#define DIZHONDU_SHEET_NUMBER(answer) ((uint32_t)(answer))
+
+/* Plans a job as plan_sheet does, and writes its clipboard page to the front of page[0 .. page_space): for each pick a line of 24
+   bytes and a line feed, in the order in which the walk first reaches the cells. Bytes 1-2 are the aisle, byte 3 a hyphen, 4-5 the
+   cell, 6 a space, 7-9 the quantity, 10-19 full stops, 20-24 the article; numbers are right-aligned, with spaces in front.
+
+   Returns the page's byte count times 2^32, plus the number of plan_sheet; the bytes behind the sheet and behind the page are left
+   as they were. For a refused job the page's byte count is 0, and every byte of the sheet and of the page is left as it was. One
+   cause more is tried after those above:
+
+    11  page longer than its space
+
+   The three pointers must be valid and must not overlap, also where a length is 0. DIZHONDU_STACK bytes of stack suffice. */
+uint64_t plan_page(const uint8_t *job, size_t job_length, uint8_t *sheet, size_t sheet_space, uint8_t *page, size_t page_space);
 
 #ifdef __cplusplus
 }

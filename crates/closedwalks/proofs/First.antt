@@ -18,7 +18,8 @@ use Rattle.rules.specs.Lawful.{LawfulFor}
 use Rattle.rules.specs.Walks.{Walk, canStep, stepTo, stepEdge, letterRank, NotAfter, same, earlier, later}
 use Rattle.rules.specs.FirstWalk.{WalkOf, without, firstWay, stepThen, firstFrom, firstWalk, stepsOf}
 use Rattle.closedwalks.specs.Ways.{PointOf, Leads, treadsFrom}
-use Rattle.closedwalks.proofs.Steps.{same-point, point-same, one-refl, both-true, true-both, stepped}
+use Rattle.closedwalks.proofs.Steps.{one-refl, both-true, true-both, stepped}
+use Rattle.rules.proofs.WalkOrder.{same-point, point-same}
 use Rattle.closedwalks.proofs.Sums.{sum-exact}
 use Rattle.closedwalks.proofs.Parity.{taken}
 use Rattle.closedwalks.proofs.Degrees.{depot-point}

@@ -16,7 +16,8 @@ use Rattle.rules.specs.Plans.{Plan, multiplicity, actionAt, aisleTreads, passes
 use Rattle.rules.specs.Walks.{Walk, stepTo, stepEdge, one, walkPoints, walkPasses}
 use Rattle.closedwalks.specs.Ways.{PointOf, degree, same, Leads, treadsFrom, On}
 use Rattle.closedwalks.proofs.Splits.{below-or-from}
-use Rattle.closedwalks.proofs.Steps.{same-point, same-refl, Stepped, stepped, point-same}
+use Rattle.closedwalks.proofs.Steps.{same-refl, Stepped, stepped}
+use Rattle.rules.proofs.WalkOrder.{same-point, point-same}
 use Rattle.closedwalks.proofs.Parity.{degree-add, degree-step}
 use Rattle.closedwalks.proofs.Degrees.{depot-point, degree-cell}
 use Rattle.closedwalks.proofs.Walked.{closed-leads, of-walk}

@@ -11,6 +11,7 @@ use Rattle.rules.specs.declared.Direction.{Direction}
 use Rattle.rules.specs.declared.Direction.the-variants.{Back, Front, Left, Right}
 use Rattle.rules.specs.Store.{Point, Edge, along, front, back, startOf, endOf, Joins, InStore, backHeight, sameEdge, samePoint}
 use Rattle.rules.specs.Walks.{canStep, stepTo, stepEdge, isCrossing, crossEdge, one}
+use Rattle.rules.proofs.WalkOrder.{same-point, point-same}
 use Rattle.closedwalks.specs.Ways.{PointOf, share, degree, same}
 
 -- both parts of a conjunction of tests
@@ -38,14 +39,6 @@ sift false q false f g = refl
 pub cond-none : (p : Bool) → cond {A = ℕ} p 0 0 ≡ 0
 cond-none true = refl
 cond-none false = refl
-
-pub same-point : (x y : Point) → samePoint x y ≡ true → x ≡ y
-unfolding samePoint
-same-point x y h = let t = two-equal (x .aisle) (y .aisle) (x .height) (y .height) h in λ i. record { aisle = t .0 i; height = t .1 i }
-
-pub point-same : (x y : Point) → x ≡ y → samePoint x y ≡ true
-unfolding samePoint
-point-same x y e = equal-two (x .aisle) (y .aisle) (x .height) (y .height) (ap (λ (p : Point). p .aisle) e) (ap (λ (p : Point). p .height) e)
 
 -- two points are the same, or they are told apart
 pub point-split : (x y : Point) → ((x ≡ y) × (same x y ≡ 1)) ⊎ ((same x y ≡ 0) × (x ≡ y → ⊥))

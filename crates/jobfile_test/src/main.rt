@@ -31,6 +31,7 @@ fn number_of(refusal: Refusal) -> u64
         Refusal::TooHeavy => 7,
         Refusal::ShortOfStock => 8,
         Refusal::SheetSpace => 9,
+        Refusal::PageSpace => 11,
     }
 }
 

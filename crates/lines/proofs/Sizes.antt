@@ -4,12 +4,14 @@ use native.Mathlib.Omega.{arith}
 use native.Mathlib.Nat.{pow-suc}
 use native.Mathlib.Decide.{decLt}
 use mathlib.Core.Path.{_≡_}
+use mathlib.Core.List.{_++_}
 use lib.ListN.{length, length-append}
 use Rattle.rules.specs.declared.Policy.{Policy}
 use Rattle.rules.specs.declared.Pick.{Pick}
 use Rattle.rules.specs.declared.Run.{Run}
 use Rattle.rules.specs.JobFile.{lineFeed, numeral, field, header}
 use Rattle.rules.specs.Sheet.{totalText, pickText, runText}
+use Rattle.rules.specs.Answers.{letterR}
 use Rattle.rules.proofs.Numbers.{numeral-small, numeral-large}
 use Rattle.lines.specs.Written.{policyText}
 use Rattle.lines.proofs.LineTexts.{total-line}
@@ -56,3 +58,7 @@ total-size n policy = rw (← total-line n policy, length-append)
 pub pick-size : (x : Pick) → length (pickText x) ≡ 4 + length (numeral (x .aisle)) + length (numeral (x .cell)) + length (numeral (x .article)) + length (numeral (x .quantity))
 unfolding pickText
 pick-size x = simp (length-append, field-size) (omega arith)
+
+-- what a program prints for a refusal has at most 15 bytes
+pub refusal-short : (n : ℕ) → n < 10000000000 → length (header letterR 1 ++ field lineFeed n) ≤ 15
+refusal-short n h = rw (length-append, header-size letterR 1, field-size lineFeed n) (omega (arith, digits-most 9 n h, digits-most 0 1 (omega arith)))

@@ -13,9 +13,11 @@ use rules::Pick;
 use rules::Policy;
 use rules::Run;
 ghost use mathlib.Core.Path.{_≡_};
+ghost use mathlib.Core.List.{_++_};
 ghost use Prim.Native.Nat.{_≤_};
 ghost use lib.ListN.{length, take};
-ghost use Rattle.rules.specs.JobFile.{header};
+ghost use Rattle.rules.specs.JobFile.{lineFeed, header, field};
+ghost use Rattle.rules.specs.Answers.{letterR};
 ghost use Rattle.rules.specs.Sheet.{totalText, actionText, passageText, pickText, letterOf, runText};
 ghost use Rattle.lines.specs.Written.{Written, Sized, policyText};
 
@@ -136,6 +138,17 @@ pub fn write_run(sheet: &mut [u8], run: Run) -> usize
 {
     let direction = run.direction;
     write_header(sheet, letter_of(direction), run.steps)
+}
+
+// Writes what a program prints for a refused job: `R 1` and a line with a number.
+pub fn write_refusal(sheet: &mut [u8], number: usize) -> usize
+    requires { ⌜ length (header letterR 1 ++ field lineFeed number) ≤ length (now sheet) ⌝ }
+    ensures { λ r. ⌜ Written (header letterR 1 ++ field lineFeed number) (now (sheet .entry)) (now (sheet .exit)) r ⌝ }
+{
+    let start = write_header(sheet, 82, 1);
+    let at = start + write_number(&mut sheet[start..], number);
+    sheet[at] = 10;
+    at + 1
 }
 
 // The byte count of a section's first line.

@@ -19,7 +19,7 @@ pub fn write_number(sheet: &mut [u8], n: usize) -> usize
 }
 
 // How many digits a number has.
-pub(crate) fn number_size(n: usize) -> usize
+pub fn number_size(n: usize) -> usize
     ensures { λ r. ⌜ Sized (numeral n) 20 r ⌝ }
 {
     let mut size = 1;
@@ -32,7 +32,7 @@ pub(crate) fn number_size(n: usize) -> usize
 }
 
 // Writes a word byte for byte.
-pub(crate) fn write_word(sheet: &mut [u8], word: &[u8]) -> usize
+pub fn write_word(sheet: &mut [u8], word: &[u8]) -> usize
     requires { ⌜ length (now word) ≤ length (now sheet) ⌝ }
     ensures { λ r. ⌜ Written (now (word .entry)) (now (sheet .entry)) (now (sheet .exit)) r ⌝ }
 {

@@ -1,4 +1,8 @@
--- Laws of the library call.
+-- Laws of the library calls.
 pub mod Replies
 pub mod Routes
 pub mod Space
+pub mod PageReplies
+pub mod PageLaws
+pub mod PageRoutes
+pub mod PageSpace

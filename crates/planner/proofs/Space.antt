@@ -35,7 +35,7 @@ sheet-suffices job a =
     sheet-fits job (bestPlan job) a formed (few-steps (job .layout) (d .0) (d .1) (bestPlan job) (firstWalk (job .layout) (bestPlan job)) w (a .layout))
 
 -- a job that the bytes come to is admitted
-checked-admitted : (bytes : List ℕ) (job : Job) → checkBytes bytes ≡ good job → Admitted job
+pub checked-admitted : (bytes : List ℕ) (job : Job) → checkBytes bytes ≡ good job → Admitted job
 unfolding checkBytes checkJob
 checked-admitted bytes job = read (readJob bytes) refl
   where

@@ -1,4 +1,6 @@
-// The library call: job bytes, lent sheet space and a lent work area.
+// The library call: job bytes, lent sheet space and a lent work area; with lent page space too in `page`.
+pub mod page;
+
 use jobfile::Verdict;
 use rules::Refusal;
 use rules::Reply;

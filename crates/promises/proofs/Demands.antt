@@ -1,9 +1,10 @@
 -- What is promised of every call. A reader starts here: the three demands as theorems, each under the user's own sentence, and what
 -- later requests promise beyond them, each under the request's.
 -- `answer bytes sheet work` (rules/specs/Answers) is what the library call gives on the bytes of a job file, a lent sheet and a
--- lent work area: the reply, and what sheet and work area hold after it. The public contracts are equations with it.
+-- lent work area: the reply, and what sheet and work area hold after it. The public contracts are equations with it, and with
+-- `pageAnswer` (rules/specs/PageAnswers) where a page is lent too.
 -- The words of the statements are in specs/: the causes of the table (Causes), what a sheet says (Contents), what calls give (Calls),
--- and of the requests #101 (EmptyLists) and #102 (Uprights).
+-- and of the requests #101 (EmptyLists), #102 (Uprights) and #103 (Pages).
 use Prim.Native.Nat.{ℕ, _+_, _*_, _-_, _/_, _≤_, _<_}
 use mathlib.Core.Path.{_≡_, refl, sym, _∙_, ap, subst}
 use mathlib.Core.Logic.{_⊎_, _↔_}
@@ -14,8 +15,9 @@ use Rattle.rules.specs.declared.Layout.{Layout}
 use Rattle.rules.specs.declared.Policy.{Policy}
 use Rattle.rules.specs.declared.Policy.the-variants.{Exact}
 use Rattle.rules.specs.declared.Posts.the-variants.{NoPosts, Every}
+use Rattle.rules.specs.declared.Pick.{Pick}
 use Rattle.rules.specs.declared.Refusal.{Refusal}
-use Rattle.rules.specs.declared.Refusal.the-variants.{WorkArea, ListBounds, ShortOfStock, SheetSpace}
+use Rattle.rules.specs.declared.Refusal.the-variants.{WorkArea, ListBounds, ShortOfStock, SheetSpace, PageSpace}
 use Rattle.rules.specs.declared.Reply.the-variants.{Served, Refused}
 use Rattle.rules.specs.Store.{WithoutPosts, aisleLength, position, Edge, InStore, layoutInBounds}
 use Rattle.rules.specs.Jobs.{Job, jobWithPosts}
@@ -28,9 +30,10 @@ use Rattle.rules.specs.BestPlan.{emptyPlan}
 use Rattle.rules.specs.Refusals.{numberOf, workLimit, cleared, Admitted}
 use Rattle.rules.specs.Sheet.{sheetText}
 use Rattle.rules.specs.Answers.{answer, hostAnswer, sheetLimit, letterR, output}
+use Rattle.rules.specs.PageAnswers.{pageAnswer, hostPageAnswer, pageLimit, pageOutput}
 use Rattle.rules.specs.Policies.{inFrontHalf, inBackHalf, Follows, Allowed}
 use Rattle.rules.specs.Serving.{PlanServes}
-use Rattle.rules.specs.Examples.{_⨯_, alpha, AllHold, cases, ownCases}
+use Rattle.rules.specs.Examples.{_⨯_, alpha, AllHold, cases, ownCases, workedJob, workedPage}
 use Rattle.rules.proofs.Cases as Cases
 use Rattle.closedwalks.proofs.Statements.{walk-reads, plan-determined}
 use Rattle.promises.specs.Causes.{JobFileOf, LineOutOfStock, OfJob, Cause, tableRow, FirstCause}
@@ -38,8 +41,12 @@ use Rattle.promises.specs.Contents.{Content}
 use Rattle.promises.specs.Calls.{RefusedCall, ServedCall, Shows, Obeys, Shortest, TreadsAs, hostWork, hostGets, HostCall, PrintsSheet, PrintsRefusal}
 use Rattle.promises.specs.EmptyLists.{NothingToFetch, emptySheet, ShowsNothing}
 use Rattle.promises.specs.Uprights.{PostsOfNothing}
+use Rattle.promises.specs.Pages.{PageCause, FirstPageCause, RefusedPageCall, ServedPageCall, AlongTheWalk, ShowsPage, HostPageCall, PrintsPage, PrintsPageRefusal}
 use Rattle.promises.proofs.EmptyLists
 use Rattle.promises.proofs.Uprights
+use Rattle.promises.proofs.PageCalls
+use Rattle.promises.proofs.Clipboard
+use Rattle.promises.proofs.PageHost
 use Rattle.promises.proofs.Entering.{oneNine, throughAisleOne, entering-serves, entering-exact, entering-others}
 use Rattle.promises.proofs.Table.{job-file-read, refused-for, refused-by, served-for, served-by}
 use Rattle.promises.proofs.Shown.{refused-call, served-call, best, best-obeys, best-shortest, shown, shown-best}
@@ -257,3 +264,62 @@ halves-by-distance = Uprights.halves
 -- "The ceiling on a tour becomes 57,280 dm."
 pub ceiling : (bytes sheet work : List ℕ) (job : Job) (c : Content) → Shows bytes sheet work job c → c .length ≤ 57280
 ceiling = Uprights.below-ceiling
+
+pub record PageDemand1 (bytes sheet page work : List ℕ) : Type 0 where
+  -- a page call is refused with a refusal exactly if that is the first of the table, row 11 included, that applies
+  pub refusal : (r : Refusal) → (pageAnswer bytes sheet page work .call .reply ≡ Refused r) ↔ FirstPageCause r bytes sheet page work
+  pub refused : (r : Refusal) → pageAnswer bytes sheet page work .call .reply ≡ Refused r → RefusedPageCall r sheet page work (pageAnswer bytes sheet page work)
+  -- it is served exactly if none applies
+  pub serving : ((n : ℕ) × (pageAnswer bytes sheet page work .call .reply ≡ Served n)) ↔ ((r : Refusal) → PageCause r bytes sheet page work → ⊥)
+  pub served : (n : ℕ) → pageAnswer bytes sheet page work .call .reply ≡ Served n → OfJob bytes (λ job. ServedPageCall job sheet page work (pageAnswer bytes sheet page work))
+
+-- Request #103: "Answers: 11, with length 0, where the page is longer than its space, tried after all of document 01's; page and sheet
+-- stay unchanged and the work area is all zero. A page call also returns the page's byte count; every refusal returns 0 for it and
+-- leaves the page, and bytes past the page never change." Demand 1 of page calls
+pub page-demand-1 : (bytes sheet page work : List ℕ) → PageDemand1 bytes sheet page work
+page-demand-1 bytes sheet page work =
+    record {
+      refusal = PageCalls.refused-page bytes sheet page work;
+      refused = PageCalls.refused-page-call bytes sheet page work;
+      serving = PageCalls.serving-page bytes sheet page work;
+      served = PageCalls.served-page-call bytes sheet page work;
+    }
+
+-- without refusal 11 the reply, the sheet and the work area are those of the call without a page: demands 2 and 3 speak of them
+pub page-call-as-plan : (bytes sheet page work : List ℕ) → (pageAnswer bytes sheet page work .call .reply ≡ Refused PageSpace → ⊥)
+    → pageAnswer bytes sheet page work .call ≡ answer bytes sheet work
+page-call-as-plan = PageCalls.as-without-page
+
+-- "Lines follow the walk, each pick at the first step that reaches its cell. The page's lines are exactly the picks of the sheet, rearranged."
+pub page-is-picks : (bytes sheet page work : List ℕ) (n : ℕ) → pageAnswer bytes sheet page work .call .reply ≡ Served n
+    → (job : Job) × (c : Content) × (order : List Pick) × ShowsPage bytes sheet page work job c order
+page-is-picks = Clipboard.page-shown
+
+-- there is no other order of the sheet's picks along the sheet's walk
+pub page-determined : (bytes sheet work : List ℕ) (job : Job) (c : Content) → Shows bytes sheet work job c
+    → (order other : List Pick) → AlongTheWalk job c order → AlongTheWalk job c other → order ≡ other
+page-determined bytes sheet work = Clipboard.page-determined bytes sheet [] work
+
+-- "Each pick is one line of 24 bytes and a line feed": 255 picks at most, so 6,375 bytes of page space always suffice
+pub page-suffices : (bytes sheet page work : List ℕ) → pageLimit ≤ length page → pageAnswer bytes sheet page work .call .reply ≡ Refused PageSpace → ⊥
+page-suffices = Clipboard.page-space
+
+-- the planning host's page call, which is the library's: the page's byte count times 2^32, plus the number of `plan_sheet`
+pub host-page-call : (bytes sheet page : List ℕ) → hostPageAnswer bytes sheet page ≡ pageAnswer bytes sheet page hostWork
+unfolding hostPageAnswer
+host-page-call bytes sheet page = refl
+
+pub host-page-number : (bytes sheet page : List ℕ) → HostPageCall bytes sheet page
+host-page-number = PageHost.host-page
+
+-- the program `page` prints the page, or `R 1` and the refusal's number, which is never 9, 10 or 11
+pub page-program-prints : (bytes : List ℕ) → ((job : Job) × PrintsPage bytes job) ⊎ ((r : Refusal) × PrintsPageRefusal bytes r)
+page-program-prints = PageHost.page-prints
+
+-- it sees from the first 16,385 bytes that a job is too long
+pub page-output-start : (bytes : List ℕ) → pageOutput (take 16385 bytes) ≡ pageOutput bytes
+page-output-start = PageHost.page-output-start
+
+-- the page of document 01's worked job; how wide its columns are and which step counts is pinned by `texts-hold` (rules/proofs/Cases)
+pub worked-page : pageOutput workedJob ≡ workedPage
+worked-page = Cases.page-calls .0

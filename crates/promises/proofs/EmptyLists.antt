@@ -13,7 +13,7 @@ use Rattle.rules.specs.declared.Passage.the-variants.{P00}
 use Rattle.rules.specs.declared.Policy.{Policy}
 use Rattle.rules.specs.declared.Policy.the-variants.{Exact, Return, Traversal, Midpoint, Composite}
 use Rattle.rules.specs.declared.Refusal.{Refusal}
-use Rattle.rules.specs.declared.Refusal.the-variants.{WorkArea, NotAJobFile, LayoutBounds, StockBounds, CellTwice, ListBounds, ArticleTwice, TooHeavy, ShortOfStock, SheetSpace}
+use Rattle.rules.specs.declared.Refusal.the-variants.{WorkArea, NotAJobFile, LayoutBounds, StockBounds, CellTwice, ListBounds, ArticleTwice, TooHeavy, ShortOfStock, SheetSpace, PageSpace}
 use Rattle.rules.specs.declared.Reply.the-variants.{Served}
 use Rattle.rules.specs.Store.{layoutInBounds}
 use Rattle.rules.specs.Jobs.{Job}
@@ -96,6 +96,7 @@ module _ (bytes sheet work : List ℕ) (job : Job) (file : JobFileOf bytes job) 
   no-list-cause TooHeavy low high (other, f, heavy) = let one = ap weight (none-in other f) in omega arith
   no-list-cause ShortOfStock low high (other, f, line) = none-listed other f (line .0) (line .1)
   no-list-cause SheetSpace low high c = absurd (omega arith)
+  no-list-cause PageSpace low high c = absurd (omega arith)
 
 -- the sheet of an empty list
 pub empty-sheet : (job : Job) → layoutInBounds (job .layout) ≡ true → job .lines ≡ [] → sheetText job ≡ emptySheet job

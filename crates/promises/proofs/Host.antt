@@ -6,7 +6,7 @@ use mathlib.Core.Logic.{_↔_}
 use mathlib.Core.List.{List, [], _∷_}
 use lib.ListN.{length, length-replicate}
 use Rattle.rules.specs.declared.Refusal.{Refusal}
-use Rattle.rules.specs.declared.Refusal.the-variants.{WorkArea, NotAJobFile, LayoutBounds, StockBounds, CellTwice, ListBounds, ArticleTwice, TooHeavy, ShortOfStock, SheetSpace}
+use Rattle.rules.specs.declared.Refusal.the-variants.{WorkArea, NotAJobFile, LayoutBounds, StockBounds, CellTwice, ListBounds, ArticleTwice, TooHeavy, ShortOfStock, SheetSpace, PageSpace}
 use Rattle.rules.specs.declared.Reply.{Reply}
 use Rattle.rules.specs.declared.Reply.the-variants.{Served, Refused}
 use Rattle.rules.specs.Lists.{nth}
@@ -21,7 +21,7 @@ use Rattle.promises.proofs.Shown.{refused-call, served-call}
 
 -- a refusal's number tells the refusal
 abbrev byNumber : List Refusal
-byNumber = NotAJobFile ∷ LayoutBounds ∷ StockBounds ∷ CellTwice ∷ ListBounds ∷ ArticleTwice ∷ TooHeavy ∷ ShortOfStock ∷ SheetSpace ∷ WorkArea ∷ []
+byNumber = NotAJobFile ∷ LayoutBounds ∷ StockBounds ∷ CellTwice ∷ ListBounds ∷ ArticleTwice ∷ TooHeavy ∷ ShortOfStock ∷ SheetSpace ∷ WorkArea ∷ PageSpace ∷ []
 
 numbered : (r : Refusal) → nth byNumber (numberOf r) WorkArea ≡ r
 numbered WorkArea = refl
@@ -34,6 +34,7 @@ numbered ArticleTwice = refl
 numbered TooHeavy = refl
 numbered ShortOfStock = refl
 numbered SheetSpace = refl
+numbered PageSpace = refl
 
 pub refusal-number-tells : (q r : Refusal) → numberOf q ≡ numberOf r → q ≡ r
 refusal-number-tells q r e = sym (numbered q) ∙ ap (λ n. nth byNumber n WorkArea) e ∙ numbered r

@@ -1,6 +1,5 @@
 pub mod Table
 pub mod Picks
-pub mod Taken
 pub mod PickRule
 pub mod Texts
 pub mod Best
@@ -11,5 +10,8 @@ pub mod Program
 pub mod Entering
 pub mod EmptyLists
 pub mod Uprights
+pub mod PageCalls
+pub mod Clipboard
+pub mod PageHost
 pub mod Demands
 pub mod Theory

@@ -13,14 +13,14 @@ use Rattle.rules.specs.declared.Pick.{Pick}
 use Rattle.rules.specs.Jobs.{Job}
 use Rattle.rules.specs.Plans.{Plan, planPasses}
 use Rattle.rules.specs.Refusals.{Admitted}
-use Rattle.rules.specs.Picks.{lackOf, lessOf, taken, addPick, picksFrom, passedRecords, picksOf}
+use Rattle.rules.specs.Picks.{lackOf, lessOf, taken, addPick, picksFrom, passedRecords, picksOf, CellBefore, PickBefore}
 use Rattle.rules.specs.Lists.{Sorted}
 use Rattle.rules.proofs.Admission.{list-within, articles-once, one-record-per-cell}
-use Rattle.promises.specs.Contents.{Content, pickedBy, CellBefore, PickBefore, cellBefore, pickedFrom, pickedBefore}
+use Rattle.promises.specs.Contents.{Content, pickedBy, cellBefore, pickedFrom, pickedBefore}
 use Rattle.promises.specs.Calls.{Obeys}
 use Rattle.promises.proofs.Table.{untrue}
 use Rattle.promises.proofs.Picks.{Apart, lack-listed, lack-line, lack-less, less-apart, pickOf, add-pick}
-use Rattle.promises.proofs.Taken.{FromRecord, pick-record, RecordBefore, pick-behind, passed-sorted, passed-record, passed-member}
+use Rattle.rules.proofs.Taken.{FromRecord, pick-record, RecordBefore, pick-behind, passed-sorted, passed-record, passed-member}
 
 -- the order of cells and its test
 pub cell-before : (i b j c : ℕ) → (cellBefore i b j c ≡ true) ↔ CellBefore i b j c

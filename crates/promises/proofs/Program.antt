@@ -64,7 +64,7 @@ pub longer-printed : (bytes : List ℕ) → jobFileLimit < length bytes → outp
 longer-printed bytes l = printed-answer bytes (Refused NotAJobFile) (longer-answer bytes programSheet hostWork l (omega (arith, length-replicate {A = ℕ} workLimit 0)))
 
 -- and it does not matter what follows the first 16,385
-read-start : (bytes : List ℕ) → readJob (take 16385 bytes) ≡ readJob bytes
+pub read-start : (bytes : List ℕ) → readJob (take 16385 bytes) ≡ readJob bytes
 read-start bytes = go (leb (length bytes) jobFileLimit) refl
   where
     go : (t : Bool) → leb (length bytes) jobFileLimit ≡ t → readJob (take 16385 bytes) ≡ readJob bytes

@@ -1,13 +1,13 @@
 -- What calls give, and what the sheet of a served call shows: the sheet of the best plan, and nothing else.
 use Prim.Native.Nat.{ℕ}
 use native.Mathlib.Omega.{arith}
-use mathlib.Core.Path.{_≡_, refl, sym, _∙_, ap}
+use mathlib.Core.Path.{_≡_, refl, sym, _∙_, ap, subst}
 use mathlib.Core.List.{List, _++_}
 use mathlib.Core.Option.{some}
 use lib.ListN.{length, take, drop, length-append, length-drop}
 use lib.Seq.{take-at, take-append-seam, drop-append-seam}
 use Rattle.rules.specs.declared.Refusal.{Refusal}
-use Rattle.rules.specs.declared.Refusal.the-variants.{WorkArea, NotAJobFile, LayoutBounds, StockBounds, CellTwice, ListBounds, ArticleTwice, TooHeavy, ShortOfStock, SheetSpace}
+use Rattle.rules.specs.declared.Refusal.the-variants.{WorkArea, NotAJobFile, LayoutBounds, StockBounds, CellTwice, ListBounds, ArticleTwice, TooHeavy, ShortOfStock, SheetSpace, PageSpace}
 use Rattle.rules.specs.declared.Reply.the-variants.{Served, Refused}
 use Rattle.rules.specs.Jobs.{Job}
 use Rattle.rules.specs.JobFile.{readJob}
@@ -19,12 +19,12 @@ use Rattle.rules.specs.Answers.{answer}
 use Rattle.rules.proofs.Admission.{layout-within}
 use Rattle.closedwalks.proofs.Statements.{first-walk}
 use Rattle.optimum.proofs.Best.{best-plan}
-use Rattle.promises.specs.Causes.{OfJob}
+use Rattle.promises.specs.Causes.{OfJob, Cause}
 use Rattle.promises.specs.Contents.{Content, contentText, contentOf}
 use Rattle.promises.specs.Calls.{RefusedCall, ServedCall, Shows, Obeys, Shortest}
 use Rattle.promises.proofs.Table.{job-file-read, NoCause, refused-for, refused-by, served-for, served-by, served-admitted}
 use Rattle.promises.proofs.Picks.{picks-meet, pick-listed}
-use Rattle.promises.proofs.Taken.{pick-taken, picks-ordered}
+use Rattle.rules.proofs.Taken.{pick-taken, picks-ordered}
 use Rattle.promises.proofs.PickRule.{picks-rule}
 use Rattle.promises.proofs.Texts.{content-determined}
 use Rattle.promises.proofs.Best.{best-walk}
@@ -65,25 +65,28 @@ best-shortest job a =
       least-walk = best-walk job a;
     }
 
--- every refusal but that of the sheet space leaves the work area as it was
-kept : (r : Refusal) (work : List ℕ) → (r ≡ SheetSpace → ⊥) → workAfter r work ≡ work
-kept WorkArea work n = refl
-kept NotAJobFile work n = refl
-kept LayoutBounds work n = refl
-kept StockBounds work n = refl
-kept CellTwice work n = refl
-kept ListBounds work n = refl
-kept ArticleTwice work n = refl
-kept TooHeavy work n = refl
-kept ShortOfStock work n = refl
-kept SheetSpace work n = absurd (n refl)
+-- every refusal but those of the sheet space and of the page space leaves the work area as it was
+pub kept : (r : Refusal) (work : List ℕ) → (r ≡ SheetSpace → ⊥) → (r ≡ PageSpace → ⊥) → workAfter r work ≡ work
+kept WorkArea work n k = refl
+kept NotAJobFile work n k = refl
+kept LayoutBounds work n k = refl
+kept StockBounds work n k = refl
+kept CellTwice work n k = refl
+kept ListBounds work n k = refl
+kept ArticleTwice work n k = refl
+kept TooHeavy work n k = refl
+kept ShortOfStock work n k = refl
+kept SheetSpace work n k = absurd (n refl)
+kept PageSpace work n k = absurd (k refl)
 
 module _ (bytes sheet work : List ℕ) where
   -- a refused call gives what the table says
   pub refused-call : (r : Refusal) → answer bytes sheet work .reply ≡ Refused r → RefusedCall r sheet work (answer bytes sheet work)
   refused-call r e =
-      let t = refused-for bytes sheet work r (refused-by bytes sheet work r e) in
-      rw t (record { number = refl; count = refl; sheet-kept = refl; work-left = kept r work; work-cleared = λ e. ap (λ q. workAfter q work) e })
+      let f = refused-by bytes sheet work r e in
+      let t = refused-for bytes sheet work r f in
+      let no-page : r ≡ PageSpace → ⊥ = λ p. subst (λ q. Cause q bytes sheet work) p (f .applies) in
+      rw t (record { number = refl; count = refl; sheet-kept = refl; work-left = λ n. kept r work n no-page; work-cleared = λ e. ap (λ q. workAfter q work) e })
 
   -- a served call gives the sheet of its job
   pub served-call : (n : ℕ) → answer bytes sheet work .reply ≡ Served n → OfJob bytes (λ job. ServedCall job sheet work (answer bytes sheet work))

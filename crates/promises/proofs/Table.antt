@@ -2,15 +2,15 @@
 use Prim.Native.Nat.{ℕ, suc, _≤_, _<_}
 use native.Mathlib.Omega.{arith}
 use mathlib.Core.Path.{_≡_, refl, sym, _∙_, ap, subst}
-use mathlib.Core.Logic.{_↔_}
-use mathlib.Core.List.{List, [], _∷_, _++_, map, List·Memᴰ, List·Memᴰ·head, List·Memᴰ·tail, List·Memᴰ·not-nil}
+use mathlib.Core.Logic.{_↔_, ⊎-elim}
+use mathlib.Core.List.{List, [], _∷_, _++_, map, List·Memᴰ, List·Memᴰ·head, List·Memᴰ·tail, List·Memᴰ·not-nil, List·Memᴰ·append-cases, List·Memᴰ·eq-of-singleton}
 use mathlib.Core.Bool.{Bool, true, false, not, _||_, true≢false, false≢true}
 use mathlib.Core.Option.{Option, none, some}
 use borrow.Author.Tests.{ltb-true, lt-ltb, le-ltb, ltb-false, not-false}
 use lib.Dec.{ltb}
 use lib.ListN.{length, drop}
 use Rattle.rules.specs.declared.Refusal.{Refusal}
-use Rattle.rules.specs.declared.Refusal.the-variants.{WorkArea, NotAJobFile, LayoutBounds, StockBounds, CellTwice, ListBounds, ArticleTwice, TooHeavy, ShortOfStock, SheetSpace}
+use Rattle.rules.specs.declared.Refusal.the-variants.{WorkArea, NotAJobFile, LayoutBounds, StockBounds, CellTwice, ListBounds, ArticleTwice, TooHeavy, ShortOfStock, SheetSpace, PageSpace}
 use Rattle.rules.specs.declared.Reply.the-variants.{Served, Refused}
 use Rattle.rules.specs.Lists.{anyOf, anyTwo, nth, Sorted}
 use Rattle.rules.specs.Store.{layoutInBounds}
@@ -95,6 +95,7 @@ applies ArticleTwice o sheet work = ofJob o (λ job. anyTwo sameArticle (job .li
 applies TooHeavy o sheet work = ofJob o (λ job. ltb 256 (weight (job .lines)))
 applies ShortOfStock o sheet work = ofJob o (λ job. shortOfStock job)
 applies SheetSpace o sheet work = ofJob o (λ job. ltb (length sheet) (length (sheetText job)))
+applies PageSpace o sheet work = false
 
 applies-said : (r : Refusal) (bytes sheet work : List ℕ) → (applies r (readJob bytes) sheet work ≡ true) ↔ Cause r bytes sheet work
 unfolding SameCell SameArticle LineOutOfStock
@@ -109,17 +110,22 @@ applies-said ArticleTwice bytes sheet work = of-job-said bytes _ _ (λ job. two-
 applies-said TooHeavy bytes sheet work = of-job-said bytes _ _ (λ job. less-said 256 (weight (job .lines)))
 applies-said ShortOfStock bytes sheet work = of-job-said bytes _ _ line-out-of-stock
 applies-said SheetSpace bytes sheet work = of-job-said bytes _ _ (λ job. less-said (length sheet) (length (sheetText job)))
+applies-said PageSpace bytes sheet work = (λ e. absurd (false≢true e), λ c. absurd c)
 
 -- the rows of the table: the first, and those that speak of the job file
 abbrev fileRows : List Refusal
 fileRows =
     NotAJobFile ∷ LayoutBounds ∷ StockBounds ∷ CellTwice ∷ ListBounds ∷ ArticleTwice ∷ TooHeavy ∷ ShortOfStock ∷ SheetSpace ∷ []
 
-abbrev allRows : List Refusal
-allRows = WorkArea ∷ fileRows
+abbrev tableRows : List Refusal
+tableRows = WorkArea ∷ fileRows
+
+-- and #103's, behind them
+abbrev pub allRows : List Refusal
+allRows = tableRows ++ (PageSpace ∷ [])
 
 -- every refusal stands in its row
-row-of : (r : Refusal) → (tableRow r < 10) × (nth allRows (suc (tableRow r)) WorkArea ≡ r)
+pub row-of : (r : Refusal) → (tableRow r < 11) × (nth allRows (suc (tableRow r)) WorkArea ≡ r)
 row-of WorkArea = (omega arith, refl)
 row-of NotAJobFile = (omega arith, refl)
 row-of LayoutBounds = (omega arith, refl)
@@ -130,11 +136,17 @@ row-of ArticleTwice = (omega arith, refl)
 row-of TooHeavy = (omega arith, refl)
 row-of ShortOfStock = (omega arith, refl)
 row-of SheetSpace = (omega arith, refl)
+row-of PageSpace = (omega arith, refl)
 
-in-table : (r : Refusal) → List·Memᴰ r allRows
-in-table r = let t = row-of r in subst (λ (q : Refusal). List·Memᴰ q allRows) (t .1) (place-member WorkArea allRows (tableRow r) (t .0))
+in-rows : (r : Refusal) → List·Memᴰ r allRows
+in-rows r = let t = row-of r in subst (λ (q : Refusal). List·Memᴰ q allRows) (t .1) (place-member WorkArea allRows (tableRow r) (t .0))
 
-same-row : (q r : Refusal) → tableRow q ≡ tableRow r → q ≡ r
+-- and one with a cause is in the table of document 01
+in-table : (r : Refusal) (bytes sheet work : List ℕ) → Cause r bytes sheet work → List·Memᴰ r tableRows
+in-table r bytes sheet work c =
+    ⊎-elim (λ m. m) (λ m. absurd (subst (λ q. Cause q bytes sheet work) (List·Memᴰ·eq-of-singleton m) c)) (List·Memᴰ·append-cases tableRows (in-rows r))
+
+pub same-row : (q r : Refusal) → tableRow q ≡ tableRow r → q ≡ r
 same-row q r e = sym (row-of q .1) ∙ ap (λ n. nth allRows (suc n) WorkArea) e ∙ row-of r .1
 
 module _ (t : Refusal → Bool) where
@@ -174,7 +186,7 @@ module _ (sheet work : List ℕ) where
 module _ (bytes sheet work : List ℕ) where
   -- the first cause that applies, or none
   abbrev firstCause : Option Refusal
-  firstCause = firstRow (tested (λ r. applies r (readJob bytes) sheet work) allRows)
+  firstCause = firstRow (tested (λ r. applies r (readJob bytes) sheet work) tableRows)
 
   answers-for : AnswersFor sheet work (readJob bytes) firstCause (answer bytes sheet work)
   unfolding answer refused served
@@ -198,14 +210,14 @@ module _ (bytes sheet work : List ℕ) where
   CausedBy (some r) = FirstCause r bytes sheet work
 
   caused-by : CausedBy firstCause
-  caused-by = go firstCause (first-of (λ r. applies r (readJob bytes) sheet work) allRows (sorted-by tableRow _<_ allRows (sorted-from 0 10)))
+  caused-by = go firstCause (first-of (λ r. applies r (readJob bytes) sheet work) tableRows (sorted-by tableRow _<_ tableRows (sorted-from 0 10)))
     where
-      absent : (q : Refusal) → applies q (readJob bytes) sheet work ≡ false → Cause q bytes sheet work → ⊥
-      absent q e c = true≢false (sym (applies-said q bytes sheet work .1 c) ∙ e)
+      absent : (q : Refusal) → (List·Memᴰ q tableRows → applies q (readJob bytes) sheet work ≡ false) → Cause q bytes sheet work → ⊥
+      absent q e c = true≢false (sym (applies-said q bytes sheet work .1 c) ∙ e (in-table q bytes sheet work c))
 
-      go : (o : Option Refusal) → FirstOf (λ r. applies r (readJob bytes) sheet work) allRows o → CausedBy o
-      go none f = λ q c. absent q (f q (in-table q)) c
-      go (some r) f = record { applies = applies-said r bytes sheet work .0 (f .0); none-above = λ q l c. absent q (f .1 q (in-table q) l) c }
+      go : (o : Option Refusal) → FirstOf (λ r. applies r (readJob bytes) sheet work) tableRows o → CausedBy o
+      go none f = λ q c. absent q (f q) c
+      go (some r) f = record { applies = applies-said r bytes sheet work .0 (f .0); none-above = λ q l c. absent q (λ m. f .1 q m l) c }
 
   -- there is one first cause
   one-first-cause : (q r : Refusal) → FirstCause q bytes sheet work → FirstCause r bytes sheet work → q ≡ r
@@ -290,3 +302,4 @@ module _ (bytes sheet work : List ℕ) where
       fails TooHeavy = le-ltb 256 (weight (job .lines)) (a .light)
       fails ShortOfStock = a .in-stock
       fails SheetSpace = le-ltb (length sheet) (length (sheetText job)) s
+      fails PageSpace = refl

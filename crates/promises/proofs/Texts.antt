@@ -2,10 +2,9 @@
 use Prim.Native.Nat.{ℕ, zero, suc}
 use mathlib.Core.Path.{_≡_, refl, sym, _∙_, ap, ap₂}
 use mathlib.Core.List.{List, [], _∷_, _++_, append-assoc, append-nil}
-use mathlib.Core.Bool.{Bool, true, false, cond}
-use borrow.Author.Tests.{eqb-true}
+use mathlib.Core.Bool.{false, cond}
 use lib.Dec.{eqb}
-use lib.ListN.{length, drop, replicate}
+use lib.ListN.{length, drop}
 use Rattle.rules.specs.declared.Policy.{Policy}
 use Rattle.rules.specs.declared.Policy.the-variants.{Exact, Return, Traversal, Midpoint, Composite}
 use Rattle.rules.specs.declared.Action.{Action}
@@ -18,9 +17,10 @@ use Rattle.rules.specs.declared.Pick.{Pick}
 use Rattle.rules.specs.declared.Run.{Run}
 use Rattle.rules.specs.Lists.{concatOf, headOr}
 use Rattle.rules.specs.JobFile.{space, lineFeed, numeral, field, header, policyWord, sectionText, isDigit, leadingDigits, valueOf}
-use Rattle.rules.specs.Walks.{Walk, letterRank}
-use Rattle.rules.specs.Sheet.{letterA, letterC, letterP, letterW, totalText, actionText, passageText, pickText, letterOf, addStep, runsOf, runText}
+use Rattle.rules.specs.Sheet.{letterA, letterC, letterP, letterW, totalText, actionText, passageText, pickText, letterOf, runsOf, runText}
 use Rattle.rules.proofs.Numbers.{numeral-digits, valueOf-numeral, leadingDigits-append}
+use Rattle.visits.specs.Visited.{walkOfRuns}
+use Rattle.visits.proofs.Runs.{walk-of-runs}
 use Rattle.promises.specs.Contents.{Content, contentText}
 
 -- a reader takes a value from the front of the bytes, and reads a text when it gives its value and the bytes behind it
@@ -167,38 +167,6 @@ reads-run r rest = rw (reads-line (r .steps) rest) (go (r .direction))
     go Left = refl
     go Right = refl
 
--- the steps of runs
-stepsIn : List Run → Walk
-stepsIn = concatOf (λ (r : Run). replicate (r .steps) (r .direction))
-
-same-direction : (d e : Direction) → letterRank d ≡ letterRank e → d ≡ e
-same-direction d e h = sym (back d) ∙ ap named h ∙ back e
-  where
-    named : ℕ → Direction
-    named n = cond (eqb n 0) Back (cond (eqb n 1) Front (cond (eqb n 2) Left Right))
-
-    back : (c : Direction) → named (letterRank c) ≡ c
-    back Back = refl
-    back Front = refl
-    back Left = refl
-    back Right = refl
-
-steps-add : (d : Direction) (rs : List Run) → stepsIn (addStep d rs) ≡ d ∷ stepsIn rs
-unfolding stepsIn
-steps-add d [] = refl
-steps-add d (r ∷ rs) = go (eqb (letterRank d) (letterRank (r .direction))) refl
-  where
-    go : (b : Bool) → eqb (letterRank d) (letterRank (r .direction)) ≡ b
-        → stepsIn (cond b (record { direction = d; steps = suc (r .steps) } ∷ rs) (record { direction = d; steps = 1 } ∷ r ∷ rs)) ≡ d ∷ stepsIn (r ∷ rs)
-    go true e = ap (λ c. d ∷ (replicate (r .steps) c ++ stepsIn rs)) (same-direction d (r .direction) (eqb-true (letterRank d) (letterRank (r .direction)) e))
-    go false e = refl
-
--- a walk's runs have its steps
-steps-runs : (walk : Walk) → stepsIn (runsOf walk) ≡ walk
-unfolding stepsIn
-steps-runs [] = refl
-steps-runs (d ∷ walk) = steps-add d (runsOf walk) ∙ ap (λ w. d ∷ w) (steps-runs walk)
-
 readContent : List ℕ → Content
 readContent s =
     let count = readNumber (drop 2 s) in
@@ -213,7 +181,7 @@ readContent s =
       policy = policy .0;
       plan = record { actions = actions .0; passages = passages .0 };
       picks = picks .0;
-      walk = stepsIn (runs .0);
+      walk = walkOfRuns (runs .0);
     }
 
 -- what a sheet says is read back
@@ -236,7 +204,7 @@ content-read c =
       reads-section readPassage passageText reads-passage letterC (c .plan .passages) picks,
       reads-section readPick pickText reads-pick letterP (c .picks) runs,
       last,
-      steps-runs (c .walk),
+      walk-of-runs (c .walk),
     )
 
 -- so no two contents have the same text

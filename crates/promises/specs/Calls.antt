@@ -20,6 +20,7 @@ use Rattle.rules.specs.Plans.{Plan, WellFormed, multiplicity, lengthOf, planLen
 use Rattle.rules.specs.Policies.{Allowed}
 use Rattle.rules.specs.Serving.{PlanServes, WalkServes}
 use Rattle.rules.specs.Walks.{Walk, ClosedWalk, NotAfter, walkTreads, walkLength}
+use Rattle.rules.specs.Picks.{TakenFrom, PickBefore}
 use Rattle.rules.specs.FirstWalk.{WalkOf}
 use Rattle.rules.specs.BestPlan.{PlanBefore}
 use Rattle.rules.specs.Refusals.{numberOf, workLimit, cleared}
@@ -27,7 +28,7 @@ use Rattle.rules.specs.Sheet.{sheetText}
 use Rattle.rules.specs.Answers.{Answer, answer, replyNumber, replyLength, hostAnswer, hostNumber, sheetLimit, letterR, output}
 use Rattle.rules.specs.Lists.{Sorted}
 use Rattle.promises.specs.Causes.{JobFileOf, OfJob, Cause, FirstCause}
-use Rattle.promises.specs.Contents.{Content, contentText, picked, TakenFrom, PickBefore, pickedFrom, pickedBefore}
+use Rattle.promises.specs.Contents.{Content, contentText, picked, pickedFrom, pickedBefore}
 
 -- a refused call: the table's number, length 0, the sheet as it was; the work area as it was too,
 -- but all zero where the sheet is longer than its space

@@ -6,7 +6,7 @@ use lib.ListN.{length}
 use Rattle.rules.specs.declared.StockRecord.{StockRecord}
 use Rattle.rules.specs.declared.OrderLine.{OrderLine}
 use Rattle.rules.specs.declared.Refusal.{Refusal}
-use Rattle.rules.specs.declared.Refusal.the-variants.{WorkArea, NotAJobFile, LayoutBounds, StockBounds, CellTwice, ListBounds, ArticleTwice, TooHeavy, ShortOfStock, SheetSpace}
+use Rattle.rules.specs.declared.Refusal.the-variants.{WorkArea, NotAJobFile, LayoutBounds, StockBounds, CellTwice, ListBounds, ArticleTwice, TooHeavy, ShortOfStock, SheetSpace, PageSpace}
 use Rattle.rules.specs.Jobs.{Job}
 use Rattle.rules.specs.JobFile.{Writable, jobText, jobFileLimit}
 use Rattle.rules.specs.Refusals.{weight, weightLimit, allStock, StockWithin, ListWithin, workLimit}
@@ -50,6 +50,7 @@ Cause ArticleTwice bytes sheet work = OfJob bytes (λ job. TwoAlike SameArticle 
 Cause TooHeavy bytes sheet work = OfJob bytes (λ job. weightLimit < weight (job .lines))
 Cause ShortOfStock bytes sheet work = OfJob bytes LineOutOfStock
 Cause SheetSpace bytes sheet work = OfJob bytes (λ job. length sheet < length (sheetText job))
+Cause PageSpace bytes sheet work = ⊥  -- no page is lent; with a page: `PageCause`
 
 -- the place of a refusal's row in the table, from 0
 abbrev pub tableRow : Refusal → ℕ
@@ -63,6 +64,7 @@ tableRow ArticleTwice = 6
 tableRow TooHeavy = 7
 tableRow ShortOfStock = 8
 tableRow SheetSpace = 9
+tableRow PageSpace = 10
 
 -- a refusal is the first of the table that applies: its cause does, and that of no row above it
 pub record FirstCause (r : Refusal) (bytes sheet work : List ℕ) : Type 0 where

@@ -3,3 +3,4 @@ pub mod Contents
 pub mod Calls
 pub mod EmptyLists
 pub mod Uprights
+pub mod Pages

@@ -3,13 +3,12 @@ use Prim.Native.Nat.{ℕ, _-_, _≤_, _<_}
 use native.Mathlib.Omega.{arith}
 use mathlib.Core.Path.{_≡_, ap}
 use mathlib.Core.List.{List, _++_}
-use lib.ListN.{length, take, replicate, length-append}
+use lib.ListN.{take, replicate}
 use Rattle.rules.specs.declared.Reply.{Reply}
 use Rattle.rules.specs.declared.Reply.the-variants.{Served, Refused}
 use Rattle.rules.specs.JobFile.{lineFeed, header, field}
 use Rattle.rules.specs.Refusals.{numberOf, workLimit}
 use Rattle.rules.specs.Answers.{replyLength, sheetLimit, hostAnswer, hostNumber, letterR, printed}
-use Rattle.lines.proofs.Sizes.{digits-most, field-size, header-size}
 use Rattle.planner.proofs.Space.{served-length}
 
 -- the host's byte count is at most 16,384
@@ -29,7 +28,3 @@ refusal-printed (Served k) sheet n h e l = absurd (omega arith)
 refusal-printed (Refused r) sheet n h e l =
     let number : n - 65536 ≡ numberOf r = omega arith in
     ap (λ m. header letterR 1 ++ field lineFeed m) number
-
--- a refusal's text has at most 15 bytes
-pub refusal-short : (n : ℕ) → n < 10000000000 → length (header letterR 1 ++ field lineFeed n) ≤ 15
-refusal-short n h = rw (length-append, header-size letterR 1, field-size lineFeed n) (omega (arith, digits-most 9 n h, digits-most 0 1 (omega arith)))

@@ -61,6 +61,15 @@ module _ (bytes : List ℕ) where
       read none e = no-file e
       read (some job) e = judged job (jobRefusal job) e refl
 
+-- a job file that is good reads as its job
+pub good-read : (bytes : List ℕ) (job : Job) → checkBytes bytes ≡ good job → readJob bytes ≡ some job
+good-read bytes job = go (file-says bytes)
+  where
+    go : {c : Checked} → FileSays bytes c → c ≡ good job → readJob bytes ≡ some job
+    go (no-file f) e = let z : _≡_ {A = ℕ} 0 1 = cc in absurd (omega arith)
+    go (bad-job j q f g) e = let z : _≡_ {A = ℕ} 0 1 = cc in absurd (omega arith)
+    go (good-job j f g) e = let same : j ≡ job = cc in f ∙ ap some same
+
 module _ (bytes sheet work : List ℕ) where
   -- a work area that is too small: nothing is looked at
   pub answer-area : length work < workLimit → answer bytes sheet work ≡ refused WorkArea sheet work

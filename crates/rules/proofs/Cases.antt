@@ -15,14 +15,14 @@ use Rattle.rules.specs.declared.Passage.the-variants.{P02}
 use Rattle.rules.specs.declared.Refusal.the-variants.{NotAJobFile, LayoutBounds, StockBounds, CellTwice, ArticleTwice, ShortOfStock, ListBounds, TooHeavy}
 use Rattle.rules.specs.Jobs.{Job}
 use Rattle.rules.specs.Plans.{Plan}
-use Rattle.rules.specs.Examples.{Expected, tour, tied, walked, long, refusal, weighing, allowing, HasTour, IsTour, FileEnds, CallGives, Meets, Case, under, underEvery, Holds, AllHold, AllSame}
+use Rattle.rules.specs.Examples.{Expected, tour, tied, walked, long, refusal, weighing, allowing, HasTour, IsTour, FileEnds, CallGives, PageCallGives, Meets, Case, under, underEvery, Holds, AllHold, AllSame}
 use Rattle.rules.specs.Sheet.{runsOf}
 use Rattle.rules.proofs.Pruning.{fits, boundedBest, found-best}
 use Rattle.rules.specs.Lists.{allOf}
 use Rattle.rules.specs.Lengths.{actionLength, passageLength}
 use Rattle.rules.specs.Answers.{refused, served, answer, hostAnswer, output}
 use Rattle.rules.specs.BestPlan.{actionsOf, passagesInOrder, single, prepend, shorterOf, emptyPlan, servingPlans, bestPlan}
-use Rattle.rules.specs.Examples.{stocked, _⨯_, alpha, beta, steps, roundTrip, cases, ownJob, oneEach, midwayFront, midwayBack, farBack, nearBack, bothEnds, bottomOrTop, topOrGap, gapOrOnce, frontOrBack, leftFirst, topTie, withOthers, gapByFront, gapByBack, posted, thirdCells, beforeMiddle, behindMiddle, wrongLayout, wrongStock, sharedCell, sharedArticle, bothBottom, bothOnce, eightLines, nineLines, frontOnly, awayFromDepot, ownCases, twoLines, counted, texts, overfull, RefusedWith, workedJob, workedSheet}
+use Rattle.rules.specs.Examples.{stocked, _⨯_, alpha, beta, steps, roundTrip, cases, ownJob, oneEach, midwayFront, midwayBack, farBack, nearBack, bothEnds, bottomOrTop, topOrGap, gapOrOnce, frontOrBack, leftFirst, topTie, withOthers, gapByFront, gapByBack, posted, thirdCells, beforeMiddle, behindMiddle, wrongLayout, wrongStock, sharedCell, sharedArticle, bothBottom, bothOnce, eightLines, nineLines, frontOnly, awayFromDepot, ownCases, twoLines, counted, fromTheBack, pageFromTheBack, texts, overfull, RefusedWith, workedJob, workedSheet, workedPage}
 use Rattle.rules.specs.FirstWalk.{without, stepsOf, firstWalk}
 use Rattle.rules.specs.JobFile.{numeral, field, header, sectionText, jobText, layoutText, layoutSectionText, recordText, lineText, isDigit, isNumber, readField, readHeader, readPolicyAs, readPolicy, readLayout, readPostsLine, readPosts, readRecord, readLine, readSection, readLayoutSection, readSections, readJob}
 use Rattle.rules.specs.Jobs.{listed, holdsListed}
@@ -30,7 +30,9 @@ use Rattle.rules.specs.Machine.{actionPossible, actionStep, passageStep,
 use Rattle.rules.specs.Picks.{cellsOf, lackOf, lessOf, recordAt, taken, passedRecords, picksOf}
 use Rattle.rules.specs.Plans.{actionAt, passageAt, multiplicity, lengthOf, planLength, planPasses}
 use Rattle.rules.specs.Policies.{inFrontHalf, inBackHalf}
-use Rattle.rules.specs.Refusals.{recordInBounds, stockInBounds, sameCell, lineInBounds, listInBounds, sameArticle, weight, allStock, shortOfStock, jobRows, jobRefusal, checkJob, checkBytes, cleared}
+use Rattle.rules.specs.Page.{aligned, column, pageLine, pickCell, pickedAt, alongWalk, pageOf, pageText}
+use Rattle.rules.specs.PageAnswers.{pageRefused, pageServed, pageAnswer, hostPageAnswer, pageOutput}
+use Rattle.rules.specs.Refusals.{recordInBounds, stockInBounds, sameCell, lineInBounds, listInBounds, sameArticle, weight, allStock, shortOfStock, jobRows, jobRefusal, checkJob, checkBytes, cleared, pageTable}
 use Rattle.rules.specs.Serving.{supply, serves}
 use Rattle.rules.specs.Sheet.{totalText, passageText, pickText, runText, sheetOf, sheetText}
 use Rattle.rules.specs.Store.{aisleLength, position, backHeight, depotPoint, distance, edgesOf, within, layoutInBounds, sameEdge, samePoint}
@@ -182,9 +184,14 @@ own-cases-hold = all-hold ownCases own-cases-computed
 
 -- the texts of words and lines, byte for byte
 pub texts-hold : AllSame texts
-unfolding texts twoLines counted posted thirdCells jobText sectionText readPolicyAs readPolicy readLayout readPostsLine readPosts readRecord readLine readSection within layoutInBounds ownJob stocked _⨯_ numeral field header layoutText layoutSectionText recordText lineText passageText pickText isDigit isNumber readField readHeader readLayoutSection readSections readJob answer refused hostAnswer output
+unfolding texts twoLines counted posted thirdCells jobText sectionText readPolicyAs readPolicy readLayout readPostsLine readPosts readRecord readLine
+    readSection within layoutInBounds ownJob stocked _⨯_ numeral field header layoutText layoutSectionText recordText lineText passageText pickText
+    isDigit isNumber readField readHeader readLayoutSection readSections readJob answer refused hostAnswer output fromTheBack pageFromTheBack oneEach
+    aligned column pageLine pickCell pickedAt alongWalk pageOf cellsOf lackOf lessOf recordAt taken passedRecords picksOf planPasses actionAt passageAt
+    multiplicity without stepsOf firstWalk edgesOf backHeight depotPoint sameEdge samePoint isCrossing canStep stepTo stepEdge one pageRefused pageTable
+    pageAnswer hostPageAnswer pageOutput
 texts-hold =
-    refl ▸ refl ▸ refl ▸ refl ▸ refl ▸ refl ▸ refl ▸ refl ▸ refl ▸ refl ▸ refl ▸ refl ▸ refl ▸ refl ▸ refl ▸ refl ▸ refl ▸ refl ▸ refl ▸ refl ▸ tt
+    refl ▸ refl ▸ refl ▸ refl ▸ refl ▸ refl ▸ refl ▸ refl ▸ refl ▸ refl ▸ refl ▸ refl ▸ refl ▸ refl ▸ refl ▸ refl ▸ refl ▸ refl ▸ refl ▸ refl ▸ refl ▸ refl ▸ refl ▸ refl ▸ tt
 
 -- a sheet space of 69 bytes is too short for the worked sheet: 9, and the work area is all zero
 pub short-space : CallGives (replicate 69 0) (replicate 32768 1) 9 0
@@ -209,3 +216,16 @@ longer-file = record { bytes = refl; ends = refl }
 pub worked-example : output workedJob ≡ workedSheet
 unfolding servingPlans cleared refused served answer hostAnswer output actionsOf passagesInOrder single prepend shorterOf emptyPlan bestPlan workedJob without stepsOf firstWalk numeral field header sectionText isDigit isNumber readField readHeader readPolicyAs readPolicy readLayout readPosts readRecord readLine readSection readLayoutSection readSections readJob listed holdsListed actionPossible actionStep passageStep accepts cellsOf lackOf lessOf recordAt taken passedRecords picksOf actionAt passageAt multiplicity lengthOf planLength planPasses inFrontHalf inBackHalf recordInBounds stockInBounds sameCell lineInBounds listInBounds sameArticle weight allStock shortOfStock jobRows jobRefusal supply serves totalText passageText pickText runText sheetOf sheetText aisleLength position backHeight depotPoint distance edgesOf within layoutInBounds sameEdge samePoint isCrossing canStep stepTo stepEdge one workedSheet
 worked-example = refl
+
+-- its page; a page space of 24 bytes is too short for it: 11, and the work area is all zero; where the sheet space of 69 bytes is too short
+-- as well, 9
+pub page-calls : (pageOutput workedJob ≡ workedPage) × PageCallGives (replicate 70 0) (replicate 24 0) 11 0 × PageCallGives (replicate 69 0) (replicate 24 0) 9 0
+unfolding servingPlans cleared refused served answer hostAnswer output actionsOf passagesInOrder single prepend shorterOf emptyPlan bestPlan workedJob without
+    stepsOf firstWalk numeral field header sectionText isDigit isNumber readField readHeader readPolicyAs readPolicy readLayout readPosts readRecord
+    readLine readSection readLayoutSection readSections readJob listed holdsListed actionPossible actionStep passageStep accepts cellsOf lackOf lessOf
+    recordAt taken passedRecords picksOf actionAt passageAt multiplicity lengthOf planLength planPasses inFrontHalf inBackHalf recordInBounds
+    stockInBounds sameCell lineInBounds listInBounds sameArticle weight allStock shortOfStock jobRows jobRefusal supply serves totalText passageText
+    pickText runText sheetOf sheetText aisleLength position backHeight depotPoint distance edgesOf within layoutInBounds sameEdge samePoint isCrossing
+    canStep stepTo stepEdge one aligned column pageLine pickCell pickedAt alongWalk pageOf pageText pageRefused pageServed pageTable pageAnswer
+    hostPageAnswer pageOutput workedPage
+page-calls = (refl, record { its-number = refl; its-work = refl }, record { its-number = refl; its-work = refl })

@@ -3,6 +3,7 @@ pub mod Numbers
 pub mod Reading
 pub mod Admission
 pub mod Answering
+pub mod Taken
 pub mod Lengths
 pub mod Serving
 pub mod Listing
@@ -14,3 +15,6 @@ pub mod Cases
 pub mod Ceiling
 pub mod NoPosts
 pub mod WrongTurnings
+pub mod PageAnswering
+pub mod WalkOrder
+pub mod FewPicks

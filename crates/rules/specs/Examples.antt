@@ -29,7 +29,9 @@ use Rattle.rules.specs.Machine.{accepts}
 use Rattle.rules.specs.BestPlan.{bestPlan}
 use Rattle.rules.specs.FirstWalk.{firstWalk}
 use Rattle.rules.specs.Sheet.{actionText, passageText, pickText, runsOf}
+use Rattle.rules.specs.Page.{pageLine, pageOf}
 use Rattle.rules.specs.Answers.{Answer, replyNumber, answer, output}
+use Rattle.rules.specs.PageAnswers.{pageAnswer, pageOutput}
 
 -- a stock record: aisle cell article quantity
 unfoldable pub stocked : ℕ → ℕ → ℕ → ℕ → StockRecord
@@ -329,6 +331,19 @@ twoLines =
 unfoldable pub counted : ℕ → List ℕ
 counted digit = 76 ∷ 32 ∷ digit ∷ 10 ∷ drop 4 (jobText (posted 2 4 thirdCells Exact))
 
+-- a store whose aisle 2 is entered from the back: its cell 3 is reached before its cell 1, and once more on the way back
+unfoldable pub fromTheBack : Job
+fromTheBack = ownJob 3 3 1 1 1 1 1 (stocked 1 2 1 1 ∷ stocked 2 1 2 1 ∷ stocked 2 3 3 1 ∷ stocked 3 2 4 1 ∷ []) oneEach Exact
+
+-- the page of ONCE 11 TOP 1 11 ONCE there
+unfoldable pub pageFromTheBack : List ℕ
+pageFromTheBack =
+    32 ∷ 49 ∷ 45 ∷ 32 ∷ 50 ∷ 32 ∷ 32 ∷ 32 ∷ 49 ∷ 46 ∷ 46 ∷ 46 ∷ 46 ∷ 46 ∷ 46 ∷ 46 ∷ 46 ∷ 46 ∷ 46 ∷ 32 ∷ 32 ∷ 32 ∷ 32 ∷ 49 ∷ 10  --  1- 2   1..........    1
+    ∷ 32 ∷ 50 ∷ 45 ∷ 32 ∷ 51 ∷ 32 ∷ 32 ∷ 32 ∷ 49 ∷ 46 ∷ 46 ∷ 46 ∷ 46 ∷ 46 ∷ 46 ∷ 46 ∷ 46 ∷ 46 ∷ 46 ∷ 32 ∷ 32 ∷ 32 ∷ 32 ∷ 51 ∷ 10  --  2- 3   1..........    3
+    ∷ 32 ∷ 50 ∷ 45 ∷ 32 ∷ 49 ∷ 32 ∷ 32 ∷ 32 ∷ 49 ∷ 46 ∷ 46 ∷ 46 ∷ 46 ∷ 46 ∷ 46 ∷ 46 ∷ 46 ∷ 46 ∷ 46 ∷ 32 ∷ 32 ∷ 32 ∷ 32 ∷ 50 ∷ 10  --  2- 1   1..........    2
+    ∷ 32 ∷ 51 ∷ 45 ∷ 32 ∷ 50 ∷ 32 ∷ 32 ∷ 32 ∷ 49 ∷ 46 ∷ 46 ∷ 46 ∷ 46 ∷ 46 ∷ 46 ∷ 46 ∷ 46 ∷ 46 ∷ 46 ∷ 32 ∷ 32 ∷ 32 ∷ 32 ∷ 52 ∷ 10  --  3- 2   1..........    4
+    ∷ []
+
 -- texts and their bytes: every word, the order of the fields of a line, and what a refusal prints
 unfoldable pub texts : List (List ℕ × List ℕ)
 texts =
@@ -348,6 +363,16 @@ texts =
     ∷ (actionText Twice, 84 ∷ 87 ∷ 73 ∷ 67 ∷ 69 ∷ 10 ∷ [])  -- TWICE
     ∷ (passageText P20, 50 ∷ 48 ∷ 10 ∷ [])  -- 20
     ∷ (pickText (record { aisle = 1; cell = 2; article = 3; quantity = 4 }), 49 ∷ 32 ∷ 50 ∷ 32 ∷ 51 ∷ 32 ∷ 52 ∷ 10 ∷ [])  -- 1 2 3 4
+    ∷ (
+      pageLine (record { aisle = 1; cell = 2; article = 3; quantity = 4 }),
+      32 ∷ 49 ∷ 45 ∷ 32 ∷ 50 ∷ 32 ∷ 32 ∷ 32 ∷ 52 ∷ 46 ∷ 46 ∷ 46 ∷ 46 ∷ 46 ∷ 46 ∷ 46 ∷ 46 ∷ 46 ∷ 46 ∷ 32 ∷ 32 ∷ 32 ∷ 32 ∷ 51 ∷ 10 ∷ [],
+    )  --  1- 2   4..........    3
+    ∷ (
+      pageLine (record { aisle = 16; cell = 24; article = 65535; quantity = 255 }),
+      49 ∷ 54 ∷ 45 ∷ 50 ∷ 52 ∷ 32 ∷ 50 ∷ 53 ∷ 53 ∷ 46 ∷ 46 ∷ 46 ∷ 46 ∷ 46 ∷ 46 ∷ 46 ∷ 46 ∷ 46 ∷ 46 ∷ 54 ∷ 53 ∷ 53 ∷ 51 ∷ 53 ∷ 10 ∷ [],
+    )  -- 16-24 255..........65535
+    ∷ (pageOf fromTheBack (record { actions = Once ∷ Top 1 ∷ Once ∷ []; passages = P11 ∷ P11 ∷ [] }), pageFromTheBack)  -- each at the first step
+    ∷ (pageOutput [], 82 ∷ 32 ∷ 49 ∷ 10 ∷ 49 ∷ 10 ∷ [])  -- R 1, 1
     ∷ (output [], 82 ∷ 32 ∷ 49 ∷ 10 ∷ 49 ∷ 10 ∷ [])  -- R 1, 1: no bytes are no job file
     ∷ (output (counted 49), 82 ∷ 32 ∷ 49 ∷ 10 ∷ 49 ∷ 10 ∷ [])  -- R 1, 1: `L 1` with a second line is none
     ∷ (output (counted 51), 82 ∷ 32 ∷ 49 ∷ 10 ∷ 49 ∷ 10 ∷ [])  -- R 1, 1: nor is `L 3`
@@ -415,3 +440,12 @@ workedSheet =
 pub record CallGives (sheet work : List ℕ) (number first : ℕ) : Type 0 where
   pub its-number : replyNumber (answer workedJob sheet work .reply) ≡ number
   pub its-work : headOr 7 (answer workedJob sheet work .work) ≡ first
+
+-- its page
+unfoldable pub workedPage : List ℕ
+workedPage = 32 ∷ 50 ∷ 45 ∷ 32 ∷ 49 ∷ 32 ∷ 32 ∷ 32 ∷ 49 ∷ 46 ∷ 46 ∷ 46 ∷ 46 ∷ 46 ∷ 46 ∷ 46 ∷ 46 ∷ 46 ∷ 46 ∷ 32 ∷ 32 ∷ 32 ∷ 32 ∷ 57 ∷ 10 ∷ []  --  2- 1   1..........    9
+
+-- what a page call on the worked job gives: the number that it returns, and the first number of the work area after it
+pub record PageCallGives (sheet page : List ℕ) (number first : ℕ) : Type 0 where
+  pub its-number : replyNumber (pageAnswer workedJob sheet page (replicate 32768 1) .call .reply) ≡ number
+  pub its-work : headOr 7 (pageAnswer workedJob sheet page (replicate 32768 1) .call .work) ≡ first

@@ -14,5 +14,7 @@ pub mod BestPlan
 pub mod Picks
 pub mod FirstWalk
 pub mod Sheet
+pub mod Page
 pub mod Answers
+pub mod PageAnswers
 pub mod Examples

@@ -1,7 +1,9 @@
 -- Document 01, "Policies", the picks: through aisles, then cells, upwards; from each passed cell
 -- what its line still lacks, as far as stock goes.
-use Prim.Native.Nat.{ℕ, _-_, min}
-use mathlib.Core.List.{List, [], _∷_, map}
+use Prim.Native.Nat.{ℕ, _-_, min, _≤_, _<_}
+use mathlib.Core.Path.{_≡_}
+use mathlib.Core.Logic.{_⊎_}
+use mathlib.Core.List.{List, [], _∷_, map, List·Memᴰ}
 use mathlib.Core.Bool.{Bool, true, false, cond, _&&_}
 use mathlib.Core.Option.{Option, none, some}
 use lib.Dec.{ltb, eqb}
@@ -60,3 +62,21 @@ passedRecords job plan =
 -- the picks of a plan
 unfoldable pub picksOf : Job → Plan → List Pick
 picksOf job plan = picksFrom (job .lines) (passedRecords job plan)
+
+-- a pick takes from a record of the stock, in a cell that the plan passes: more than nothing, and no more than there is
+pub record TakenFrom (job : Job) (plan : Plan) (x : Pick) (r : StockRecord) : Type 0 where
+  pub in-stock : List·Memᴰ r (job .stock)
+  pub passed : planPasses plan (r .aisle) (r .cell) ≡ true
+  pub aisle : x .aisle ≡ r .aisle
+  pub cell : x .cell ≡ r .cell
+  pub article : x .article ≡ r .article
+  pub some : 1 ≤ x .quantity
+  pub no-more : x .quantity ≤ r .quantity
+
+-- through aisles, then cells, upwards
+unfoldable pub CellBefore : (i b j c : ℕ) → Type 0
+CellBefore i b j c = (i < j) ⊎ ((i ≡ j) × (b < c))
+
+-- a pick stands before another
+unfoldable pub PickBefore : Pick → Pick → Type 0
+PickBefore x y = CellBefore (x .aisle) (x .cell) (y .aisle) (y .cell)

@@ -1,7 +1,8 @@
--- Document 01, the bounds of "The store" and the table of refusals: causes, numbers, what is left, the first that applies.
+-- Document 01, the bounds of "The store" and the table of refusals: causes, numbers, what is left, the first that applies;
+-- request #103: row 11.
 use Prim.Native.Nat.{ℕ, suc, _+_, _≤_}
 use mathlib.Core.Path.{_≡_}
-use mathlib.Core.List.{List, [], _∷_, List·Memᴰ}
+use mathlib.Core.List.{List, [], _∷_, _++_, List·Memᴰ}
 use mathlib.Core.Bool.{Bool, true, false, cond, _&&_, not}
 use mathlib.Core.Option.{Option, none, some}
 use lib.Dec.{ltb, leb, eqb}
@@ -10,12 +11,13 @@ use Rattle.rules.specs.declared.Layout.{Layout}
 use Rattle.rules.specs.declared.StockRecord.{StockRecord}
 use Rattle.rules.specs.declared.OrderLine.{OrderLine}
 use Rattle.rules.specs.declared.Refusal.{Refusal}
-use Rattle.rules.specs.declared.Refusal.the-variants.{WorkArea, NotAJobFile, LayoutBounds, StockBounds, CellTwice, ListBounds, ArticleTwice, TooHeavy, ShortOfStock, SheetSpace}
+use Rattle.rules.specs.declared.Refusal.the-variants.{WorkArea, NotAJobFile, LayoutBounds, StockBounds, CellTwice, ListBounds, ArticleTwice, TooHeavy, ShortOfStock, SheetSpace, PageSpace}
 use Rattle.rules.specs.Lists.{sumOf, productOf, allOf, anyOf, anyTwo}
 use Rattle.rules.specs.Store.{within, layoutInBounds}
 use Rattle.rules.specs.Jobs.{Job}
 use Rattle.rules.specs.JobFile.{readJob}
 use Rattle.rules.specs.Sheet.{sheetText}
+use Rattle.rules.specs.Page.{pageText}
 
 -- a stock record has aisle 1 to m, cell 1 to C, article 1 to 65,535, quantity 1 to 255
 unfoldable pub recordInBounds : Job → StockRecord → Bool
@@ -111,6 +113,11 @@ table read sheet work =
     ∷ (ofJob read (λ job. ltb (length sheet) (length (sheetText job))), SheetSpace)
     ∷ []
 
+-- with #103's row, "tried after all of document 01's", for a call that is lent a page too
+unfoldable pub pageTable : Option Job → List ℕ → List ℕ → List ℕ → List (Bool × Refusal)
+pageTable read sheet page work =
+    table read sheet work ++ ((ofJob read (λ job. ltb (length page) (length (pageText job))), PageSpace) ∷ [])
+
 -- the table's second column: the number of a refusal
 abbrev pub numberOf : Refusal → ℕ
 numberOf WorkArea = 10
@@ -123,6 +130,7 @@ numberOf ArticleTwice = 6
 numberOf TooHeavy = 7
 numberOf ShortOfStock = 8
 numberOf SheetSpace = 9
+numberOf PageSpace = 11
 
 -- a work area that is all zero
 unfoldable pub cleared : List ℕ → List ℕ
@@ -140,6 +148,7 @@ workAfter ArticleTwice work = work
 workAfter TooHeavy work = work
 workAfter ShortOfStock work = work
 workAfter SheetSpace work = cleared work
+workAfter PageSpace work = cleared work
 
 -- the refusal of the first row whose cause applies
 abbrev pub firstRow : List (Bool × Refusal) → Option Refusal

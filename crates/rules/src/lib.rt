@@ -83,7 +83,7 @@ pub struct Pick {
     pub quantity: usize,
 }
 
-// The causes of a refusal, in the order of document 01's table.
+// The causes of a refusal, in the order of document 01's table; behind them that of request #103.
 pub enum Refusal {
     WorkArea,
     NotAJobFile,
@@ -95,10 +95,17 @@ pub enum Refusal {
     TooHeavy,
     ShortOfStock,
     SheetSpace,
+    PageSpace,
 }
 
 // What a call answers: the sheet's byte count, or the cause of the refusal.
 pub enum Reply {
     Served(usize),
     Refused(Refusal),
+}
+
+// What a page call answers: as a call without a page does, and the page's byte count.
+pub struct PageReply {
+    pub reply: Reply,
+    pub page: usize,
 }

@@ -9,7 +9,8 @@ use denote.Ref.{now}
 use Rattle.io.proofs.Counting.{counts}
 use Rattle.rules.specs.JobFile.{lineFeed, header, field}
 use Rattle.rules.specs.Answers.{sheetLimit, hostAnswer, letterR, output, printed}
-use Rattle.route.proofs.Printing.{host-length, sheet-printed, refusal-printed, refusal-short}
+use Rattle.lines.proofs.Sizes.{refusal-short}
+use Rattle.route.proofs.Printing.{host-length, sheet-printed, refusal-printed}
 use borrow.Author.Needs.{needs}
 use Rattle.route.proofs.text.text_of.Statement.{statement}
 use Rattle.route.proofs.text.text_of.Tie as tie

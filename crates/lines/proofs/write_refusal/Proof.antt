@@ -1,4 +1,4 @@
--- `route::text::write_refusal` meets its contract: the header, and behind it the number and the line feed.
+-- `lines::write_refusal` meets its contract: the header, and behind it the number and the line feed.
 use Prim.Native.Nat.{_-_, _+_, _≤_, _<_}
 use native.Mathlib.Omega.{arith}
 use mathlib.Core.Path.{_≡_}
@@ -8,11 +8,11 @@ use denote.Ref.{now}
 use borrow.Rule.Slice.PartMut.{putMid}
 use Rattle.rules.specs.JobFile.{lineFeed, header, field, numeral}
 use Rattle.rules.specs.Answers.{letterR}
 use Rattle.lines.specs.Written.{Written}
 use Rattle.lines.proofs.Writing.{first-room, written-as, written-within, written-rest, rest-room, byte-room, written-byte, written-length}
 use borrow.Author.Needs.{needs}
-use Rattle.route.proofs.text.write_refusal.Statement.{statement}
-use Rattle.route.proofs.text.write_refusal.Tie as tie
+use Rattle.lines.proofs.write_refusal.Statement.{statement}
+use Rattle.lines.proofs.write_refusal.Tie as tie
 
 -- the text in the order in which it is written
 in-order : (c : tie.Start) → (header letterR 1 ++ numeral (c .args .number)) ++ (lineFeed ∷ []) ≡ header letterR 1 ++ field lineFeed (c .args .number)

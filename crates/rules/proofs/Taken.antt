@@ -8,19 +8,18 @@ use mathlib.Core.Bool.{Bool, true, false, cond, _&&_, and-eq-true-iff}
 use mathlib.Core.Option.{Option, none, some}
 use borrow.Author.Tests.{ltb-true, eqb-true, eq-eqb}
 use lib.Dec.{eqb, ltb}
 use Rattle.rules.specs.declared.Layout.{Layout}
 use Rattle.rules.specs.declared.StockRecord.{StockRecord}
 use Rattle.rules.specs.declared.OrderLine.{OrderLine}
 use Rattle.rules.specs.declared.Pick.{Pick}
 use Rattle.rules.specs.Lists.{from, firstOf, Sorted}
 use Rattle.rules.specs.Store.{Point}
 use Rattle.rules.specs.Jobs.{Job}
 use Rattle.rules.specs.Plans.{Plan, planPasses}
 use Rattle.rules.specs.Refusals.{Admitted}
-use Rattle.rules.specs.Picks.{cellsOf, lessOf, recordAt, taken, picksFrom, found, passedRecords, picksOf}
+use Rattle.rules.specs.Picks.{cellsOf, lessOf, recordAt, taken, picksFrom, found, passedRecords, picksOf, TakenFrom, CellBefore, PickBefore}
 use Rattle.rules.proofs.Lists.{from-member, member-concat, concat-member, sorted-concat, sorted-map, sorted-from}
 use Rattle.rules.proofs.Admission.{stock-within, one-record-per-cell}
-use Rattle.promises.specs.Contents.{TakenFrom, CellBefore, PickBefore}
 
 -- a pick takes from a record
 pub record FromRecord (x : Pick) (r : StockRecord) : Type 0 where

@@ -1,0 +1,3 @@
+-- What the contracts of the order of the picks are stated with.
+pub mod Visited
+pub mod Numbered
