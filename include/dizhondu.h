@@ -22,7 +22,7 @@ extern "C" {
 #define DIZHONDU_REFUSED 65536
 
 /* A call fits a thread with this much stack. Measured on x86-64 over all jobs of tests/vectors and tests/cases, by what a call
-   changed of a filled stack below its caller's frame: 202,088 bytes by plan_sheet and 235,416 by plan_page, on every served job. The
+   changed of a filled stack below its caller's frame: 211,911 bytes by plan_sheet and 245,239 by plan_page, on every served job. The
    tests make each of their calls in a thread with just this much. */
 #define DIZHONDU_STACK 262144
 
@@ -30,7 +30,8 @@ extern "C" {
 
    Returns the sheet's byte count, at most sheet_space; the bytes behind it are left as they were. A job with an empty list
    (`D 0`) is served too: a tour of length 0, which treads nothing. A job may have posts between the cells: `L 2`, and after the
-   layout line the line `k u`, a post after every k cells (1 to 24), each u wide (0 to 10). No tour is longer than 57,280.
+   layout line the line `k u`, a post after every k cells (1 to 24), each u wide (0 to 10). The policy word is EXACT, RETURN,
+   TRAVERSAL, MIDPOINT, COMPOSITE or LARGEST. No tour is longer than 57,280.
    For a refused job it returns DIZHONDU_REFUSED plus the refusal's number, and every byte of the sheet is left as
    it was. The first cause of this list that applies gives the number:
 

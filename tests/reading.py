@@ -1,8 +1,8 @@
-"""Document 01's job file and its refusals 1 to 8, read on its own; 5 is as request #101 has it, the L section and 2 as #102."""
+"""Document 01's job file and its refusals 1 to 8, read on its own; 5 is as request #101 has it, the L section and 2 as #102, 1 as #104."""
 import re
 from math import prod
 
-POLICIES = [b"EXACT", b"RETURN", b"TRAVERSAL", b"MIDPOINT", b"COMPOSITE"]
+POLICIES = [b"EXACT", b"RETURN", b"TRAVERSAL", b"MIDPOINT", b"COMPOSITE", b"LARGEST"]
 NUMBER = re.compile(rb"0|[1-9][0-9]{0,4}")
 
 

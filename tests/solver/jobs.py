@@ -125,6 +125,27 @@ def over_the_middle(count):
         yield text([layout, (bay, post)], stock, [(article, 1) for _, _, article, _ in stock])
 
 
+def largest(job):
+    """The job under LARGEST in the place of its policy."""
+    head, layout, rest = job.split(b"\n", 2)
+    return b"\n".join([head, layout.rsplit(b" ", 1)[0] + b" LARGEST", rest])
+
+
+def many_stops(count):
+    """Jobs under LARGEST with listed cells all over the aisles, at even and uneven distances, some of them with posts."""
+    for n in range(count):
+        aisles, cells = between(3, 5), between(4, 10)
+        places = shuffled((j, i) for j in range(1, aisles + 1) for i in range(1, cells + 1))[: between(aisles, 4 * aisles)]
+        articles = between(1, 4)
+        stock = [(*place, 1 + k % articles, between(1, 3)) for k, place in enumerate(places)]
+        held = [sum(quantity for _, _, article, quantity in stock if article == 1 + k) for k in range(articles)]
+        orders = [(1 + k, between(1, min(held[k], [255, 15, 5, 3][articles - 1]))) for k in range(articles)]
+        front, pitch, back, width = sizes()
+        layout = (aisles, cells, front, pitch, back, width, between(1, aisles), "LARGEST")
+        made = text([layout], shuffled(stock), orders)
+        yield posted(made, between(1, cells), between(1, 10)) if n % 3 == 0 else made
+
+
 def far_ends(policy):
     """The largest store, with an article to fetch from the back of every aisle: under RETURN the longest tour that a job can have."""
     stock = [(aisle, 24, 7, 1) for aisle in range(1, 17)]
@@ -155,6 +176,8 @@ JOBS = [
     *over_the_middle(16),
     *map(far_ends, ["EXACT", "RETURN", "TRAVERSAL", "COMPOSITE"]),
 ]
+# LARGEST (request #104): every job under MIDPOINT once more, and jobs of its own
+JOBS += [*map(largest, (job for job in JOBS if b" MIDPOINT\n" in job)), *many_stops(60)]
 
 if __name__ == "__main__":
     print(b"".join(JOBS).decode(), end="")

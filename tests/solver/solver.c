@@ -202,6 +202,32 @@ static int holds(int j) {
     return 0;
 }
 
+/* The cell holds an article of the list. */
+static int holds_at(int j, int i) {
+    for (int x = 0; x < cells; x++)
+        if (listed[x].aisle == j && listed[x].height == i) return 1;
+    return 0;
+}
+
+/* LARGEST in an aisle between the first and the last entered (request #104): each part turns at a listed cell, and from
+   stop to stop it never goes further than the part that is not walked is long. */
+static int largest_gap(int j) {
+    int low = has(j, BOTTOM | GAP) ? plan[j].low : 0, high = has(j, TOP | GAP) ? plan[j].high : C + 1;
+    int gap = position(high) - position(low);
+    if ((low > 0 && !holds_at(j, low)) || (high <= C && !holds_at(j, high))) return 0;
+    for (int i = 1, stop = 0; i <= low; i++)
+        if (holds_at(j, i)) {
+            if (position(i) - position(stop) > gap) return 0;
+            stop = i;
+        }
+    for (int i = C, stop = C + 1; i >= high; i--)
+        if (holds_at(j, i)) {
+            if (position(stop) - position(i) > gap) return 0;
+            stop = i;
+        }
+    return 1;
+}
+
 /* What the policy asks of all the actions together. */
 static int allowed(void) {
     int entered = 0, first = 0, last = 0;
@@ -214,9 +240,13 @@ static int allowed(void) {
     for (int j = 1; j <= m; j++) {
         if (has(j, VOID)) continue;
         if (is("TRAVERSAL") && !has(j, entered % 2 && j == last ? BOTTOM : ONCE)) return 0;
-        if (is("MIDPOINT")) {
+        if (is("MIDPOINT") || is("LARGEST")) {
             if (entered == 1 ? !has(j, BOTTOM) : (j == first || j == last) != has(j, ONCE)) return 0;
             if (j == first || j == last) continue;
+            if (is("LARGEST")) {
+                if (!largest_gap(j)) return 0;
+                continue;
+            }
             if (has(j, BOTTOM | GAP) && 2 * position(plan[j].low) > position(C + 1)) return 0;
             if (has(j, TOP | GAP) && 2 * position(plan[j].high) < position(C + 1)) return 0;
         }
@@ -234,7 +264,7 @@ static int can_serve(int j) {
 /* The actions and the passages that the policy knows. */
 static int kinds(void) {
     return is("RETURN") ? VOID | BOTTOM : is("TRAVERSAL") ? VOID | BOTTOM | ONCE
-         : is("MIDPOINT") ? VOID | BOTTOM | TOP | GAP | ONCE : is("COMPOSITE") ? VOID | BOTTOM | TOP | ONCE
+         : is("MIDPOINT") || is("LARGEST") ? VOID | BOTTOM | TOP | GAP | ONCE : is("COMPOSITE") ? VOID | BOTTOM | TOP | ONCE
          : VOID | BOTTOM | TOP | GAP | ONCE | TWICE;
 }
 

@@ -17,11 +17,11 @@ use Rattle.optimum.specs.Least.{sumUpTo}
 use Rattle.optimum.specs.Routing.{sat}
 use Rattle.aisles.specs.declared.candidates.Candidate.{Candidate}
 use Rattle.aisles.specs.declared.layers.Aisle.{Aisle}
-use Rattle.aisles.specs.Candidates.{candidateOf, candidateLength, candidateHalves}
+use Rattle.aisles.specs.Candidates.{candidateOf, candidateLength, candidateBetween}
 use Rattle.machine.specs.States.{stateCode, stateOf}
 use Rattle.machine.specs.Steps.{policyOf, sampleAction, bit, stepOf}
 use Rattle.rows.specs.Rows.{nextAt}
-use Rattle.aisles.specs.Layers.{stepWith, stepCode, leftCode, throughCandidate, throughAction, wayWith}
+use Rattle.aisles.specs.Layers.{asksBetween, stepWith, stepCode, leftCode, throughCandidate, throughAction, wayWith}
 use Rattle.machine.proofs.StepLaws.{state-small}
 use Rattle.aisles.proofs.HalfSteps.{step-no, step-same}
 
@@ -49,9 +49,9 @@ candidate-parts cells (Gap h i) f = record { kind-below = omega arith; front-wit
 candidate-parts cells Once f = record { kind-below = omega arith; front-within = omega arith; back-low = omega arith; back-high = omega arith }
 candidate-parts cells Twice f = record { kind-below = omega arith; front-within = omega arith; back-low = omega arith; back-high = omega arith }
 
--- the way over an action is that with the answer of its own half rule
+-- the way over an action is that with its own answer to the test for aisles between
 pub way-is : (x : Aisle) (after fronts backs : List ℕ) (s q : ℕ) (a : Action)
-    → throughAction x (nextAt after) fronts backs s q a ≡ wayWith x after fronts backs (candidateHalves (x .layout) (candidateOf (x .layout .cells) a)) s q a
+    → throughAction x (nextAt after) fronts backs s q a ≡ wayWith x after fronts backs (candidateBetween (x .between) (candidateOf (x .layout .cells) a)) s q a
 unfolding throughAction throughCandidate stepCode stepWith wayWith
 way-is x after fronts backs s q a = refl
 
@@ -82,28 +82,28 @@ module _ (x : Aisle) (after fronts backs : List ℕ) (s q : ℕ) where
 
   -- so a way with the answer 'no' is the way over the action, or none
   pub way-true : (a : Action) → (way false a ≡ through a) ⊎ (way false a ≡ 65535)
-  way-true a = go (candidateHalves (x .layout) (candidateOf (x .layout .cells) a)) refl (way-no a)
+  way-true a = go (candidateBetween (x .between) (candidateOf (x .layout .cells) a)) refl (way-no a)
     where
-      go : (b : Bool) → candidateHalves (x .layout) (candidateOf (x .layout .cells) a) ≡ b → (way false a ≡ way true a) ⊎ (way false a ≡ 65535) → (way false a ≡ through a) ⊎ (way false a ≡ 65535)
+      go : (b : Bool) → candidateBetween (x .between) (candidateOf (x .layout .cells) a) ≡ b → (way false a ≡ way true a) ⊎ (way false a ≡ 65535) → (way false a ≡ through a) ⊎ (way false a ≡ 65535)
       go true e (inl f) = inl (f ∙ sym (way-is x after fronts backs s q a ∙ ap (λ b. way b a) e))
       go true e (inr f) = inr f
       go false e f = inl (sym (way-is x after fronts backs s q a ∙ ap (λ b. way b a) e))
 
   -- where the answer does not matter
-  pub way-any : (a : Action) → (x .policy ≡ 3 → ⊥) ⊎ ((candidateOf (x .layout .cells) a .kind ≡ 0) ⊎ (4 ≤ candidateOf (x .layout .cells) a .kind)) → way false a ≡ through a
+  pub way-any : (a : Action) → (asksBetween (x .policy) ≡ false) ⊎ ((candidateOf (x .layout .cells) a .kind ≡ 0) ⊎ (4 ≤ candidateOf (x .layout .cells) a .kind)) → way false a ≡ through a
   unfolding wayWith stepWith
-  way-any a free = go (candidateHalves (x .layout) (candidateOf (x .layout .cells) a)) refl
+  way-any a free = go (candidateBetween (x .between) (candidateOf (x .layout .cells) a)) refl
     where
       same : way false a ≡ way true a
       same =
           ap (λ t. sat (candidateLength (x .layout) (candidateOf (x .layout .cells) a)) (nextAt after (stateCode t) (leftCode fronts backs (candidateOf (x .layout .cells) a) q)))
-          (step-same (x .policy) (candidateOf (x .layout .cells) a .kind) free (bit (x .holds)) (stateOf s))
+          (step-same (policyOf (x .policy)) (candidateOf (x .layout .cells) a .kind) free (bit (x .holds)) (stateOf s))
 
-      go : (b : Bool) → candidateHalves (x .layout) (candidateOf (x .layout .cells) a) ≡ b → way false a ≡ through a
+      go : (b : Bool) → candidateBetween (x .between) (candidateOf (x .layout .cells) a) ≡ b → way false a ≡ through a
       go true e = same ∙ sym (way-is x after fronts backs s q a ∙ ap (λ b. way b a) e)
       go false e = sym (way-is x after fronts backs s q a ∙ ap (λ b. way b a) e)
 
 -- the numbers of states after a candidate are at most 8
 pub step-small : (x : Aisle) (c : Candidate) (s : ℕ) → stepCode x c s ≤ 8
 unfolding stepCode
-step-small x c s = state-small (stepOf (policyOf (x .policy)) (sampleAction (c .kind)) (bit (x .holds)) (candidateHalves (x .layout) c) (stateOf s))
+step-small x c s = state-small (stepOf (policyOf (x .policy)) (sampleAction (c .kind)) (bit (x .holds)) (candidateBetween (x .between) c) (stateOf s))

@@ -1,20 +1,22 @@
 -- The bounds of a layout, and what a candidate's numbers stand for.
-use Prim.Native.Nat.{ℕ, suc, _*_, _<_}
+use Prim.Native.Nat.{ℕ, suc, _≤_, _<_}
 use native.Mathlib.Omega.{arith}
-use mathlib.Core.Path.{_≡_, refl, _∙_, ap, ap₂}
-use mathlib.Core.Bool.{Bool, true, false, _&&_, and-eq-true-iff}
-use lib.Dec.{ltb}
-use borrow.Author.Tests.{lt-ltb, le-leb}
+use mathlib.Core.Path.{_≡_, refl, ap₂}
+use mathlib.Core.Bool.{true, false, _&&_, and-eq-true-iff}
+use lib.Dec.{ltb, leb}
+use lib.ListN.{getD}
+use borrow.Author.Tests.{lt-ltb, leb-true, le-leb}
 use Rattle.rules.specs.declared.Layout.{Layout}
 use Rattle.rules.specs.declared.Action.{Action}
 use Rattle.rules.specs.declared.Action.the-variants.{Void, Bottom, Top, Gap, Once, Twice}
-use Rattle.rules.specs.Store.{position, aisleLength, layoutInBounds, LayoutWithin}
+use Rattle.rules.specs.Store.{layoutInBounds, LayoutWithin}
 use Rattle.rules.specs.Lengths.{actionLength}
-use Rattle.rules.specs.Policies.{halved, inFrontHalf, inBackHalf}
 use Rattle.rules.proofs.Admission.{layout-within}
 use Rattle.rules.proofs.Lengths.{position-front, position-back}
+use Rattle.between.specs.declared.Between.{Between}
+use Rattle.between.specs.Between.{allowsTurns}
 use Rattle.aisles.specs.declared.candidates.Candidate.{Candidate}
-use Rattle.aisles.specs.Candidates.{candidateOf, actionOf, frontCost, candidateLength, candidateHalves}
+use Rattle.aisles.specs.Candidates.{candidateOf, actionOf, frontCost, candidateLength, candidateBetween}
 
 module _ (z : Layout) (bounds : layoutInBounds z ≡ true) where
   -- the bounds of the layout's numbers
@@ -41,36 +43,24 @@ length-of-candidate z (Gap h i) = refl
 length-of-candidate z Once = omega (arith, position-back z (suc (z .cells)) (omega arith))
 length-of-candidate z Twice = omega (arith, position-back z (suc (z .cells)) (omega arith))
 
--- a part that is not there keeps to its half
-front-none : (z : Layout) → inFrontHalf z 0 ≡ true
-unfolding inFrontHalf
-front-none z = le-leb (2 * position z 0) (aisleLength z) (omega (arith, position-front z))
+-- the turns of a candidate that passes the test for aisles between
+pub record Turning (b : Between) (h i : ℕ) : Type 0 where
+  pub front : getD (b .front) h false ≡ true
+  pub back : getD (b .back) i false ≡ true
+  pub goes : getD (b .from) h 0 ≤ i
 
-back-none : (z : Layout) → inBackHalf z (suc (z .cells)) ≡ true
-unfolding inBackHalf
-back-none z = le-leb (aisleLength z) (2 * position z (suc (z .cells))) (omega (arith, position-back z (suc (z .cells)) (omega arith)))
+-- a candidate passes it where it is walked there and back and its turns do
+pub between-turns : (b : Between) (c : Candidate) → candidateBetween b c ≡ true → Turning b (c .front) (c .back)
+unfolding candidateBetween allowsTurns
+between-turns b c e =
+    let front = getD (b .front) (c .front) false in
+    let back = getD (b .back) (c .back) false in
+    let goes = leb (getD (b .from) (c .front) 0) (c .back) in
+    let turns = and-eq-true-iff front (back && goes) .0 (and-eq-true-iff (ltb (c .kind) 4) (front && (back && goes)) .0 e .1) in
+    let behind = and-eq-true-iff back goes .0 (turns .1) in
+    record { front = turns .0; back = behind .0; goes = leb-true (getD (b .from) (c .front) 0) (c .back) (behind .1) }
 
-and-true : (b : Bool) → (b && true) ≡ b
-and-true true = refl
-and-true false = refl
-
--- and keeps to the halves where it does
-pub halves-of-candidate : (z : Layout) (a : Action) → candidateHalves z (candidateOf (z .cells) a) ≡ halved z a
-unfolding candidateHalves
-halves-of-candidate z Void = ap₂ _&&_ (front-none z) (back-none z)
-halves-of-candidate z (Bottom i) = ap (λ b. inFrontHalf z i && b) (back-none z) ∙ and-true (inFrontHalf z i)
-halves-of-candidate z (Top i) = ap (λ b. b && inBackHalf z i) (front-none z)
-halves-of-candidate z (Gap h i) = refl
-halves-of-candidate z Once = refl
-halves-of-candidate z Twice = refl
-
--- a candidate keeps to the halves where it is walked there and back and both its parts do
-pub halves-parts : (z : Layout) (c : Candidate) → candidateHalves z c ≡ true → (inFrontHalf z (c .front) ≡ true) × (inBackHalf z (c .back) ≡ true)
-unfolding candidateHalves
-halves-parts z c e =
-    let both = inFrontHalf z (c .front) && inBackHalf z (c .back) in
-    and-eq-true-iff (inFrontHalf z (c .front)) (inBackHalf z (c .back)) .0 (and-eq-true-iff (ltb (c .kind) 4) both .0 e .1)
-
-pub parts-halves : (z : Layout) (c : Candidate) → c .kind < 4 → inFrontHalf z (c .front) ≡ true → inBackHalf z (c .back) ≡ true → candidateHalves z c ≡ true
-unfolding candidateHalves
-parts-halves z c l f b = ap₂ _&&_ (lt-ltb (c .kind) 4 l) (ap₂ _&&_ f b)
+pub turns-between : (b : Between) (c : Candidate) → c .kind < 4 → Turning b (c .front) (c .back) → candidateBetween b c ≡ true
+unfolding candidateBetween allowsTurns
+turns-between b c l t =
+    ap₂ _&&_ (lt-ltb (c .kind) 4 l) (ap₂ _&&_ (t .front) (ap₂ _&&_ (t .back) (le-leb (getD (b .from) (c .front) 0) (c .back) (t .goes))))

@@ -1,16 +1,18 @@
--- The answer of the half rule matters to MIDPOINT's BOTTOM, TOP and GAP alone, and 'no' only kills.
+-- The answer of the test for aisles between matters to BOTTOM, TOP and GAP of MIDPOINT and LARGEST alone, and 'no' only kills.
 use Prim.Native.Nat.{ℕ, zero, suc, _≤_}
 use native.Mathlib.Omega.{arith}
 use mathlib.Core.Path.{_≡_, refl, ap}
 use mathlib.Core.Logic.{_⊎_, inl, inr}
-use mathlib.Core.Bool.{Bool, true, false, cond, _&&_, _||_}
+use mathlib.Core.Bool.{Bool, true, false, cond, _&&_, _||_, true≢false}
+use lib.Dec.{eqb}
 use Rattle.rules.specs.declared.Policy.{Policy}
-use Rattle.rules.specs.declared.Policy.the-variants.{Exact, Return, Traversal, Midpoint, Composite}
+use Rattle.rules.specs.declared.Policy.the-variants.{Exact, Return, Traversal, Midpoint, Composite, Largest}
 use Rattle.rules.specs.declared.Action.{Action}
 use Rattle.rules.specs.declared.Action.the-variants.{Void, Bottom, Top, Gap, Once, Twice}
 use Rattle.rules.specs.Policies.{actionNamed}
 use Rattle.rules.specs.Machine.{State, nothing, closed, atFront, atBack, odd, joined, split, ending, dead, row, midpointBy, mayEnter, isVoid}
-use Rattle.machine.specs.Steps.{policyOf, sampleAction, stepOf}
+use Rattle.machine.specs.Steps.{sampleAction, stepOf}
+use Rattle.machine.specs.Tables.{automatonOf}
 
 -- two rows of the machine that differ at `odd` alone
 row-odd : (n f k t u j s x : State) → (row n f k t j s x ≡ row n f k u j s x) ⊎ (x ≡ odd)
@@ -47,32 +49,46 @@ midpoint-no Twice s = inl refl
 -- with the answer 'no' a step leads where it does with 'yes', or nowhere
 pub step-no : (policy : Policy) (a : Action) (holds : Bool) (s : State) → (stepOf policy a holds false s ≡ stepOf policy a holds true s) ⊎ (stepOf policy a holds false s ≡ dead)
 unfolding stepOf
-step-no Exact a holds s = inl refl
-step-no Return a holds s = inl refl
-step-no Traversal a holds s = inl refl
-step-no Midpoint a holds s = go (actionNamed Midpoint a && (isVoid a || mayEnter Midpoint holds)) (midpoint-no a s)
+step-no policy a holds s = by-policy policy
   where
-    go : (b : Bool) → (midpointBy false a s ≡ midpointBy true a s) ⊎ (midpointBy false a s ≡ dead)
+    if-possible : (b : Bool) → (midpointBy false a s ≡ midpointBy true a s) ⊎ (midpointBy false a s ≡ dead)
         → (cond b (midpointBy false a s) dead ≡ cond b (midpointBy true a s) dead) ⊎ (cond b (midpointBy false a s) dead ≡ dead)
-    go true e = e
-    go false e = inl refl
-step-no Composite a holds s = inl refl
+    if-possible true e = e
+    if-possible false e = inl refl
 
--- policies and kinds to which the answer does not matter
-pub step-same : (policy kind : ℕ) → (policy ≡ 3 → ⊥) ⊎ ((kind ≡ 0) ⊎ (4 ≤ kind)) → (holds : Bool) (s : State)
-    → stepOf (policyOf policy) (sampleAction kind) holds false s ≡ stepOf (policyOf policy) (sampleAction kind) holds true s
+    by-policy : (p : Policy) → (stepOf p a holds false s ≡ stepOf p a holds true s) ⊎ (stepOf p a holds false s ≡ dead)
+    by-policy Exact = inl refl
+    by-policy Return = inl refl
+    by-policy Traversal = inl refl
+    by-policy Midpoint = if-possible (actionNamed Midpoint a && (isVoid a || mayEnter Midpoint holds)) (midpoint-no a s)
+    by-policy Composite = inl refl
+    by-policy Largest = if-possible (actionNamed Largest a && (isVoid a || mayEnter Largest holds)) (midpoint-no a s)
+
+-- kinds to which the answer does not matter
+midpoint-same : (kind : ℕ) → (kind ≡ 0) ⊎ (4 ≤ kind) → (s : State) → midpointBy false (sampleAction kind) s ≡ midpointBy true (sampleAction kind) s
+midpoint-same zero k s = refl
+midpoint-same (suc zero) (inl e) s = absurd (omega arith)
+midpoint-same (suc zero) (inr l) s = absurd (omega arith)
+midpoint-same (suc (suc zero)) (inl e) s = absurd (omega arith)
+midpoint-same (suc (suc zero)) (inr l) s = absurd (omega arith)
+midpoint-same (suc (suc (suc zero))) (inl e) s = absurd (omega arith)
+midpoint-same (suc (suc (suc zero))) (inr l) s = absurd (omega arith)
+midpoint-same (suc (suc (suc (suc zero)))) k s = refl
+midpoint-same (suc (suc (suc (suc (suc kind))))) k s = refl
+
+-- policies and kinds to which it does not
+pub step-same : (policy : Policy) (kind : ℕ) → (eqb (automatonOf policy) 2 ≡ false) ⊎ ((kind ≡ 0) ⊎ (4 ≤ kind)) → (holds : Bool) (s : State)
+    → stepOf policy (sampleAction kind) holds false s ≡ stepOf policy (sampleAction kind) holds true s
 unfolding stepOf
-step-same zero kind free holds s = refl
-step-same (suc zero) kind free holds s = refl
-step-same (suc (suc zero)) kind free holds s = refl
-step-same (suc (suc (suc zero))) kind (inl other) holds s = absurd (other refl)
-step-same (suc (suc (suc zero))) zero (inr k) holds s = refl
-step-same (suc (suc (suc zero))) (suc zero) (inr (inl e)) holds s = absurd (omega arith)
-step-same (suc (suc (suc zero))) (suc zero) (inr (inr l)) holds s = absurd (omega arith)
-step-same (suc (suc (suc zero))) (suc (suc zero)) (inr (inl e)) holds s = absurd (omega arith)
-step-same (suc (suc (suc zero))) (suc (suc zero)) (inr (inr l)) holds s = absurd (omega arith)
-step-same (suc (suc (suc zero))) (suc (suc (suc zero))) (inr (inl e)) holds s = absurd (omega arith)
-step-same (suc (suc (suc zero))) (suc (suc (suc zero))) (inr (inr l)) holds s = absurd (omega arith)
-step-same (suc (suc (suc zero))) (suc (suc (suc (suc zero)))) (inr k) holds s = refl
-step-same (suc (suc (suc zero))) (suc (suc (suc (suc (suc kind))))) (inr k) holds s = refl
-step-same (suc (suc (suc (suc policy)))) kind free holds s = refl
+step-same Exact kind free holds s = refl
+step-same Return kind free holds s = refl
+step-same Traversal kind free holds s = refl
+step-same Midpoint kind (inl e) holds s = absurd (true≢false e)
+step-same Midpoint kind (inr k) holds s =
+    let a = sampleAction kind in
+    ap (λ t. cond (actionNamed Midpoint a && (isVoid a || mayEnter Midpoint holds)) t dead) (midpoint-same kind k s)
+step-same Composite kind free holds s = refl
+step-same Largest kind (inl e) holds s = absurd (true≢false e)
+step-same Largest kind (inr k) holds s =
+    let a = sampleAction kind in
+    ap (λ t. cond (actionNamed Largest a && (isVoid a || mayEnter Largest holds)) t dead) (midpoint-same kind k s)

@@ -19,7 +19,8 @@ use Rattle.rows.specs.Rows.{tab}
 use Rattle.aisles.specs.declared.layers.Turns.{Turns}
 use Rattle.aisles.specs.declared.repeats.Repeats.{Repeats}
 use Rattle.aisles.specs.Repeating.{Agree, RepeatsTo}
-use Rattle.aisles.specs.Turns.{keptTurn, Thinned, turnWay, SweepReady, SweptTo}
+use Rattle.between.specs.Between.{Graded}
+use Rattle.aisles.specs.Turns.{keptTurn, Thinned, turnWay, Pair, SweepReady, SweptTo}
 
 -- two rows of a map, compared at one more demand
 pub agree-one : (map : List ℕ) (a b n : ℕ) (same : Bool) → Agree map a b n same → Agree map a b (n + 1) (same && eqb (entry map a n) (entry map b n))
@@ -77,11 +78,31 @@ kept-or-none : (map : List ℕ) (weight : ℕ) (costs kept : List ℕ) (h near :
     → (getD kept h 0 ≡ getD costs h 0) ⊎ (getD kept h 0 ≡ 65535)
 kept-or-none map weight costs kept h near k = ⊎-elim (λ p. inl p) (λ n. inr (n .0)) k
 
+-- where all turns can be swept, so can those that are kept
+pub sweep-kept : (row perm fronts backs : List ℕ) (t : Turns) (same : Repeats) (r : Turns) (weight : ℕ) → SweepReady row perm fronts backs t weight → Thinned t same r
+    → SweepReady row perm fronts backs r weight
+sweep-kept row perm fronts backs t same r weight ready thin =
+    let top-is = thin .top in
+    let b = ready .behind in
+    record {
+      behind = record {
+        small = b .small;
+        top-fits = omega (arith, b .top-fits);
+        graded = subst (λ from. Graded from (r .top)) (sym (thin .from)) (subst (Graded (t .from)) (sym (thin .top)) (b .graded));
+        perm-long = b .perm-long;
+        backs-long = b .backs-long;
+        back-below = λ i q l m n. b .back-below i q l (omega arith) n;
+      };
+      row-long = ready .row-long;
+      fronts-long = ready .fronts-long;
+      front-below = λ h q l m. ready .front-below h q (omega arith) m;
+    }
+
 -- a row that is swept over the turns that are kept is swept over all turns
 module _ (row row′ perm fronts backs : List ℕ) (weight : ℕ) (t : Turns) (same : Repeats) (r : Turns) (thin : Thinned t same r)
-    (ready : SweepReady row perm fronts backs (t .top) weight)
+    (ready : SweepReady row perm fronts backs t weight)
     (front-same : RepeatsTo fronts weight (same .front) (t .top)) (back-same : RepeatsTo backs weight (same .back) (t .top))
-    (fits : (k : ℕ) → getD row k 0 < 65536) (swept : SweptTo row row′ perm fronts backs (r .front) (r .back) (r .top) weight 0) where
+    (fits : (k : ℕ) → getD row k 0 < 65536) (swept : SweptTo row row′ perm fronts backs r weight 0) where
   front-kept : (h : ℕ) → suc h ≤ t .top → Kept fronts weight (t .front) (r .front) (suc h) h
   front-kept h l =
       subst (λ n. Kept fronts weight (t .front) (r .front) n h) (add-one h)
@@ -104,6 +125,21 @@ module _ (row row′ perm fronts backs : List ℕ) (weight : ℕ) (t : Turns) (s
       (λ p. kept-or-none backs weight (t .back) (r .back) i (i + 1) (back-kept i p))
       (eq-or-lt-of-le l)
 
+  -- the pairs of turns are those of the turns that are kept
+  pair-kept : (a i : ℕ) → Pair t a i → Pair r a i
+  pair-kept a i p =
+      record { front = omega (arith, p .front, thin .top); goes = subst (λ l. getD l a 0 ≤ i) (sym (thin .from)) (p .goes); back = omega (arith, p .back, thin .top) }
+
+  pair-all : (a i : ℕ) → Pair r a i → Pair t a i
+  pair-all a i p =
+      record { front = omega (arith, p .front, thin .top); goes = subst (λ l. getD l a 0 ≤ i) (thin .from) (p .goes); back = omega (arith, p .back, thin .top) }
+
+  -- a back turn that goes with a front turn goes with the one before it too
+  pair-lower : (a i : ℕ) → Pair t (suc a) i → Pair t a i
+  pair-lower a i p =
+      let grown = subst (λ n. getD (t .from) a 0 ≤ getD (t .from) n 0) (add-one a) (ready .behind .graded .grows a (omega (arith, p .front))) in
+      record { front = omega (arith, p .front); goes = le-trans grown (p .goes); back = p .back }
+
   module _ (s q : ℕ) (l : s < 8) (m : q < weight) where
     abbrev way : List ℕ → List ℕ → ℕ → ℕ → ℕ
     way fc bc a i = turnWay perm fronts backs fc bc s q a i
@@ -113,40 +149,43 @@ module _ (row row′ perm fronts backs : List ℕ) (weight : ℕ) (t : Turns) (s
     behind a i = tab perm s (entry backs i (entry fronts a q))
 
     -- no way over a front turn that is kept and any back turn is shorter: go up to a back turn that is kept
-    low-kept : (a i : ℕ) → a < i → i ≤ t .top → getD (r .back) i 0 ≡ getD (t .back) i 0 → tab row′ s q ≤ way (r .front) (t .back) a i
-    low-kept a i o h e =
-        subst (λ c. tab row′ s q ≤ sat (getD (r .front) a 0 + c) (behind a i)) e (swept .low s q a i l m (omega arith) o (omega (arith, thin .top)))
+    low-kept : (a i : ℕ) → Pair t a i → getD (r .back) i 0 ≡ getD (t .back) i 0 → tab row′ s q ≤ way (r .front) (t .back) a i
+    low-kept a i p e =
+        subst (λ c. tab row′ s q ≤ sat (getD (r .front) a 0 + c) (behind a i)) e (swept .low s q a i l m (omega arith) (pair-kept a i p))
 
-    low-back : (n a i : ℕ) → i + n ≡ t .top → a < i → tab row′ s q ≤ way (r .front) (t .back) a i
-    low-back zero a i e o =
-        low-kept a i o (omega arith) (subst (λ k. getD (r .back) k 0 ≡ getD (t .back) k 0) (omega arith) (thin .last))
-    low-back (suc n) a i e o = go (low-back n a (i + 1) (omega arith) (omega arith)) (back-kept i (omega arith))
+    low-back : (n a i : ℕ) → i + n ≡ t .top → Pair t a i → tab row′ s q ≤ way (r .front) (t .back) a i
+    low-back zero a i e p = low-kept a i p (subst (λ k. getD (r .back) k 0 ≡ getD (t .back) k 0) (omega arith) (thin .last))
+    low-back (suc n) a i e p =
+        go (low-back n a (i + 1) (omega arith) (record { front = p .front; goes = omega (arith, p .goes); back = omega arith })) (back-kept i (omega arith))
       where
         go : tab row′ s q ≤ way (r .front) (t .back) a (i + 1) → Kept backs weight (t .back) (r .back) i (i + 1) → tab row′ s q ≤ way (r .front) (t .back) a i
-        go higher (inl p) = low-kept a i o (omega arith) p
+        go higher (inl k) = low-kept a i p k
         go higher (inr (none, cost, agreed)) =
             let y = entry fronts a q in
-            let less = ap (tab perm s) (agreed y (ready .front-below a q (omega arith) m)) in
+            let less = ap (tab perm s) (agreed y (ready .front-below a q (p .front) m)) in
             le-trans higher (sat-less (getD (r .front) a 0 + getD (t .back) (i + 1) 0) (getD (r .front) a 0 + getD (t .back) i 0) (behind a (i + 1)) (behind a i) (omega arith) less)
 
     -- nor over any front turn: go down to one that is kept
-    low-any : (a i : ℕ) → a < i → i ≤ t .top → getD (r .front) a 0 ≡ getD (t .front) a 0 → tab row′ s q ≤ way (t .front) (t .back) a i
-    low-any a i o h e =
-        subst (λ c. tab row′ s q ≤ sat (c + getD (t .back) i 0) (behind a i)) e (low-back (t .top - i) a i (omega arith) o)
+    low-any : (a i : ℕ) → Pair t a i → getD (r .front) a 0 ≡ getD (t .front) a 0 → tab row′ s q ≤ way (t .front) (t .back) a i
+    low-any a i p e =
+        subst (λ c. tab row′ s q ≤ sat (c + getD (t .back) i 0) (behind a i)) e (low-back (t .top - i) a i (omega (arith, p .back)) p)
 
-    low : (a i : ℕ) → a < i → i ≤ t .top → tab row′ s q ≤ way (t .front) (t .back) a i
-    low zero i o h = low-any zero i o h (thin .first)
-    low (suc a) i o h = go (low a i (omega arith) h) (front-kept a (omega arith))
+    low : (a i : ℕ) → Pair t a i → tab row′ s q ≤ way (t .front) (t .back) a i
+    low zero i p = low-any zero i p (thin .first)
+    low (suc a) i p = go (low a i (pair-lower a i p)) (front-kept a (omega (arith, p .front)))
       where
         go : tab row′ s q ≤ way (t .front) (t .back) a i → Kept fronts weight (t .front) (r .front) (suc a) a → tab row′ s q ≤ way (t .front) (t .back) (suc a) i
-        go lower (inl p) = low-any (suc a) i o h p
+        go lower (inl k) = low-any (suc a) i p k
         go lower (inr (none, cost, agreed)) =
             let less = ap (λ y. tab perm s (entry backs i y)) (agreed q m) in
             le-trans lower (sat-less (getD (t .front) a 0 + getD (t .back) i 0) (getD (t .front) (suc a) 0 + getD (t .back) i 0) (behind a i) (behind (suc a) i) (omega arith) less)
 
     -- a number that changed is the way over two turns that are kept
+    abbrev Found : Turns → Type 0
+    Found u = (a : ℕ) × (i : ℕ) × (0 ≤ a) × Pair u a i × (tab row′ s q ≡ way (u .front) (u .back) a i)
+
     abbrev One : Type 0
-    One = (tab row′ s q ≡ tab row s q) ⊎ ((a : ℕ) × (i : ℕ) × (0 ≤ a) × (a < i) × (i ≤ t .top) × (tab row′ s q ≡ way (t .front) (t .back) a i))
+    One = (tab row′ s q ≡ tab row s q) ⊎ Found t
 
     one : One
     unfolding sumUpTo
@@ -156,23 +195,23 @@ module _ (row row′ perm fronts backs : List ℕ) (weight : ℕ) (t : Turns) (s
         still : tab row′ s q ≡ 65535 → One
         still e = inl (omega (arith, swept .less s q l m, fits (q * 8 + s)))
 
-        pick : (a i : ℕ) → a < i → i ≤ t .top → tab row′ s q ≡ way (r .front) (r .back) a i
+        pick : (a i : ℕ) → Pair t a i → tab row′ s q ≡ way (r .front) (r .back) a i
             → (getD (r .front) a 0 ≡ getD (t .front) a 0) ⊎ (getD (r .front) a 0 ≡ 65535) → (getD (r .back) i 0 ≡ getD (t .back) i 0) ⊎ (getD (r .back) i 0 ≡ 65535) → One
-        pick a i o h e (inl u) (inl v) = inr (a, i, omega arith, o, h, e ∙ ap₂ (λ f b. sat (f + b) (behind a i)) u v)
-        pick a i o h e (inr u) v = still (omega (arith, e, u))
-        pick a i o h e (inl u) (inr v) = still (omega (arith, e, v))
+        pick a i p e (inl u) (inl v) = inr (a, i, omega arith, p, e ∙ ap₂ (λ f b. sat (f + b) (behind a i)) u v)
+        pick a i p e (inr u) v = still (omega (arith, e, u))
+        pick a i p e (inl u) (inr v) = still (omega (arith, e, v))
 
-        go : (tab row′ s q ≡ tab row s q) ⊎ ((a : ℕ) × (i : ℕ) × (0 ≤ a) × (a < i) × (i ≤ r .top) × (tab row′ s q ≡ way (r .front) (r .back) a i)) → One
+        go : (tab row′ s q ≡ tab row s q) ⊎ Found r → One
         go (inl e) = inl e
-        go (inr (a, i, z, o, h, e)) =
-            let high : i ≤ t .top = omega (arith, thin .top) in
-            pick a i o high e (front-or-none a (omega arith)) (back-or-none i high)
+        go (inr (a, i, z, p, e)) =
+            let k = pair-all a i p in
+            pick a i k e (front-or-none a (omega (arith, k .front))) (back-or-none i (k .back))
 
-  pub swept-thin : SweptTo row row′ perm fronts backs (t .front) (t .back) (t .top) weight 0
+  pub swept-thin : SweptTo row row′ perm fronts backs t weight 0
   swept-thin =
       record {
         kept = swept .kept;
-        low = λ s q a i l m z o h. low s q l m a i o h;
+        low = λ s q a i l m z p. low s q l m a i p;
         less = swept .less;
         one = one;
         rest = swept .rest;

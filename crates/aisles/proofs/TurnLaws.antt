@@ -1,14 +1,13 @@
 -- The turns of a kind of action stand for its actions.
 use Prim.Native.Nat.{ℕ, zero, suc, _+_, _≤_, _<_}
 use native.Mathlib.Omega.{arith}
-use mathlib.Core.Path.{_≡_, refl, sym, _∙_, ap, ap₂}
-use mathlib.Core.Bool.{Bool, true, false, cond, not, _&&_, _||_, and-eq-true-iff}
+use mathlib.Core.Path.{_≡_, refl, sym, ap₂}
+use mathlib.Core.Bool.{true, _&&_, and-eq-true-iff}
 use lib.Dec.{ltb, leb, eqb}
-use borrow.Author.Tests.{ltb-true, leb-true, eqb-true, lt-ltb, le-leb, eq-eqb, ne-eqb}
+use borrow.Author.Tests.{ltb-true, leb-true, eqb-true, lt-ltb, le-leb, eq-eqb}
 use Rattle.rules.specs.declared.Action.{Action}
 use Rattle.rules.specs.declared.Action.the-variants.{Void, Bottom, Top, Gap, Once, Twice}
 use Rattle.rules.specs.Plans.{Fits}
-use Rattle.machine.specs.Steps.{bit}
 use Rattle.aisles.specs.Candidates.{candidateOf, actionOfParts}
 use Rattle.aisles.specs.Turns.{frontAt, backAt}
 
@@ -26,19 +25,6 @@ back-past top (suc zero) i l = absurd (omega arith)
 back-past top (suc (suc zero)) i l = absurd (omega arith)
 back-past top (suc (suc (suc zero))) i l = absurd (omega arith)
 back-past top (suc (suc (suc (suc kind)))) i l = refl
-
--- the test of a turn, as the code asks it
-not-bit : (n : ℕ) → not (bit n) ≡ eqb n 0
-not-bit zero = sym (eq-eqb 0 0 refl)
-not-bit (suc n) = sym (ne-eqb (suc n) 0 (λ e. omega arith))
-
-pub turn-yes : (at half : Bool) (halves cost : ℕ) → (at && (eqb halves 0 || half)) ≡ true → cost ≡ cond (at && (not (bit halves) || half)) cost 65535
-turn-yes at half halves cost e =
-    sym (ap (λ b. cond b cost 65535) (ap (λ t. at && (t || half)) (not-bit halves) ∙ e))
-
-pub turn-no : (at half : Bool) (halves cost : ℕ) → (at && (eqb halves 0 || half)) ≡ false → 65535 ≡ cond (at && (not (bit halves) || half)) cost 65535
-turn-no at half halves cost e =
-    sym (ap (λ b. cond b cost 65535) (ap (λ t. at && (t || half)) (not-bit halves) ∙ e))
 
 -- an action whose parts reach the heights h and i
 pub record PairOf (cells kind h i : ℕ) (a : Action) : Type 0 where

@@ -8,7 +8,8 @@ use Rattle.rules.specs.declared.Action.{Action}
 use Rattle.rules.specs.declared.Action.the-variants.{Void, Bottom, Top, Gap, Once, Twice}
 use Rattle.rules.specs.Store.{position, aisleLength}
 use Rattle.rules.specs.Lists.{from, concatOf}
-use Rattle.rules.specs.Policies.{inFrontHalf, inBackHalf}
+use Rattle.between.specs.declared.Between.{Between}
+use Rattle.between.specs.Between.{allowsTurns}
 use Rattle.aisles.specs.declared.candidates.Candidate.{Candidate}
 
 -- the candidate of an action in an aisle with so many cells; a part that is not there reaches the crossing
@@ -44,9 +45,9 @@ backCost z i = 2 * (aisleLength z - position z i)
 unfoldable pub candidateLength : Layout → Candidate → ℕ
 candidateLength z c = frontCost z (c .kind) (c .front) + backCost z (c .back)
 
--- whether a candidate keeps to the halves: it is walked there and back, and so do both its parts
-unfoldable pub candidateHalves : Layout → Candidate → Bool
-candidateHalves z c = ltb (c .kind) 4 && (inFrontHalf z (c .front) && inBackHalf z (c .back))
+-- whether a candidate passes the test for aisles between: it is walked there and back, and its two turns pass
+unfoldable pub candidateBetween : Between → Candidate → Bool
+candidateBetween b c = ltb (c .kind) 4 && allowsTurns b (c .front) (c .back)
 
 -- the GAPs of an aisle whose front part reaches cell h
 unfoldable pub gapsAt : ℕ → ℕ → List Action

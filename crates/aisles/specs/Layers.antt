@@ -3,7 +3,7 @@ use Prim.Native.Nat.{ℕ, suc, _+_, _*_, _-_, _/_, _≤_, _<_}
 use mathlib.Core.Path.{_≡_}
 use mathlib.Core.Logic.{_⊎_}
 use mathlib.Core.List.{List}
-use mathlib.Core.Bool.{Bool, true, cond}
+use mathlib.Core.Bool.{Bool, true, false, cond, _||_}
 use lib.Dec.{eqb}
 use lib.ListN.{length, getD}
 use Rattle.rules.specs.declared.Action.{Action}
@@ -14,32 +14,37 @@ use Rattle.optimum.specs.Routing.{sat, leastOf}
 use Rattle.aisles.specs.declared.candidates.Candidate.{Candidate}
 use Rattle.aisles.specs.declared.layers.Aisle.{Aisle}
 use Rattle.aisles.specs.declared.layers.Lane.{Lane}
+use Rattle.aisles.specs.declared.layers.Turns.{Turns}
+use Rattle.between.specs.Between.{Graded}
 use Rattle.machine.specs.States.{stateCode, stateOf}
 use Rattle.machine.specs.Steps.{policyOf, sampleAction, bit, stepOf}
-use Rattle.aisles.specs.Candidates.{candidateOf, candidateLength, candidateHalves}
+use Rattle.machine.specs.Tables.{automatonOf}
+use Rattle.aisles.specs.Candidates.{candidateOf, candidateLength, candidateBetween}
 use Rattle.demand.specs.Digits.{demands}
 use Rattle.demand.specs.Maps.{entry, mapSize}
 use Rattle.rows.specs.Rows.{states, tab, nextAt}
 use Rattle.aisles.specs.Repeating.{RepeatsTo}
+use Rattle.aisles.specs.Turns.{frontTurn, backTurn, leastBack}
 
 -- an aisle's numbers are in range
 pub record InRange (x : Aisle) : Type 0 where
   pub bounds : layoutInBounds (x .layout) ≡ true
-  pub policy-below : x .policy < 5
+  pub policy-below : x .policy < 6
   pub holds-below : x .holds < 2
   pub small : x .weight ≤ demands
   pub side-below : x .side < 3
   pub few : x .tried ≤ 5
+  pub graded : Graded (x .between .from) (x .layout .cells + 1)
 
--- the number of the state after a kind of action, with the answer of the half rule given
+-- the number of the state after a kind of action, with the answer of the test for aisles between given
 unfoldable pub stepWith : Aisle → ℕ → Bool → ℕ → ℕ
-stepWith x kind halves s =
-    stateCode (stepOf (policyOf (x .policy)) (sampleAction kind) (bit (x .holds)) halves (stateOf s))
+stepWith x kind between s =
+    stateCode (stepOf (policyOf (x .policy)) (sampleAction kind) (bit (x .holds)) between (stateOf s))
 
 -- the number of the state after a candidate
 unfoldable pub stepCode : Aisle → Candidate → ℕ → ℕ
 stepCode x c s =
-    stateCode (stepOf (policyOf (x .policy)) (sampleAction (c .kind)) (bit (x .holds)) (candidateHalves (x .layout) c) (stateOf s))
+    stateCode (stepOf (policyOf (x .policy)) (sampleAction (c .kind)) (bit (x .holds)) (candidateBetween (x .between) c) (stateOf s))
 
 -- the number of the demand after a candidate
 unfoldable pub leftCode : List ℕ → List ℕ → Candidate → ℕ → ℕ
@@ -67,33 +72,44 @@ pub record LaneReady (lane : Lane) (fronts backs : List ℕ) : Type 0 where
   pub front : RepeatsTo fronts (lane .aisle .weight) (lane .same .front) (lane .aisle .layout .cells + 1)
   pub back : RepeatsTo backs (lane .aisle .weight) (lane .same .back) (lane .aisle .layout .cells + 1)
 
--- the way over an action, with the answer of the half rule given
+-- the way over an action, with the answer of the test for aisles between given
 unfoldable pub wayWith : Aisle → List ℕ → List ℕ → List ℕ → Bool → ℕ → ℕ → Action → ℕ
-wayWith x after fronts backs halves s q a =
+wayWith x after fronts backs between s q a =
     let c = candidateOf (x .layout .cells) a in
-    sat (candidateLength (x .layout) c) (nextAt after (stepWith x (c .kind) halves s) (leftCode fronts backs c q))
+    sat (candidateLength (x .layout) c) (nextAt after (stepWith x (c .kind) between s) (leftCode fronts backs c q))
 
--- the passes over an aisle: its six kinds of action in turn, then BOTTOM, TOP and GAP as far as they keep to the halves
-abbrev pub passHalves : ℕ → ℕ
-passHalves pass = pass / 6
+-- the turns of a kind up to the back crossing: all, or those that the test for aisles between allows
+pub record TurnsOf (x : Aisle) (kind : ℕ) (free : Bool) (t : Turns) : Type 0 where
+  pub top : t .top ≡ x .layout .cells + 1
+  pub front : (h : ℕ) → h ≤ x .layout .cells + 1 → getD (t .front) h 0 ≡ frontTurn (x .layout) kind h (free || getD (x .between .front) h false)
+  pub back : (i : ℕ) → i ≤ x .layout .cells + 1 → getD (t .back) i 0 ≡ backTurn (x .layout) kind i (free || getD (x .between .back) i false)
+  pub from : (h : ℕ) → h ≤ x .layout .cells + 1 → getD (t .from) h 0 ≡ leastBack free (getD (x .between .from) h 0) h
+
+-- the passes over an aisle: its six kinds of action in turn, then BOTTOM, TOP and GAP as far as they pass the test for aisles between
+abbrev pub passBetween : ℕ → ℕ
+passBetween pass = pass / 6
 
 abbrev pub passKind : ℕ → ℕ
-passKind pass = pass - passHalves pass * 5
+passKind pass = pass - passBetween pass * 5
 
--- how many of them a policy needs: the last three for MIDPOINT alone
+-- whether a policy, by its number, asks the test for aisles between: whether its automaton does
+abbrev pub asksBetween : ℕ → Bool
+asksBetween policy = eqb (automatonOf (policyOf policy)) 2
+
+-- how many of them a policy needs: the last three where it asks the test
 abbrev pub passesOf : ℕ → ℕ
-passesOf policy = cond (eqb policy 3) 9 6
+passesOf policy = cond (asksBetween policy) 9 6
 
 -- an action of the pass of a kind
-pub record OfPass (x : Aisle) (kind halves : ℕ) (a : Action) : Type 0 where
+pub record OfPass (x : Aisle) (kind between : ℕ) (a : Action) : Type 0 where
   pub fits : Fits (x .layout .cells) a
   pub same : candidateOf (x .layout .cells) a .kind ≡ kind
-  pub keeps : (halves ≡ 0) ⊎ (candidateHalves (x .layout) (candidateOf (x .layout .cells) a) ≡ true)
+  pub passes : (between ≡ 0) ⊎ (candidateBetween (x .between) (candidateOf (x .layout .cells) a) ≡ true)
 
 -- a row after a pass: no way over one of its actions is shorter, nothing grew, and each number is as it was or the way over an action
-pub record PassDone (x : Aisle) (row row′ after fronts backs : List ℕ) (kind halves : ℕ) : Type 0 where
+pub record PassDone (x : Aisle) (row row′ after fronts backs : List ℕ) (kind between : ℕ) : Type 0 where
   pub kept : length row′ ≡ length row
-  pub low : (s q : ℕ) (a : Action) → s < states → q < x .weight → OfPass x kind halves a → tab row′ s q ≤ wayWith x after fronts backs (bit halves) s q a
+  pub low : (s q : ℕ) (a : Action) → s < states → q < x .weight → OfPass x kind between a → tab row′ s q ≤ wayWith x after fronts backs (bit between) s q a
   pub less : (s q : ℕ) → s < states → q < x .weight → tab row′ s q ≤ tab row s q
   pub one : (s q : ℕ) → s < states → q < x .weight → (tab row′ s q ≡ tab row s q) ⊎ ((a : Action) × Fits (x .layout .cells) a × (tab row′ s q ≡ throughAction x (nextAt after) fronts backs s q a))
   pub rest : (k : ℕ) → x .weight * states ≤ k → getD row′ k 0 ≡ getD row k 0

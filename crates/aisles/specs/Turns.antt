@@ -3,11 +3,11 @@ use Prim.Native.Nat.{ℕ, zero, suc, _+_, _*_, _≤_, _<_}
 use mathlib.Core.Path.{_≡_}
 use mathlib.Core.Logic.{_⊎_}
 use mathlib.Core.List.{List}
-use mathlib.Core.Bool.{Bool, false, cond, not, _&&_, _||_}
+use mathlib.Core.Bool.{Bool, false, cond, _&&_}
 use lib.Dec.{ltb, leb, eqb}
 use lib.ListN.{length, getD}
 use Rattle.rules.specs.declared.Layout.{Layout}
-use Rattle.rules.specs.Policies.{inFrontHalf, inBackHalf}
+use Rattle.between.specs.Between.{Graded}
 use Rattle.optimum.specs.Routing.{noTour, sat}
 use Rattle.aisles.specs.declared.layers.Turns.{Turns}
 use Rattle.aisles.specs.declared.repeats.Repeats.{Repeats}
@@ -32,18 +32,16 @@ backAt top (suc (suc zero)) i = leb 1 i && ltb i top
 backAt top (suc (suc (suc zero))) i = leb 2 i && ltb i top
 backAt top (suc (suc (suc (suc n)))) i = eqb i top
 
--- what a turn costs; 'none' where the kind has none, or where it is to keep to its half and does not
-unfoldable pub frontTurn : Layout → ℕ → Bool → ℕ → ℕ
-frontTurn z kind halves h = cond (frontAt (z .cells) kind h && (not halves || inFrontHalf z h)) (frontCost z kind h) noTour
+-- what a turn costs; 'none' where the kind has none, or may not turn
+unfoldable pub frontTurn : Layout → ℕ → ℕ → Bool → ℕ
+frontTurn z kind h may = cond (frontAt (z .cells) kind h && may) (frontCost z kind h) noTour
 
-unfoldable pub backTurn : Layout → ℕ → Bool → ℕ → ℕ
-backTurn z kind halves i = cond (backAt (z .cells + 1) kind i && (not halves || inBackHalf z i)) (backCost z i) noTour
+unfoldable pub backTurn : Layout → ℕ → ℕ → Bool → ℕ
+backTurn z kind i may = cond (backAt (z .cells + 1) kind i && may) (backCost z i) noTour
 
--- the turns of a kind up to the back crossing
-pub record TurnsOf (z : Layout) (kind : ℕ) (halves : Bool) (t : Turns) : Type 0 where
-  pub top : t .top ≡ z .cells + 1
-  pub front : (h : ℕ) → h ≤ z .cells + 1 → getD (t .front) h 0 ≡ frontTurn z kind halves h
-  pub back : (i : ℕ) → i ≤ z .cells + 1 → getD (t .back) i 0 ≡ backTurn z kind halves i
+-- the least back turn that goes with a front turn at height h: the next height, or what the test says
+abbrev pub leastBack : Bool → ℕ → ℕ → ℕ
+leastBack free from h = cond free (h + 1) from
 
 -- what a turn costs; 'none' where the neighbouring height leaves the same demand and costs no more
 unfoldable pub keptTurn : Bool → ℕ → ℕ → ℕ
@@ -59,6 +57,7 @@ backKept t same i = keptTurn (getD (same .back) i false) (getD (t .back) (i + 1)
 -- the turns that are left then; the first in front and the last at the back have no such neighbour
 pub record Thinned (t : Turns) (same : Repeats) (r : Turns) : Type 0 where
   pub top : r .top ≡ t .top
+  pub from : r .from ≡ t .from
   pub first : getD (r .front) 0 0 ≡ getD (t .front) 0 0
   pub front : (h : ℕ) → h < t .top → getD (r .front) (h + 1) 0 ≡ frontKept t same h
   pub back : (i : ℕ) → i < t .top → getD (r .back) i 0 ≡ backKept t same i
@@ -73,27 +72,39 @@ turnWay perm fronts backs fc bc s q h i =
 abbrev pub backWay : List ℕ → List ℕ → List ℕ → ℕ → ℕ → ℕ → ℕ
 backWay perm backs bc s y i = sat (getD bc i 0) (tab perm s (entry backs i y))
 
--- the best over the back turns past height h: none is shorter, and it is one of them or none
-pub record BacksDone (acc perm backs bc : List ℕ) (top weight h : ℕ) : Type 0 where
-  pub low : (s y i : ℕ) → s < states → y < weight → h < i → i ≤ top → tab acc s y ≤ backWay perm backs bc s y i
-  pub one : (s y : ℕ) → s < states → y < weight → (tab acc s y ≡ noTour) ⊎ ((i : ℕ) × (h < i) × (i ≤ top) × (tab acc s y ≡ backWay perm backs bc s y i))
+-- a front turn at height a, and a back turn at height i that goes with it
+pub record Pair (t : Turns) (a i : ℕ) : Type 0 where
+  pub front : a < t .top
+  pub goes : getD (t .from) a 0 ≤ i
+  pub back : i ≤ t .top
+
+-- the best over the back turns from height n on: none is shorter, and it is one of them or none
+pub record BacksDone (acc perm backs : List ℕ) (t : Turns) (weight n : ℕ) : Type 0 where
+  pub low : (s y i : ℕ) → s < states → y < weight → n ≤ i → i ≤ t .top → tab acc s y ≤ backWay perm backs (t .back) s y i
+  pub one : (s y : ℕ) → s < states → y < weight → (tab acc s y ≡ noTour) ⊎ ((i : ℕ) × (n ≤ i) × (i ≤ t .top) × (tab acc s y ≡ backWay perm backs (t .back) s y i))
 
 -- a row after all pairs whose front turn is at height h or past it: no way over one of them is shorter, nothing grew,
 -- and each number is as it was or the way over a pair
-pub record SweptTo (row row′ perm fronts backs fc bc : List ℕ) (top weight h : ℕ) : Type 0 where
+pub record SweptTo (row row′ perm fronts backs : List ℕ) (t : Turns) (weight h : ℕ) : Type 0 where
   pub kept : length row′ ≡ length row
-  pub low : (s q a i : ℕ) → s < states → q < weight → h ≤ a → a < i → i ≤ top → tab row′ s q ≤ turnWay perm fronts backs fc bc s q a i
+  pub low : (s q a i : ℕ) → s < states → q < weight → h ≤ a → Pair t a i → tab row′ s q ≤ turnWay perm fronts backs (t .front) (t .back) s q a i
   pub less : (s q : ℕ) → s < states → q < weight → tab row′ s q ≤ tab row s q
-  pub one : (s q : ℕ) → s < states → q < weight → (tab row′ s q ≡ tab row s q) ⊎ ((a : ℕ) × (i : ℕ) × (h ≤ a) × (a < i) × (i ≤ top) × (tab row′ s q ≡ turnWay perm fronts backs fc bc s q a i))
+  pub one : (s q : ℕ) → s < states → q < weight
+      → (tab row′ s q ≡ tab row s q) ⊎ ((a : ℕ) × (i : ℕ) × (h ≤ a) × Pair t a i × (tab row′ s q ≡ turnWay perm fronts backs (t .front) (t .back) s q a i))
   pub rest : (k : ℕ) → weight * states ≤ k → getD row′ k 0 ≡ getD row k 0
 
--- what the sweep needs
-pub record SweepReady (row perm fronts backs : List ℕ) (top weight : ℕ) : Type 0 where
+-- what the back turns need to be let in
+pub record BacksReady (perm backs : List ℕ) (t : Turns) (weight : ℕ) : Type 0 where
   pub small : weight ≤ demands
-  pub top-fits : top ≤ 25
-  pub row-long : weight * states ≤ length row
+  pub top-fits : t .top ≤ 25
+  pub graded : Graded (t .from) (t .top)
   pub perm-long : weight * states ≤ length perm
-  pub fronts-long : mapSize ≤ length fronts
   pub backs-long : mapSize ≤ length backs
-  pub front-below : (h q : ℕ) → h < top → q < weight → entry fronts h q < weight
-  pub back-below : (i q : ℕ) → 1 ≤ i → i ≤ top → q < weight → entry backs i q < weight
+  pub back-below : (i q : ℕ) → 1 ≤ i → i ≤ t .top → q < weight → entry backs i q < weight
+
+-- what the sweep needs
+pub record SweepReady (row perm fronts backs : List ℕ) (t : Turns) (weight : ℕ) : Type 0 where
+  pub behind : BacksReady perm backs t weight
+  pub row-long : weight * states ≤ length row
+  pub fronts-long : mapSize ≤ length fronts
+  pub front-below : (h q : ℕ) → h < t .top → q < weight → entry fronts h q < weight

@@ -1,11 +1,13 @@
 // The actions of an aisle as numbers, and what they cost.
+use between::Between;
+use between::positions::aisle_length;
+use between::positions::position_of;
 use rules::Layout;
-use rules::Posts;
-ghost use Prim.Native.Nat.{_*_, _+_, _<_, _≤_};
+ghost use Prim.Native.Nat.{_<_, _≤_};
 ghost use Rattle.machine.specs.Steps.{bit};
-ghost use Rattle.aisles.specs.Candidates.{backCost, candidateHalves, candidateLength, frontCost};
-ghost use Rattle.rules.specs.Policies.{inBackHalf, inFrontHalf};
-ghost use Rattle.rules.specs.Store.{PostsWithin, aisleLength, cellPosition, layoutInBounds, position, postsBefore};
+ghost use Rattle.demand.specs.Maps.{heights};
+ghost use Rattle.aisles.specs.Candidates.{backCost, candidateBetween, candidateLength, frontCost};
+ghost use Rattle.rules.specs.Store.{layoutInBounds};
 ghost use mathlib.Core.Bool.{true};
 ghost use mathlib.Core.Path.{_≡_};
 
@@ -14,48 +16,6 @@ pub struct Candidate {
     pub kind: usize,
     pub front: usize,
     pub back: usize,
-}
-
-// What the posts before cell i take.
-fn posts_before(posts: Posts, i: usize) -> usize
-    requires { ⌜ (PostsWithin posts) × (1 ≤ i) × (i ≤ 24) ⌝ }
-    ensures { λ r. ⌜ (r ≡ postsBefore posts i) × (r ≤ 230) ⌝ }
-{
-    match posts {
-        Posts::NoPosts => 0,
-        Posts::Every(k, u) => u * ((i - 1) / k),
-    }
-}
-
-// How far cell i lies from the front.
-fn cell_position(z: Layout, i: usize) -> usize
-    requires { ⌜ (layoutInBounds z ≡ true) × (1 ≤ i) × (i ≤ 24) ⌝ }
-    ensures { λ r. ⌜ (r ≡ cellPosition z i) × (r ≤ 980) ⌝ }
-{
-    let posts = z.posts;
-    z.front + (i - 1) * z.pitch + posts_before(posts, i)
-}
-
-// The length of an aisle.
-pub(crate) fn aisle_length(z: Layout) -> usize
-    requires { ⌜ layoutInBounds z ≡ true ⌝ }
-    ensures { λ r. ⌜ (r ≡ aisleLength z) × (r ≤ 1040) ⌝ }
-{
-    cell_position(z, z.cells) + z.back
-}
-
-// The distance of a height from the front.
-pub(crate) fn position_of(z: Layout, k: usize) -> usize
-    requires { ⌜ layoutInBounds z ≡ true ⌝ }
-    ensures { λ r. ⌜ (r ≡ position z k) × (r ≤ 1040) ⌝ }
-{
-    if k == 0 {
-        return 0;
-    }
-    if k <= z.cells {
-        return cell_position(z, k);
-    }
-    aisle_length(z)
 }
 
 // What the front part of a kind of action costs: there and back, or the whole aisle once or twice.
@@ -88,22 +48,6 @@ pub fn action_length(z: Layout, c: Candidate) -> usize
     front_cost(z, c.kind, c.front) + back_cost(z, c.back)
 }
 
-// Whether a front part keeps to the front half.
-pub(crate) fn front_half(z: Layout, k: usize) -> bool
-    requires { ⌜ layoutInBounds z ≡ true ⌝ }
-    ensures { λ r. ⌜ r ≡ inFrontHalf z k ⌝ }
-{
-    2 * position_of(z, k) <= aisle_length(z)
-}
-
-// Whether a back part keeps to the back half.
-pub(crate) fn back_half(z: Layout, k: usize) -> bool
-    requires { ⌜ layoutInBounds z ≡ true ⌝ }
-    ensures { λ r. ⌜ r ≡ inBackHalf z k ⌝ }
-{
-    aisle_length(z) <= 2 * position_of(z, k)
-}
-
 // A test as 0 or 1.
 fn flag(b: bool) -> usize
     ensures { λ r. ⌜ (bit r ≡ b) × (r < 2) ⌝ }
@@ -111,13 +55,15 @@ fn flag(b: bool) -> usize
     if b { 1 } else { 0 }
 }
 
-// Whether a candidate keeps to the halves, as 0 or 1.
-pub fn keeps_halves(z: Layout, c: Candidate) -> usize
-    requires { ⌜ (layoutInBounds z ≡ true) × (c .kind < 6) ⌝ }
-    ensures { λ r. ⌜ (bit r ≡ candidateHalves z c) × (r < 2) ⌝ }
+// Whether a candidate passes the test for aisles between, as 0 or 1.
+pub fn passes_between(b: Between, c: Candidate) -> usize
+    requires { ⌜ (c .front < heights) × (c .back < heights) ⌝ }
+    ensures { λ r. ⌜ (bit r ≡ candidateBetween b c) × (r < 2) ⌝ }
 {
+    let h = c.front;
+    let i = c.back;
     if c.kind < 4 {
-        return flag(front_half(z, c.front) & back_half(z, c.back));
+        return flag(b.front[h] & (b.back[i] & (b.from[h] <= i)));
     }
     0
 }

@@ -1,12 +1,11 @@
 // One aisle of the table: the ways over all its actions, a kind of action at a time.
 use crate::candidates::back_cost;
-use crate::candidates::back_half;
 use crate::candidates::front_cost;
-use crate::candidates::front_half;
 use crate::repeats::Repeats;
 use crate::repeats::repeats_of;
+use between::Between;
+use between::HEIGHTS;
 use demand::digits::DEMANDS;
-use demand::maps::HEIGHTS;
 use machine::action_step;
 use machine::asks_between;
 use rows::NONE;
@@ -21,16 +20,17 @@ ghost use Prim.Native.Nat.{_*_, _+_, _<_, _≤_, ℕ};
 ghost use Rattle.machine.specs.Steps.{bit};
 ghost use Rattle.demand.specs.Digits.{demands};
 ghost use Rattle.demand.specs.Maps.{heights};
-ghost use Rattle.aisles.specs.Layers.{InRange, AisleReady, LaneReady, PassDone, RowFilled, passHalves, passKind, passesOf, stepWith};
+ghost use Rattle.aisles.specs.Layers.{InRange, AisleReady, LaneReady, PassDone, RowFilled, TurnsOf, passBetween, passKind, passesOf, stepWith};
 ghost use Rattle.rows.specs.Rows.{PastKept, RelaxReady, RelaxedRow, numbers, states};
-ghost use Rattle.aisles.specs.Turns.{SweepReady, SweptTo, Thinned, TurnsOf, backAt, backTurn, frontAt, frontTurn, keptTurn};
+ghost use Rattle.aisles.specs.Turns.{BacksDone, BacksReady, SweepReady, SweptTo, Thinned, backAt, backTurn, frontAt, frontTurn, keptTurn, leastBack};
 ghost use Rattle.rules.specs.Store.{layoutInBounds};
+ghost use lib.Dec.{eqb};
 ghost use lib.ListN.{getD, length};
 ghost use mathlib.Core.Bool.{true};
 ghost use mathlib.Core.Path.{_≡_};
 
 // What the table needs of an aisle: the layout, the policy, whether it holds a listed article (0 or 1), the weight, where it
-// lies (left of the depot 0, at it 1, right of it 2), and how many passages are tried behind it.
+// lies (left of the depot 0, at it 1, right of it 2), how many passages are tried behind it, and the test for aisles between.
 pub struct Aisle {
     pub layout: Layout,
     pub policy: usize,
@@ -38,14 +38,16 @@ pub struct Aisle {
     pub weight: usize,
     pub side: usize,
     pub tried: usize,
+    pub between: Between,
 }
 
 // What the turns of a kind of action cost, by the cell that the front and the back part reach: 65,535 where it has none,
-// or where a turn is left out.
-// `top` is the height of the back crossing.
+// or where a turn is left out. `from` is the least height of a back turn that goes with a front turn, `top` that of the back
+// crossing.
 pub struct Turns {
     pub front: [u16; HEIGHTS],
     pub back: [u16; HEIGHTS],
+    pub from: [usize; HEIGHTS],
     pub top: usize,
 }
 
@@ -56,16 +58,16 @@ struct Lane {
 }
 
 // The state after a kind of action, for each of eight states.
-fn steps_of(x: Aisle, kind: usize, halves: usize) -> [usize; STATES]
-    requires { ⌜ InRange x × (kind < 6) × (halves < 2) ⌝ }
-    ensures { λ r. ⌜ ((s : ℕ) → s < states → getD r s 0 ≡ stepWith x kind (bit halves) s) ⌝ }
+fn steps_of(x: Aisle, kind: usize, between: usize) -> [usize; STATES]
+    requires { ⌜ InRange x × (kind < 6) × (between < 2) ⌝ }
+    ensures { λ r. ⌜ ((s : ℕ) → s < states → getD r s 0 ≡ stepWith x kind (bit between) s) ⌝ }
 {
     let policy = x.policy;
     let holds = x.holds;
     let mut out = [0usize; STATES];
     let mut s = 0;
     while s < STATES {
-        out[s] = action_step(policy, kind, holds, halves, s);
+        out[s] = action_step(policy, kind, holds, between, s);
         s += 1;
     }
     out
@@ -97,43 +99,64 @@ fn back_at(top: usize, kind: usize, i: usize) -> bool
     }
 }
 
-// The front turn of a kind at height h; with halves = 1 in the front half alone.
-fn front_turn(z: Layout, kind: usize, halves: usize, h: usize) -> u16
-    requires { ⌜ (layoutInBounds z ≡ true) × (halves < 2) ⌝ }
-    ensures { λ r. ⌜ r ≡ frontTurn z kind (bit halves) h ⌝ }
+// The front turn of a kind at height h, if it may turn there.
+fn front_turn(z: Layout, kind: usize, h: usize, may: bool) -> u16
+    requires { ⌜ layoutInBounds z ≡ true ⌝ }
+    ensures { λ r. ⌜ r ≡ frontTurn z kind h may ⌝ }
 {
-    if front_at(z.cells, kind, h) & ((halves == 0) | front_half(z, h)) {
+    if front_at(z.cells, kind, h) & may {
         return front_cost(z, kind, h) as u16;
     }
     NONE
 }
 
-// The back turn of a kind at height i; with halves = 1 in the back half alone.
-fn back_turn(z: Layout, kind: usize, halves: usize, i: usize) -> u16
-    requires { ⌜ (layoutInBounds z ≡ true) × (halves < 2) ⌝ }
-    ensures { λ r. ⌜ r ≡ backTurn z kind (bit halves) i ⌝ }
+// The back turn of a kind at height i, if it may turn there.
+fn back_turn(z: Layout, kind: usize, i: usize, may: bool) -> u16
+    requires { ⌜ layoutInBounds z ≡ true ⌝ }
+    ensures { λ r. ⌜ r ≡ backTurn z kind i may ⌝ }
 {
-    if back_at(z.cells + 1, kind, i) & ((halves == 0) | back_half(z, i)) {
+    if back_at(z.cells + 1, kind, i) & may {
         return back_cost(z, i) as u16;
     }
     NONE
 }
 
-// The turns of a kind.
-fn turns_of(z: Layout, kind: usize, halves: usize) -> Turns
-    requires { ⌜ (layoutInBounds z ≡ true) × (halves < 2) ⌝ }
-    ensures { λ r. ⌜ TurnsOf z kind (bit halves) r ⌝ }
+// The least height of a back turn that goes with a front turn at height h: the next one, or with the test what it says.
+fn least_back(free: bool, from: usize, h: usize) -> usize
+    requires { ⌜ h < heights ⌝ }
+    ensures { λ r. ⌜ r ≡ leastBack free from h ⌝ }
 {
+    if free {
+        return h + 1;
+    }
+    from
+}
+
+// The turns of a kind; with between = 1 those that the test for aisles between allows.
+fn turns_of(x: Aisle, kind: usize, between: usize) -> Turns
+    requires { ⌜ layoutInBounds (x .layout) ≡ true ⌝ }
+    ensures { λ r. ⌜ TurnsOf x kind (eqb between 0) r ⌝ }
+{
+    let z = x.layout;
+    let b = x.between;
+    let free = between == 0;
     let mut front = [NONE; HEIGHTS];
     let mut back = [NONE; HEIGHTS];
+    let mut from = [0usize; HEIGHTS];
     let top = z.cells + 1;
     let mut h = 0;
     while h <= top {
-        front[h] = front_turn(z, kind, halves, h);
-        back[h] = back_turn(z, kind, halves, h);
+        front[h] = front_turn(z, kind, h, free | b.front[h]);
+        back[h] = back_turn(z, kind, h, free | b.back[h]);
+        from[h] = least_back(free, b.from[h], h);
         h += 1;
     }
-    Turns { front, back, top }
+    Turns {
+        front,
+        back,
+        from,
+        top,
+    }
 }
 
 // A turn, unless that of the neighbouring height leaves the same demand and costs no more.
@@ -153,6 +176,7 @@ fn thin(t: Turns, same: Repeats) -> Turns
 {
     let mut front = t.front;
     let mut back = t.back;
+    let from = t.from;
     let top = t.top;
     let mut h = 0;
     while h < top {
@@ -161,7 +185,12 @@ fn thin(t: Turns, same: Repeats) -> Turns
         back[h] = kept_turn(same.back[h], t.back[next], t.back[h]);
         h = next;
     }
-    Turns { front, back, top }
+    Turns {
+        front,
+        back,
+        from,
+        top,
+    }
 }
 
 // A row relaxed over a turn at height h, if there is one.
@@ -181,8 +210,24 @@ fn relax_turn<'a>(
     }
 }
 
-// All actions of a kind in one sweep: the best over the back parts past height h is kept while h falls,
-// so that each turn costs a row, and not each pair of turns.
+// The back turns that go with a front turn at height h, let in to those that go with one at the next height.
+fn admit<'a>(acc: &mut [u16], perm: &'a [u16], backs: &'a [u16], t: Turns, h: usize, weight: usize)
+    requires { ⌜ BacksReady (now perm) (now backs) t weight × (h < t .top) × (numbers ≤ length (now acc))
+        × BacksDone (now acc) (now perm) (now backs) t weight (getD (t .from) (h + 1) 0) ⌝ }
+    ensures { λ r. ⌜ (length (now (acc .exit)) ≡ length (now (acc .entry)))
+        × BacksDone (now (acc .exit)) (now (perm .entry)) (now (backs .entry)) t weight (getD (t .from) h 0) ⌝ }
+{
+    let next = h + 1;
+    let least = t.from[h];
+    let mut i = t.from[next];
+    while least < i {
+        i -= 1;
+        relax_turn(acc, perm, backs, i, t.back[i], weight);
+    }
+}
+
+// All actions of a kind in one sweep: the best over the back turns that go with height h is kept while h falls, so that each
+// turn costs a row, and not each pair of turns.
 fn sweep<'a>(
     row: &mut [u16],
     perm: &'a [u16],
@@ -191,22 +236,20 @@ fn sweep<'a>(
     t: Turns,
     weight: usize,
 )
-    requires { ⌜ SweepReady (now row) (now perm) (now fronts) (now backs) (t .top) weight ⌝ }
-    ensures { λ r. ⌜ SweptTo (now (row .entry)) (now (row .exit)) (now (perm .entry)) (now (fronts .entry)) (now (backs .entry)) (t .front) (t .back) (t .top) weight 0 ⌝ }
+    requires { ⌜ SweepReady (now row) (now perm) (now fronts) (now backs) t weight ⌝ }
+    ensures { λ r. ⌜ SweptTo (now (row .entry)) (now (row .exit)) (now (perm .entry)) (now (fronts .entry)) (now (backs .entry)) t weight 0 ⌝ }
 {
     let mut acc = [NONE; NUMBERS];
     let mut h = t.top;
     while 0 < h {
-        let back = t.back[h];
-        relax_turn(&mut acc, perm, backs, h, back, weight);
         h -= 1;
-        let front = t.front[h];
-        relax_turn(row, &acc, fronts, h, front, weight);
+        admit(&mut acc, perm, backs, t, h, weight);
+        relax_turn(row, &acc, fronts, h, t.front[h], weight);
     }
 }
 
-// The ways over the actions of a pass: those of the kinds in turn, and, for MIDPOINT, BOTTOM, TOP and GAP once more
-// as far as they keep to the halves.
+// The ways over the actions of a pass: those of the kinds in turn, and, for MIDPOINT and LARGEST, BOTTOM, TOP and GAP once more
+// as far as they pass the test for aisles between.
 fn relax_pass<'a>(
     row: &mut [u16],
     after: &[u16],
@@ -216,18 +259,18 @@ fn relax_pass<'a>(
     pass: usize,
 )
     requires { ⌜ LaneReady lane (now fronts) (now backs) × (numbers ≤ length (now row)) × (numbers ≤ length (now after)) × (pass < 9) ⌝ }
-    ensures { λ r. ⌜ PassDone (lane .aisle) (now (row .entry)) (now (row .exit)) (now (after .entry)) (now (fronts .entry)) (now (backs .entry)) (passKind pass) (passHalves pass) ⌝ }
+    ensures { λ r. ⌜ PassDone (lane .aisle) (now (row .entry)) (now (row .exit)) (now (after .entry)) (now (fronts .entry)) (now (backs .entry)) (passKind pass) (passBetween pass) ⌝ }
 {
-    let halves = pass / 6;
-    let kind = pass - halves * 5;
+    let between = pass / 6;
+    let kind = pass - between * 5;
     let x = lane.aisle;
     let weight = x.weight;
-    let steps = steps_of(x, kind, halves);
+    let steps = steps_of(x, kind, between);
     if lives(steps) {
         let mut perm = [0u16; NUMBERS];
         permute(&mut perm, after, steps, weight);
         let same = lane.same;
-        let t = thin(turns_of(x.layout, kind, halves), same);
+        let t = thin(turns_of(x, kind, between), same);
         sweep(row, &perm, fronts, backs, t, weight);
     }
 }
@@ -247,7 +290,7 @@ fn lane_of<'a>(x: Aisle, fronts: &'a [u16], backs: &'a [u16]) -> Lane
 
 // The number of passes under a policy: the last three where its automaton asks the test for aisles between.
 fn passes_of(policy: usize) -> usize
-    requires { ⌜ policy < 5 ⌝ }
+    requires { ⌜ policy < 6 ⌝ }
     ensures { λ r. ⌜ r ≡ passesOf policy ⌝ }
 {
     if asks_between(policy) { 9 } else { 6 }

@@ -1,6 +1,6 @@
 // Which cells of an aisle supply nothing new: the rows of a map that repeat the row before.
+use between::HEIGHTS;
 use demand::digits::DEMANDS;
-use demand::maps::HEIGHTS;
 ghost use Prim.Native.Nat.{_+_, _<_, _≤_};
 ghost use Rattle.demand.specs.Digits.{demands};
 ghost use Rattle.demand.specs.Maps.{heights, mapSize};

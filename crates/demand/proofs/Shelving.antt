@@ -4,28 +4,31 @@ use native.Mathlib.Omega.{arith}
 use native.Mathlib.Numerals.{add-one}
 use native.Mathlib.Decide.{ℕ-discrete}
 use mathlib.Core.Path.{_≡_, refl, sym, _∙_, ap}
+use mathlib.Core.Logic.{_⊎_, inl, inr, ⊎-elim}
 use mathlib.Core.List.{List, [], _∷_, _++_, List·Memᴰ}
 use mathlib.Core.Bool.{Bool, true, false, cond, _&&_, _||_}
 use mathlib.Core.Option.{Option, none, some}
-use lib.Dec.{eqb}
+use lib.Dec.{ltb, leb, eqb}
 use lib.ListN.{length, getD, take, drop, set, replicate, length-set, length-take}
 use lib.Seq.{getD-set-same, getD-set-other, getD-take, take-all, take-suc, drop-cons}
-use borrow.Author.Tests.{eqb-true, eq-eqb, ne-eqb}
+use borrow.Author.Tests.{leb-true, leb-false, lt-ltb, eqb-true, eq-eqb, ne-eqb}
 use Rattle.rules.specs.declared.StockRecord.{StockRecord}
 use Rattle.rules.specs.declared.OrderLine.{OrderLine}
 use Rattle.rules.specs.Lists.{anyOf}
-use Rattle.rules.specs.Jobs.{Job, listed, holdsListed}
+use Rattle.rules.specs.Jobs.{Job, listed, holdsListed, cellHoldsListed}
 use Rattle.rules.specs.Picks.{recordAt}
 use Rattle.rules.specs.Refusals.{sameCell, Admitted}
 use Rattle.rules.proofs.Lists.{any-false, any-true}
-use Rattle.rules.proofs.Admission.{stock-within, layout-within}
+use Rattle.rules.proofs.Admission.{stock-within, layout-within, one-record-per-cell}
 use Rattle.machine.specs.Steps.{bit}
 use Rattle.values.specs.declared.JobValue.{JobValue}
 use Rattle.values.specs.declared.Shelf.{Shelf}
 use Rattle.values.specs.Values.{noLine, jobOf, Sound}
 use Rattle.values.specs.Shelves.{lineFrom, lineOf, quantityOf, cellNumber, ShelfOf}
-use Rattle.demand.proofs.Filling.{zero-at}
-use Rattle.demand.proofs.Records.{at-member, none-before, first-member, first-other, first-last, cellAt, isAt, is-at, at-itself, its-record}
+use Rattle.between.specs.Between.{listedAt, listedFlags}
+use Rattle.between.proofs.Heights.{filled-all}
+use Rattle.demand.proofs.Filling.{below, zero-at}
+use Rattle.demand.proofs.Records.{at-member, none-before, first-member, first-none, first-other, first-last, cellAt, isAt, is-at, at-itself, its-record}
 
 -- the line of an article, as the code looks for it: at the next line, or behind it; on no line behind the last
 pub line-here : (lines : List OrderLine) (l a : ℕ) → l < length lines → getD lines l noLine .article ≡ a → lineFrom l (drop l lines) a ≡ l + 1
@@ -199,6 +202,89 @@ module _ {job : Job} {shelf : Shelf} (ok : Admitted job) (of : ShelfOf job shelf
           let line : getD (shelf .line) (cellNumber j (r .cell)) 0 ≡ lineFrom 0 (job .lines) (r .article) =
           of .line-at j (r .cell) low high (w .cell .0) (omega arith) ∙ ap (lineOf (job .lines)) own in
           sym (line-listed (job .lines) 0 (r .article)) ∙ ap bit (sym line ∙ none-there (r .cell) (w .cell .0) (w .cell .1))
+
+  -- whether a cell holds one: whether it has a line
+  pub cell-holds : (c : ℕ) → 1 ≤ c → c ≤ 24 → cellHoldsListed job j c ≡ bit (getD (shelf .line) (cellNumber j c) 0)
+  unfolding cellHoldsListed listed recordAt
+  cell-holds c c1 c24 = go (recordAt (job .stock) (cellAt j c)) refl
+    where
+      holdsOne : StockRecord → Bool
+      holdsOne r = isAt j c r && listed job (r .article)
+
+      -- records of other cells hold nothing here, and that of the cell holds a listed article or not
+      from-record : (r : StockRecord) → List·Memᴰ r (job .stock) → isAt j c r ≡ true → (b : Bool) → listed job (r .article) ≡ b → anyOf holdsOne (job .stock) ≡ b
+      from-record r m there true l = any-true holdsOne (job .stock) .1 (r, m, rw (there, l) refl)
+      from-record r m there false l = any-false holdsOne (job .stock) .1 (λ s k. other s k (isAt j c s) refl)
+        where
+          other : (s : StockRecord) → List·Memᴰ s (job .stock) → (b : Bool) → isAt j c s ≡ b → (b && listed job (s .article)) ≡ false
+          other s k false e = refl
+          other s k true e =
+              let here = is-at j c r there in
+              let same = is-at j c s e in
+              rw (one-record-per-cell job (ok .cells-once) s r k m (same .0 ∙ sym (here .0)) (same .1 ∙ sym (here .1))) l
+
+      go : (o : Option StockRecord) → recordAt (job .stock) (cellAt j c) ≡ o → cellHoldsListed job j c ≡ bit (getD (shelf .line) (cellNumber j c) 0)
+      go none e =
+          let none-there = any-false (isAt j c) (job .stock) .0 (first-none (isAt j c) (job .stock) e) in
+          any-false holdsOne (job .stock) .1 (λ r m. rw (none-there r m) refl)
+          ∙ sym (ap bit (of .line-at j c low high c1 c24 ∙ ap (lineOf (job .lines)) e))
+      go (some r) e =
+          let (m, there) = first-member (isAt j c) (job .stock) r e in
+          from-record r m there (listed job (r .article)) refl
+          ∙ sym (ap bit (of .line-at j c low high c1 c24 ∙ ap (lineOf (job .lines)) e) ∙ line-listed (job .lines) 0 (r .article))
+
+-- flags by height: the cells of aisle j before cell c are flagged where they have a line, no other height is
+pub record Flagged (line : List ℕ) (j : ℕ) (flags : List Bool) (c : ℕ) : Type 0 where
+  pub low : 1 ≤ c
+  pub size : length flags ≡ 26
+  pub done : (k : ℕ) → 1 ≤ k → k < c → getD flags k false ≡ ltb 0 (getD line (cellNumber j k) 0)
+  pub rest : (k : ℕ) → (k ≡ 0) ⊎ (c ≤ k) → getD flags k false ≡ false
+
+module _ (line : List ℕ) (j : ℕ) where
+  -- at first none is
+  pub none-flagged : Flagged line j (replicate 26 false) 1
+  none-flagged =
+      record { low = omega arith; size = refl; done = λ k low high. absurd (omega arith); rest = λ k h. not-flagged 26 k }
+    where
+      not-flagged : (n k : ℕ) → getD (replicate n false) k false ≡ false
+      not-flagged zero k = refl
+      not-flagged (suc n) zero = refl
+      not-flagged (suc n) (suc k) = not-flagged n k
+
+  -- one more cell
+  pub flag-more : (c n : ℕ) (flags : List Bool) → c < 26 → n ≡ cellNumber j c → Flagged line j flags c
+      → Flagged line j (set flags c (ltb 0 (getD line n 0))) (c + 1)
+  flag-more c n flags l e f =
+      let flag = ltb 0 (getD line n 0) in
+      let here = getD-set-same flags c flag false (omega (arith, f .size)) ∙ ap (λ m. ltb 0 (getD line m 0)) e in
+      let there : (k : ℕ) → (k ≡ c → ⊥) → getD (set flags c flag) k false ≡ getD flags k false = λ k ne. getD-set-other flags c k flag false ne in
+      let first = f .low in
+      record {
+        low = omega arith;
+        size = length-set flags c flag ∙ f .size;
+        done = λ k low high. ⊎-elim (λ h. there k (λ p. omega arith) ∙ f .done k low h) (λ p. rw p here) (below k c high);
+        rest = λ k h. ⊎-elim (λ z. there k (λ p. omega arith) ∙ f .rest k (inl z)) (λ z. there k (λ p. omega arith) ∙ f .rest k (inr (omega arith))) h;
+      }
+
+-- the flags of all cells are those of the listed ones
+pub flags-are : {job : Job} {shelf : Shelf} → Admitted job → ShelfOf job shelf → (j : ℕ) → 1 ≤ j → j ≤ 16 → job .layout .cells ≤ 24
+    → (flags : List Bool) (c : ℕ) → Flagged (shelf .line) j flags c → c ≡ suc (job .layout .cells) → flags ≡ listedFlags job j
+unfolding listedFlags
+flags-are {job} {shelf} ok of j low high few flags c f e =
+    filled-all (listedAt job j) false flags 26 (omega arith)
+    (record { size = f .size; each = λ k l. go k (leb 1 k) refl (leb k (job .layout .cells)) refl })
+  where
+    has-line : (n : ℕ) → ltb 0 n ≡ bit n
+    has-line zero = refl
+    has-line (suc n) = lt-ltb 0 (suc n) (omega arith)
+
+    go : (k : ℕ) (a : Bool) → leb 1 k ≡ a → (b : Bool) → leb k (job .layout .cells) ≡ b → getD flags k false ≡ a && (b && cellHoldsListed job j k)
+    go k false p b q = f .rest k (inl (let h = leb-false 1 k p in omega arith))
+    go k true p false q = f .rest k (inr (let h = leb-false k (job .layout .cells) q in omega arith))
+    go k true p true q =
+        let first = leb-true 1 k p in
+        let last = leb-true k (job .layout .cells) q in
+        f .done k first (omega arith) ∙ has-line (getD (shelf .line) (cellNumber j k) 0) ∙ sym (cell-holds ok of j low high k first (omega arith))
 
 -- the line of a cell is one of the lines, counted from 1, or 0
 pub lines-below : {job : Job} {shelf : Shelf} → ShelfOf job shelf → (j c : ℕ) → 1 ≤ j → j ≤ 16 → 1 ≤ c → c ≤ 24 → getD (shelf .line) (cellNumber j c) 0 ≤ length (job .lines)

@@ -5,6 +5,7 @@ use crate::digits::Digits;
 use crate::digits::wide;
 use crate::digits::wide_digit;
 use crate::shelf::cell_number;
+use between::HEIGHTS;
 use values::Shelf;
 ghost use Prim.Native.Nat.{_-_, _<_, _≤_, min, suc};
 ghost use Rattle.demand.specs.Digits.{Within, demands, lessDigit, lessLine, noDigit};
@@ -12,9 +13,6 @@ ghost use Rattle.demand.specs.Maps.{MapsAsked, MapsReady, RowAsked, RowB
 ghost use Rattle.rules.specs.Jobs.{Job};
 ghost use lib.ListN.{getD, length};
 ghost use mathlib.Core.Path.{_≡_};
-
-// The heights of an aisle: its two ends, and 24 cells at most.
-pub const HEIGHTS: usize = 26;
 
 // The numbers of a map: a row of all demands for each height.
 pub const MAP: usize = HEIGHTS * DEMANDS;

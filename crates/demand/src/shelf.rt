@@ -1,8 +1,10 @@
 // What each cell of the store holds for the order lines.
+use between::HEIGHTS;
 use rules::OrderLine;
 use values::JobValue;
 use values::Shelf;
 ghost use Prim.Native.Nat.{_<_, _≤_};
+ghost use Rattle.between.specs.Between.{listedFlags};
 ghost use Rattle.machine.specs.Steps.{bit};
 ghost use Rattle.rules.specs.Jobs.{Job, holdsListed};
 ghost use Rattle.rules.specs.Refusals.{Admitted};
@@ -70,4 +72,19 @@ pub fn holds_listed(shelf: Shelf, cells: usize, j: usize) -> usize
         c += 1;
     }
     0
+}
+
+// Which cells of an aisle hold an article of the list, by height: those that have a line.
+pub fn listed_cells(shelf: Shelf, cells: usize, j: usize) -> [bool; HEIGHTS]
+    requires { ⌜ (cells ≤ 24) × (1 ≤ j) × (j ≤ 16) ⌝ }
+    ensures { λ r. ⌜ ((job : Job) → Admitted job → ShelfOf job shelf → cells ≡ job .layout .cells → r ≡ listedFlags job j) ⌝ }
+{
+    let mut listed = [false; HEIGHTS];
+    let mut i = 1;
+    while i <= cells {
+        let at = cell_number(j, i);
+        listed[i] = shelf.line[at] > 0;
+        i += 1;
+    }
+    listed
 }

@@ -1,10 +1,10 @@
 // Runs jobfile::read_job on jobs good and bad and prints the number of each verdict: 0 if the job is admitted.
 //
-// The jobs are data: `stdin` has them one behind the other, 149 of them in 74,334 bytes. Each is a line with a letter, a space
+// The jobs are data: `stdin` has them one behind the other, 150 of them in 74,409 bytes. Each is a line with a letter, a space
 // and the job's name, then the job's bytes as they are, then byte 30, which no job has. The letter is J for a job, T for one
 // that is also cut off behind each of its bytes. To add a job, write it behind another and its verdict into `stdout`.
 //
-// By document 01's table: the five policies, the largest and smallest numbers of each kind and those one beyond, counts that do
+// By document 01's table: the six policies, the largest and smallest numbers of each kind and those one beyond, counts that do
 // not fit the lines, sections out of order, numbers and words spelt otherwise, bytes in front, between and behind, two causes at
 // once; 383 to 385 records, 500 of one cell, and files of 16,384 and 16,385 bytes.
 use jobfile::Verdict;

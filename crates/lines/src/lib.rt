@@ -41,6 +41,7 @@ fn policy_word(policy: Policy) -> [u8; 11]
         Policy::Traversal => *b" TRAVERSAL\n",
         Policy::Midpoint => *b" MIDPOINT\n ",
         Policy::Composite => *b" COMPOSITE\n",
+        Policy::Largest => *b" LARGEST\n  ",
     }
 }
 
@@ -168,6 +169,7 @@ fn policy_size(policy: Policy) -> usize
         Policy::Traversal => 11,
         Policy::Midpoint => 10,
         Policy::Composite => 11,
+        Policy::Largest => 9,
     }
 }
 

@@ -3,12 +3,11 @@ use Prim.Native.Nat.{ℕ, _≤_, _<_}
 use native.Mathlib.Omega.{arith}
 use mathlib.Core.Path.{_≡_, refl}
 use mathlib.Core.Bool.{Bool, cond, _&&_, _||_}
-use Rattle.rules.specs.declared.Layout.{Layout}
 use Rattle.rules.specs.declared.Policy.{Policy}
-use Rattle.rules.specs.declared.Policy.the-variants.{Exact, Return, Traversal, Midpoint, Composite}
+use Rattle.rules.specs.declared.Policy.the-variants.{Exact, Return, Traversal, Midpoint, Composite, Largest}
 use Rattle.rules.specs.declared.Action.{Action}
 use Rattle.rules.specs.declared.Action.the-variants.{Void, Bottom, Top, Gap, Once, Twice}
-use Rattle.rules.specs.Policies.{actionNamed, halved}
+use Rattle.rules.specs.Policies.{actionNamed}
 use Rattle.rules.specs.Machine.{State, nothing, closed, atFront, atBack, odd, joined, split, ending, dead, policyStep, mayEnter, isVoid}
 use Rattle.machine.specs.States.{stateCode, stateOf}
 use Rattle.machine.specs.Steps.{policyOf, policyCode, kindCode, sampleAction, stepOf}
@@ -31,37 +30,42 @@ policy-of-code Return = refl
 policy-of-code Traversal = refl
 policy-of-code Midpoint = refl
 policy-of-code Composite = refl
+policy-of-code Largest = refl
 
-pub policy-code-below : (policy : Policy) → policyCode policy < 5
+pub policy-code-below : (policy : Policy) → policyCode policy < 6
 policy-code-below Exact = omega arith
 policy-code-below Return = omega arith
 policy-code-below Traversal = omega arith
 policy-code-below Midpoint = omega arith
 policy-code-below Composite = omega arith
+policy-code-below Largest = omega arith
 
 -- the machine looks at the kind of an action and at the answers of the two tests
-pub by-kind : (policy : Policy) (z : Layout) (a : Action) (holds : Bool) (s : State)
-    → stepOf policy (sampleAction (kindCode a)) holds (halved z a) s
-    ≡ cond (actionNamed policy a && (isVoid a || mayEnter policy holds)) (policyStep policy z a s) dead
+pub by-kind : (policy : Policy) (between : Action → Bool) (a : Action) (holds : Bool) (s : State)
+    → stepOf policy (sampleAction (kindCode a)) holds (between a) s
+    ≡ cond (actionNamed policy a && (isVoid a || mayEnter policy holds)) (policyStep policy between a s) dead
 unfolding stepOf
-by-kind policy z Void holds s = refl
-by-kind Exact z (Bottom i) holds s = refl
-by-kind Return z (Bottom i) holds s = refl
-by-kind Traversal z (Bottom i) holds s = refl
-by-kind Midpoint z (Bottom i) holds s = refl
-by-kind Composite z (Bottom i) holds s = refl
-by-kind Exact z (Top i) holds s = refl
-by-kind Return z (Top i) holds s = refl
-by-kind Traversal z (Top i) holds s = refl
-by-kind Midpoint z (Top i) holds s = refl
-by-kind Composite z (Top i) holds s = refl
-by-kind Exact z (Gap h i) holds s = refl
-by-kind Return z (Gap h i) holds s = refl
-by-kind Traversal z (Gap h i) holds s = refl
-by-kind Midpoint z (Gap h i) holds s = refl
-by-kind Composite z (Gap h i) holds s = refl
-by-kind policy z Once holds s = refl
-by-kind policy z Twice holds s = refl
+by-kind policy between Void holds s = refl
+by-kind Exact between (Bottom i) holds s = refl
+by-kind Return between (Bottom i) holds s = refl
+by-kind Traversal between (Bottom i) holds s = refl
+by-kind Midpoint between (Bottom i) holds s = refl
+by-kind Composite between (Bottom i) holds s = refl
+by-kind Largest between (Bottom i) holds s = refl
+by-kind Exact between (Top i) holds s = refl
+by-kind Return between (Top i) holds s = refl
+by-kind Traversal between (Top i) holds s = refl
+by-kind Midpoint between (Top i) holds s = refl
+by-kind Composite between (Top i) holds s = refl
+by-kind Largest between (Top i) holds s = refl
+by-kind Exact between (Gap h i) holds s = refl
+by-kind Return between (Gap h i) holds s = refl
+by-kind Traversal between (Gap h i) holds s = refl
+by-kind Midpoint between (Gap h i) holds s = refl
+by-kind Composite between (Gap h i) holds s = refl
+by-kind Largest between (Gap h i) holds s = refl
+by-kind policy between Once holds s = refl
+by-kind policy between Twice holds s = refl
 
 -- numbers of states are at most 8
 pub state-small : (s : State) → stateCode s ≤ 8

@@ -8,14 +8,14 @@ use lib.Dec.{eqb}
 use lib.ListN.{getD}
 use borrow.Author.Tests.{ne-eqb}
 use Rattle.rules.specs.declared.Policy.{Policy}
-use Rattle.rules.specs.declared.Policy.the-variants.{Exact, Return, Traversal, Midpoint, Composite}
+use Rattle.rules.specs.declared.Policy.the-variants.{Exact, Return, Traversal, Midpoint, Composite, Largest}
 use Rattle.rules.specs.declared.Action.{Action}
 use Rattle.rules.specs.Lists.{from}
 use Rattle.rules.specs.Policies.{actionNamed, passageNamed}
 use Rattle.rules.specs.Machine.{State, policyBy, mayEnter, isVoid}
 use Rattle.machine.specs.States.{stateCode, stateOf}
 use Rattle.machine.specs.Steps.{policyOf, passageOf, sampleAction, bit}
-use Rattle.machine.specs.Tables.{automatonOf, automatonBy, policyMark, actionMark, passageMark, decided}
+use Rattle.machine.specs.Tables.{asksGap, automatonOf, automatonBy, policyMark, actionMark, passageMark, decided}
 
 module _ {A : Type 0} where
   entry-from : (d : A) (f : ℕ → A) (n a k : ℕ) → k < n → getD (map f (from a n)) k d ≡ f (a + k)
@@ -31,20 +31,20 @@ module _ {A : Type 0} where
   same-entry : (d : A) (f g : ℕ → A) (n : ℕ) → map f (from 0 n) ≡ map g (from 0 n) → (k : ℕ) → k < n → f k ≡ g k
   same-entry d f g n e k h = sym (entry d f n k h) ∙ (ap (λ l. getD l k d) e ∙ entry d g n k h)
 
--- POLICIES: sixteen columns to a row
+-- POLICIES: eighteen columns to a row
 unfoldable pub policyEntry : ℕ → ℕ
-policyEntry i = policyMark (policyOf (i / 16)) (i % 16)
+policyEntry i = policyMark (policyOf (i / 18)) (i % 18)
 
 unfoldable pub policyTable : List ℕ
-policyTable = map policyEntry (from 0 80)
+policyTable = map policyEntry (from 0 108)
 
-pub policy-entry : (p c : ℕ) → p < 5 → c < 16 → getD policyTable (p * 16 + c) 0 ≡ policyMark (policyOf p) c
+pub policy-entry : (p c : ℕ) → p < 6 → c < 18 → getD policyTable (p * 18 + c) 0 ≡ policyMark (policyOf p) c
 unfolding policyTable policyEntry
 policy-entry p c p< c< =
-    let i = p * 16 + c in
-    let p-is : i / 16 ≡ p = omega arith in
-    let c-is : i % 16 ≡ c = omega arith in
-    entry 0 policyEntry 80 i (omega arith) ∙ rw (p-is, c-is) refl
+    let i = p * 18 + c in
+    let p-is : i / 18 ≡ p = omega arith in
+    let c-is : i % 18 ≡ c = omega arith in
+    entry 0 policyEntry 108 i (omega arith) ∙ rw (p-is, c-is) refl
 
 -- ACTIONS and PASSAGES: three parts to a row, in each nine digits and a space
 abbrev pub rowEntry : (ℕ → ℕ → ℕ → ℕ) → ℕ → ℕ
@@ -74,7 +74,7 @@ unfolding passageTable
 passage-entry = row-entry passageMark 5
 
 -- what the marks of a policy's row say of an action, tested over all policies and kinds
-pub possible-by-marks : (p k h : ℕ) → p < 5 → k < 6 → h < 2
+pub possible-by-marks : (p k h : ℕ) → p < 6 → k < 6 → h < 2
     → (not (eqb (policyMark (policyOf p) k) 45) && (eqb k 0 || (eqb h 1 || eqb (policyMark (policyOf p) 15) 43)))
     ≡ (actionNamed (policyOf p) (sampleAction k) && (isVoid (sampleAction k) || mayEnter (policyOf p) (bit h)))
 unfolding policyMark
@@ -87,17 +87,17 @@ possible-by-marks p k h p< k< h< =
     (same-entry false
     (λ i. not (eqb (policyMark (policyOf (i / 12)) (i / 2 % 6)) 45) && (eqb (i / 2 % 6) 0 || (eqb (i % 2) 1 || eqb (policyMark (policyOf (i / 12)) 15) 43)))
     (λ i. actionNamed (policyOf (i / 12)) (sampleAction (i / 2 % 6)) && (isVoid (sampleAction (i / 2 % 6)) || mayEnter (policyOf (i / 12)) (bit (i % 2))))
-    60 refl i (omega arith))
+    72 refl i (omega arith))
 
 -- and of a passage, over all policies and passages
-pub passage-by-mark : (p x : ℕ) → p < 5 → x < 5 → not (eqb (policyMark (policyOf p) (7 + x)) 45) ≡ passageNamed (policyOf p) (passageOf x)
+pub passage-by-mark : (p x : ℕ) → p < 6 → x < 5 → not (eqb (policyMark (policyOf p) (7 + x)) 45) ≡ passageNamed (policyOf p) (passageOf x)
 unfolding policyMark
 passage-by-mark p x p< x< =
     let i = p * 5 + x in
     let p-is : i / 5 ≡ p = omega arith in
     let x-is : i % 5 ≡ x = omega arith in
     rw (p-is, x-is) at
-    (same-entry false (λ i. not (eqb (policyMark (policyOf (i / 5)) (7 + i % 5)) 45)) (λ i. passageNamed (policyOf (i / 5)) (passageOf (i % 5))) 25 refl i (omega arith))
+    (same-entry false (λ i. not (eqb (policyMark (policyOf (i / 5)) (7 + i % 5)) 45)) (λ i. passageNamed (policyOf (i / 5)) (passageOf (i % 5))) 30 refl i (omega arith))
 
 -- a mark of an automaton, decided by the test for aisles between, is the next state: tested over all of them
 pub decided-mark : (k m b s : ℕ) → k < 6 → m < 3 → b < 2 → s < 9
@@ -122,6 +122,7 @@ automaton-of Return = (omega arith, λ b a s. refl)
 automaton-of Traversal = (omega arith, λ b a s. refl)
 automaton-of Midpoint = (omega arith, λ b a s. refl)
 automaton-of Composite = (omega arith, λ b a s. refl)
+automaton-of Largest = (omega arith, λ b a s. refl)
 
 -- the digit of the automaton that asks the test for aisles between
 pub between-mark : (policy : Policy) → eqb (policyMark policy 13) 50 ≡ eqb (automatonOf policy) 2
@@ -131,3 +132,14 @@ between-mark Return = refl
 between-mark Traversal = refl
 between-mark Midpoint = refl
 between-mark Composite = refl
+between-mark Largest = refl
+
+-- the mark of the largest gap
+pub gap-mark : (policy : Policy) → eqb (policyMark policy 17) 103 ≡ asksGap policy
+unfolding policyMark
+gap-mark Exact = refl
+gap-mark Return = refl
+gap-mark Traversal = refl
+gap-mark Midpoint = refl
+gap-mark Composite = refl
+gap-mark Largest = refl

@@ -2,7 +2,7 @@
 use Prim.Native.Nat.{ℕ, zero, suc}
 use mathlib.Core.Bool.{Bool, true, false, cond, _&&_, _||_}
 use Rattle.rules.specs.declared.Policy.{Policy}
-use Rattle.rules.specs.declared.Policy.the-variants.{Exact, Return, Traversal, Midpoint, Composite}
+use Rattle.rules.specs.declared.Policy.the-variants.{Exact, Return, Traversal, Midpoint, Composite, Largest}
 use Rattle.rules.specs.declared.Action.{Action}
 use Rattle.rules.specs.declared.Action.the-variants.{Void, Bottom, Top, Gap, Once, Twice}
 use Rattle.rules.specs.declared.Passage.{Passage}
@@ -11,13 +11,14 @@ use Rattle.rules.specs.Plans.{kindOf, kindRank}
 use Rattle.rules.specs.Policies.{actionNamed, passageNamed}
 use Rattle.rules.specs.Machine.{State, dead, policyBy, crossStep, mayEnter, isVoid}
 
--- the policies by number, in document 01's order
+-- the policies by number, in document 01's order, then LARGEST
 abbrev pub policyOf : ℕ → Policy
 policyOf zero = Exact
 policyOf (suc zero) = Return
 policyOf (suc (suc zero)) = Traversal
 policyOf (suc (suc (suc zero))) = Midpoint
-policyOf (suc (suc (suc (suc n)))) = Composite
+policyOf (suc (suc (suc (suc zero)))) = Composite
+policyOf (suc (suc (suc (suc (suc n))))) = Largest
 
 -- the number of a policy
 abbrev pub policyCode : Policy → ℕ
@@ -26,6 +27,7 @@ policyCode Return = 1
 policyCode Traversal = 2
 policyCode Midpoint = 3
 policyCode Composite = 4
+policyCode Largest = 5
 
 -- the passages by number, in document 01's order
 abbrev pub passageOf : ℕ → Passage

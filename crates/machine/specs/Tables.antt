@@ -3,20 +3,21 @@ use Prim.Native.Nat.{ℕ, zero, suc, _+_, _-_}
 use mathlib.Core.Bool.{Bool, true, false, cond}
 use lib.Dec.{ltb, eqb}
 use Rattle.rules.specs.declared.Policy.{Policy}
-use Rattle.rules.specs.declared.Policy.the-variants.{Exact, Return, Traversal, Midpoint, Composite}
+use Rattle.rules.specs.declared.Policy.the-variants.{Exact, Return, Traversal, Midpoint, Composite, Largest}
 use Rattle.rules.specs.declared.Action.{Action}
 use Rattle.rules.specs.Policies.{actionNamed, passageNamed}
 use Rattle.rules.specs.Machine.{State, lawfulStep, traversalStep, midpointBy, crossStep, mayEnter}
 use Rattle.machine.specs.States.{stateCode, stateOf}
 use Rattle.machine.specs.Steps.{passageOf, sampleAction}
 
--- the automaton of a policy: 0 the lawful one, 1 TRAVERSAL's, 2 MIDPOINT's
+-- the automaton of a policy: 0 the lawful one, 1 TRAVERSAL's, 2 that of MIDPOINT and LARGEST
 abbrev pub automatonOf : Policy → ℕ
 automatonOf Exact = 0
 automatonOf Return = 0
 automatonOf Traversal = 1
 automatonOf Midpoint = 2
 automatonOf Composite = 0
+automatonOf Largest = 2
 
 -- the state after an action by an automaton's rows
 abbrev pub automatonBy : ℕ → Bool → Action → State → State
@@ -28,7 +29,21 @@ automatonBy (suc (suc n)) between a s = midpointBy between a s
 abbrev pub digitIf : Bool → ℕ → ℕ
 digitIf b n = cond b (48 + n) 45
 
--- a policy's row: its kinds, a space, its passages, a space, its automaton, a space, '+' or '-' for aisles that hold no listed article
+-- whether a policy's test for aisles between is the largest gap
+abbrev pub asksGap : Policy → Bool
+asksGap Exact = false
+asksGap Return = false
+asksGap Traversal = false
+asksGap Midpoint = false
+asksGap Composite = false
+asksGap Largest = true
+
+-- 'h' where a policy asks the halves of aisles between, 'g' where it asks the largest gap, '-' where it asks nothing
+abbrev pub testMark : Policy → ℕ
+testMark policy = cond (eqb (automatonOf policy) 2) (cond (asksGap policy) 103 104) 45
+
+-- a policy's row: its kinds, a space, its passages, a space, its automaton, a space, '+' or '-' for aisles that hold no listed article,
+-- a space, its test for aisles between
 unfoldable pub policyMark : Policy → ℕ → ℕ
 policyMark policy c =
     cond (ltb c 6) (digitIf (actionNamed policy (sampleAction c)) c)
@@ -36,7 +51,8 @@ policyMark policy c =
     (cond (ltb c 12) (digitIf (passageNamed policy (passageOf (c - 7))) (c - 7))
     (cond (eqb c 13) (48 + automatonOf policy)
     (cond (eqb c 15) (cond (mayEnter policy false) 43 45)
-    32))))
+    (cond (eqb c 17) (testMark policy)
+    32)))))
 
 -- the next state by an automaton's rows, or 9 where the test for aisles between decides
 unfoldable pub actionMark : (kind automaton state : ℕ) → ℕ

@@ -1,8 +1,8 @@
 // The state machine as data: what an action and a passage do to the state under a policy.
 //
 // States: 0 nothing, 1 closed, 2 atFront, 3 atBack, 4 odd, 5 joined, 6 split, 7 ending, 8 dead.
-// Policies: 0 EXACT, 1 RETURN, 2 TRAVERSAL, 3 MIDPOINT, 4 COMPOSITE.
-// Automata: 0 lawful (EXACT, RETURN, COMPOSITE), 1 TRAVERSAL, 2 MIDPOINT.
+// Policies: 0 EXACT, 1 RETURN, 2 TRAVERSAL, 3 MIDPOINT, 4 COMPOSITE, 5 LARGEST.
+// Automata: 0 lawful (EXACT, RETURN, COMPOSITE), 1 TRAVERSAL, 2 MIDPOINT and LARGEST.
 // Kinds of actions: 0 VOID, 1 BOTTOM, 2 TOP, 3 GAP, 4 ONCE, 5 TWICE.
 // Passages: 0 00, 1 02, 2 11, 3 20, 4 22.
 // Sides, of the aisle before a passage: 0 left of the depot, 1 at it, 2 right of it.
@@ -14,7 +14,7 @@ ghost use Rattle.rules.specs.Policies.{actionNamed, passageNamed};
 ghost use Rattle.rules.specs.Machine.{mayEnter, isVoid};
 ghost use Rattle.machine.specs.States.{stateCode, stateOf};
 ghost use Rattle.machine.specs.Steps.{policyOf, sampleAction, passageOf, bit, stepOf, crossOf};
-ghost use Rattle.machine.specs.Tables.{automatonOf, automatonBy, policyMark, actionMark, passageMark, decided};
+ghost use Rattle.machine.specs.Tables.{asksGap, automatonOf, automatonBy, policyMark, actionMark, passageMark, decided};
 
 // The states that `decide` and the steps name.
 const ODD: usize = 4;
@@ -28,14 +28,17 @@ const AUTOMATON: usize = 13;
 
 const ANYWHERE: usize = 15;
 
+const TEST: usize = 17;
+
 // A row for each policy: its kinds and its passages, '-' where it lacks one; its automaton; '+' if it may enter any aisle,
-// '-' if only those that hold a listed article.
-const POLICIES: [u8; 80] = *b"\
-    012345 01234 0 +\
-    01---- 01--- 0 -\
-    01--4- 012-- 1 -\
-    01234- 012-- 2 -\
-    012-4- 0123- 0 -";
+// '-' if only those that hold a listed article; its test for aisles between: 'h' the halves, 'g' the largest gap, '-' none.
+const POLICIES: [u8; 108] = *b"\
+    012345 01234 0 + -\
+    01---- 01--- 0 - -\
+    01--4- 012-- 1 - -\
+    01234- 012-- 2 - h\
+    012-4- 0123- 0 - -\
+    01234- 012-- 2 - g";
 
 // A row for each kind of action, with a part for each automaton: the next state of each state. 282645688 leads from 0 to 2,
 // from 1 to 8 (dead), from 2 to 2, from 3 to 6. 9 is odd if the test for aisles between allows the action, dead if not.
@@ -57,10 +60,10 @@ const PASSAGES: [u8; 150] = *b"\
 
 // What stands in a column of a policy's row.
 fn policy_mark(policy: usize, column: usize) -> u8
-    requires { ⌜ (policy < 5) × (column < 16) ⌝ }
+    requires { ⌜ (policy < 6) × (column < 18) ⌝ }
     ensures { λ r. ⌜ r ≡ policyMark (policyOf policy) column ⌝ }
 {
-    POLICIES[policy * 16 + column]
+    POLICIES[policy * 18 + column]
 }
 
 // The digit of a state in an automaton's part of a kind's row.
@@ -89,7 +92,7 @@ fn number(digit: u8) -> usize
 
 // The policy has the action, and may enter the aisle with it.
 fn possible(policy: usize, kind: usize, holds: usize) -> bool
-    requires { ⌜ (policy < 5) × (kind < 6) × (holds < 2) ⌝ }
+    requires { ⌜ (policy < 6) × (kind < 6) × (holds < 2) ⌝ }
     ensures { λ r. ⌜ r ≡ (actionNamed (policyOf policy) (sampleAction kind) && (isVoid (sampleAction kind) || mayEnter (policyOf policy) (bit holds))) ⌝ }
 {
     let named = policy_mark(policy, kind) != b'-';
@@ -99,7 +102,7 @@ fn possible(policy: usize, kind: usize, holds: usize) -> bool
 
 // The policy has the passage.
 fn passable(policy: usize, passage: usize) -> bool
-    requires { ⌜ (policy < 5) × (passage < 5) ⌝ }
+    requires { ⌜ (policy < 6) × (passage < 5) ⌝ }
     ensures { λ r. ⌜ r ≡ passageNamed (policyOf policy) (passageOf passage) ⌝ }
 {
     policy_mark(policy, FIRST_PASSAGE + passage) != b'-'
@@ -107,10 +110,18 @@ fn passable(policy: usize, passage: usize) -> bool
 
 // Whether the policy's automaton asks the test for aisles between.
 pub fn asks_between(policy: usize) -> bool
-    requires { ⌜ policy < 5 ⌝ }
+    requires { ⌜ policy < 6 ⌝ }
     ensures { λ r. ⌜ r ≡ eqb (automatonOf (policyOf policy)) 2 ⌝ }
 {
     policy_mark(policy, AUTOMATON) == b'2'
+}
+
+// Whether the policy's test for aisles between is the largest gap.
+pub fn asks_gap(policy: usize) -> bool
+    requires { ⌜ policy < 6 ⌝ }
+    ensures { λ r. ⌜ r ≡ asksGap (policyOf policy) ⌝ }
+{
+    policy_mark(policy, TEST) == b'g'
 }
 
 // The state that a mark of ACTIONS stands for: 9 is odd or dead.
@@ -135,7 +146,7 @@ fn next_state(automaton: usize, kind: usize, between: usize, state: usize) -> us
 
 // The state after an action; whether the aisle holds a listed article, and whether the action passes the test for aisles between.
 pub fn action_step(policy: usize, kind: usize, holds: usize, between: usize, state: usize) -> usize
-    requires { ⌜ (policy < 5) × (kind < 6) × (holds < 2) × (between < 2) × (state < 9) ⌝ }
+    requires { ⌜ (policy < 6) × (kind < 6) × (holds < 2) × (between < 2) × (state < 9) ⌝ }
     ensures { λ r. ⌜ r ≡ stateCode (stepOf (policyOf policy) (sampleAction kind) (bit holds) (bit between) (stateOf state)) ⌝ }
 {
     if possible(policy, kind, holds) {
@@ -147,7 +158,7 @@ pub fn action_step(policy: usize, kind: usize, holds: usize, between: usize, sta
 
 // The state after a passage.
 pub fn passage_step(policy: usize, passage: usize, side: usize, state: usize) -> usize
-    requires { ⌜ (policy < 5) × (passage < 5) × (side < 3) × (state < 9) ⌝ }
+    requires { ⌜ (policy < 6) × (passage < 5) × (side < 3) × (state < 9) ⌝ }
     ensures { λ r. ⌜ r ≡ stateCode (crossOf (policyOf policy) (passageOf passage) side (stateOf state)) ⌝ }
 {
     if passable(policy, passage) {

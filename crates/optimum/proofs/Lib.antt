@@ -6,3 +6,4 @@ pub mod Weighed
 pub mod Optimum
 pub mod Radix
 pub mod Best
+pub mod Compared

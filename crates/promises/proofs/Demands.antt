@@ -4,7 +4,7 @@
 -- lent work area: the reply, and what sheet and work area hold after it. The public contracts are equations with it, and with
 -- `pageAnswer` (rules/specs/PageAnswers) where a page is lent too.
 -- The words of the statements are in specs/: the causes of the table (Causes), what a sheet says (Contents), what calls give (Calls),
--- and of the requests #101 (EmptyLists), #102 (Uprights) and #103 (Pages).
+-- and of the requests #101 (EmptyLists), #102 (Uprights) and #103 (Pages). Request #104 has its words in rules/specs/Policies.
 use Prim.Native.Nat.{ℕ, _+_, _*_, _-_, _/_, _≤_, _<_}
 use mathlib.Core.Path.{_≡_, refl, sym, _∙_, ap, subst}
 use mathlib.Core.Logic.{_⊎_, _↔_}
@@ -13,14 +13,14 @@ use mathlib.Core.Bool.{true}
 use lib.ListN.{length, take, drop}
 use Rattle.rules.specs.declared.Layout.{Layout}
 use Rattle.rules.specs.declared.Policy.{Policy}
-use Rattle.rules.specs.declared.Policy.the-variants.{Exact}
+use Rattle.rules.specs.declared.Policy.the-variants.{Exact, Midpoint, Largest}
 use Rattle.rules.specs.declared.Posts.the-variants.{NoPosts, Every}
 use Rattle.rules.specs.declared.Pick.{Pick}
 use Rattle.rules.specs.declared.Refusal.{Refusal}
 use Rattle.rules.specs.declared.Refusal.the-variants.{WorkArea, ListBounds, ShortOfStock, SheetSpace, PageSpace}
 use Rattle.rules.specs.declared.Reply.the-variants.{Served, Refused}
 use Rattle.rules.specs.Store.{WithoutPosts, aisleLength, position, Edge, InStore, layoutInBounds}
-use Rattle.rules.specs.Jobs.{Job, jobWithPosts}
+use Rattle.rules.specs.Jobs.{Job, jobWithPosts, jobUnder}
 use Rattle.rules.specs.JobFile.{lineFeed, header, field, jobText, jobFileLimit}
 use Rattle.rules.specs.Plans.{Plan}
 use Rattle.rules.specs.Lawful.{Lawful}
@@ -33,7 +33,7 @@ use Rattle.rules.specs.Answers.{answer, hostAnswer, sheetLimit, letterR, output
 use Rattle.rules.specs.PageAnswers.{pageAnswer, hostPageAnswer, pageLimit, pageOutput}
 use Rattle.rules.specs.Policies.{inFrontHalf, inBackHalf, Follows, Allowed}
 use Rattle.rules.specs.Serving.{PlanServes}
-use Rattle.rules.specs.Examples.{_⨯_, alpha, AllHold, cases, ownCases, workedJob, workedPage}
+use Rattle.rules.specs.Examples.{_⨯_, alpha, AllHold, AllSame, cases, ownCases, fourBetween, largestCases, stopLists, workedJob, workedPage}
 use Rattle.rules.proofs.Cases as Cases
 use Rattle.closedwalks.proofs.Statements.{walk-reads, plan-determined}
 use Rattle.promises.specs.Causes.{JobFileOf, LineOutOfStock, OfJob, Cause, tableRow, FirstCause}
@@ -44,6 +44,7 @@ use Rattle.promises.specs.Uprights.{PostsOfNothing}
 use Rattle.promises.specs.Pages.{PageCause, FirstPageCause, RefusedPageCall, ServedPageCall, AlongTheWalk, ShowsPage, HostPageCall, PrintsPage, PrintsPageRefusal}
 use Rattle.promises.proofs.EmptyLists
 use Rattle.promises.proofs.Uprights
+use Rattle.promises.proofs.LargestGap
 use Rattle.promises.proofs.PageCalls
 use Rattle.promises.proofs.Clipboard
 use Rattle.promises.proofs.PageHost
@@ -323,3 +324,20 @@ page-output-start = PageHost.page-output-start
 -- the page of document 01's worked job; how wide its columns are and which step counts is pinned by `texts-hold` (rules/proofs/Cases)
 pub worked-page : pageOutput workedJob ≡ workedPage
 worked-page = Cases.page-calls .0
+
+-- Request #104: "No LARGEST tour may be shorter than ours" is demand 3, whose plans are those that the job's policy allows.
+-- "ours is never longer than the MIDPOINT tour of the same job": of two served calls for one job, under the one word and under the other,
+-- each with its own sheet and work area; the planning host's calls and the program's are such calls (`host-call`, `program-prints`)
+pub largest-at-most-midpoint : (job : Job) (bytes sheet work others space area : List ℕ) (c d : Content)
+    → Shows bytes sheet work (jobUnder Midpoint job) c → Shows others space area (jobUnder Largest job) d → d .length ≤ c .length
+largest-at-most-midpoint = LargestGap.at-most
+
+-- there are such calls, and LARGEST may be shorter
+pub largest-at-most-midpoint-met : (sheet work : List ℕ) → sheetLimit ≤ length sheet → workLimit ≤ length work
+    → (c : Content) × (d : Content) × Shows (jobText (fourBetween Midpoint)) sheet work (jobUnder Midpoint (fourBetween Midpoint)) c
+    × Shows (jobText (fourBetween Largest)) sheet work (jobUnder Largest (fourBetween Midpoint)) d × (c .length ≡ 26) × (d .length ≡ 24)
+largest-at-most-midpoint-met = LargestGap.met
+
+-- what the request says of aisles between is pinned by cases of its own, and which cells are stops by lists of them
+pub largest-cases-hold : AllHold largestCases × AllSame stopLists
+largest-cases-hold = (Cases.largest-cases-hold, Cases.stops-hold)

@@ -11,7 +11,7 @@ use Rattle.rules.specs.declared.OrderLine.{OrderLine}
 use Rattle.rules.specs.declared.Action.the-variants.{Void}
 use Rattle.rules.specs.declared.Passage.the-variants.{P00}
 use Rattle.rules.specs.declared.Policy.{Policy}
-use Rattle.rules.specs.declared.Policy.the-variants.{Exact, Return, Traversal, Midpoint, Composite}
+use Rattle.rules.specs.declared.Policy.the-variants.{Exact, Return, Traversal, Midpoint, Composite, Largest}
 use Rattle.rules.specs.declared.Refusal.{Refusal}
 use Rattle.rules.specs.declared.Refusal.the-variants.{WorkArea, NotAJobFile, LayoutBounds, StockBounds, CellTwice, ListBounds, ArticleTwice, TooHeavy, ShortOfStock, SheetSpace, PageSpace}
 use Rattle.rules.specs.declared.Reply.the-variants.{Served}
@@ -150,6 +150,7 @@ none-read Return = refl
 none-read Traversal = refl
 none-read Midpoint = refl
 none-read Composite = refl
+none-read Largest = refl
 
 pub nothing-to-fetch : (policy : Policy) (sheet work : List ℕ) → sheetLimit ≤ length sheet → workLimit ≤ length work
     → NothingToFetch (jobText (noneOfAlpha policy)) sheet work (noneOfAlpha policy)

@@ -6,7 +6,7 @@ use mathlib.Core.Path.{_≡_, refl, sym, _∙_}
 use mathlib.Core.Bool.{true, false, true≢false}
 use mathlib.Core.List.{[], _∷_}
 use Rattle.rules.specs.declared.Policy.{Policy}
-use Rattle.rules.specs.declared.Policy.the-variants.{Exact, Return, Traversal, Midpoint, Composite}
+use Rattle.rules.specs.declared.Policy.the-variants.{Exact, Return, Traversal, Midpoint, Composite, Largest}
 use Rattle.rules.specs.declared.Action.the-variants.{Bottom}
 use Rattle.rules.specs.declared.Passage.the-variants.{P02}
 use Rattle.rules.specs.Jobs.{Job, listed, holdsListed}
@@ -57,3 +57,4 @@ entering-others Return n = not-accepted Return refl
 entering-others Traversal n = not-accepted Traversal refl
 entering-others Midpoint n = not-accepted Midpoint refl
 entering-others Composite n = not-accepted Composite refl
+entering-others Largest n = not-accepted Largest refl

@@ -10,6 +10,7 @@ pub mod Program
 pub mod Entering
 pub mod EmptyLists
 pub mod Uprights
+pub mod LargestGap
 pub mod PageCalls
 pub mod Clipboard
 pub mod PageHost

@@ -6,7 +6,7 @@ use mathlib.Core.Bool.{false, cond}
 use lib.Dec.{eqb}
 use lib.ListN.{length, drop}
 use Rattle.rules.specs.declared.Policy.{Policy}
-use Rattle.rules.specs.declared.Policy.the-variants.{Exact, Return, Traversal, Midpoint, Composite}
+use Rattle.rules.specs.declared.Policy.the-variants.{Exact, Return, Traversal, Midpoint, Composite, Largest}
 use Rattle.rules.specs.declared.Action.{Action}
 use Rattle.rules.specs.declared.Action.the-variants.{Void, Bottom, Top, Gap, Once, Twice}
 use Rattle.rules.specs.declared.Passage.{Passage}
@@ -88,7 +88,8 @@ readPolicy s =
     (cond (eqb (first s) 82) (Return, drop 7 s)
     (cond (eqb (first s) 84) (Traversal, drop 10 s)
     (cond (eqb (first s) 77) (Midpoint, drop 9 s)
-    (Composite, drop 10 s))))
+    (cond (eqb (first s) 67) (Composite, drop 10 s)
+    (Largest, drop 8 s)))))
 
 reads-policy : Reads readPolicy (λ p. policyWord p ++ (lineFeed ∷ []))
 unfolding readPolicy
@@ -97,6 +98,7 @@ reads-policy Return rest = refl
 reads-policy Traversal rest = refl
 reads-policy Midpoint rest = refl
 reads-policy Composite rest = refl
+reads-policy Largest rest = refl
 
 -- by the first letter, or the second: TOP and TWICE
 readAction : Reader Action

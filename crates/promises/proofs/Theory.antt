@@ -6,19 +6,21 @@ use mathlib.Core.List.{List, []}
 use mathlib.Core.Bool.{true}
 use lib.ListN.{length}
 use Rattle.rules.specs.declared.Layout.{Layout}
+use Rattle.rules.specs.declared.Action.{Action}
 use Rattle.rules.specs.declared.OrderLine.{OrderLine}
 use Rattle.rules.specs.Store.{Edge, InStore, aisleLength, layoutInBounds}
 use Rattle.rules.specs.Jobs.{Job}
 use Rattle.rules.specs.Refusals.{Admitted}
 use Rattle.rules.specs.Plans.{Plan, WellFormed, multiplicity, planLength, planPasses}
 use Rattle.rules.specs.Lawful.{Lawful, LawfulFor}
-use Rattle.rules.specs.Policies.{Allowed}
-use Rattle.rules.specs.Machine.{accepts}
+use Rattle.rules.specs.Policies.{LargestGap, Allowed}
+use Rattle.rules.specs.Machine.{keepsLargestGap, accepts}
 use Rattle.rules.specs.Serving.{PlanServes}
 use Rattle.rules.specs.BestPlan.{bestPlan, IsBest}
 use Rattle.rules.specs.Walks.{Walk, ClosedWalk, walkTreads, walkLength, walkPasses, NotAfter}
 use Rattle.rules.specs.FirstWalk.{WalkOf, firstWalk}
 use Rattle.rules.proofs.Lengths
+use Rattle.rules.proofs.Stops
 use Rattle.rules.proofs.Ceiling
 use Rattle.tours.proofs.Machine
 use Rattle.tours.proofs.Existence
@@ -29,6 +31,10 @@ use Rattle.closedwalks.proofs.Statements
 pub machine-is-rules : (job : Job) (plan : Plan) → 1 ≤ job .layout .depot
     → (WellFormed (job .layout) plan × (accepts job plan ≡ true)) ↔ Allowed job plan
 machine-is-rules = Machine.accepts-allowed
+
+-- LARGEST's executable test for aisles between is its rule
+pub largest-gap-is-tested : (job : Job) (j : ℕ) (a : Action) → (keepsLargestGap job j a ≡ true) ↔ LargestGap job j a
+largest-gap-is-tested = Stops.largest-gap
 
 -- a plan that the policy allows and that serves the list exists wherever no line exceeds all the stock of its article
 pub serving-plan : (job : Job) → Admitted job → (plan : Plan) × Allowed job plan × PlanServes job plan

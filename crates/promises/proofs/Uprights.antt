@@ -10,7 +10,7 @@ use lib.ListN.{replicate}
 use borrow.Author.Tests.{leb-true, le-leb}
 use Rattle.rules.specs.declared.Layout.{Layout}
 use Rattle.rules.specs.declared.Policy.{Policy}
-use Rattle.rules.specs.declared.Policy.the-variants.{Exact, Return, Traversal, Midpoint, Composite}
+use Rattle.rules.specs.declared.Policy.the-variants.{Exact, Return, Traversal, Midpoint, Composite, Largest}
 use Rattle.rules.specs.declared.Posts.the-variants.{NoPosts, Every}
 use Rattle.rules.specs.Store.{postsBefore, WithoutPosts, aisleLength, position}
 use Rattle.rules.specs.Jobs.{Job, jobWithPosts}
@@ -111,6 +111,7 @@ both-read Return = (refl, refl)
 both-read Traversal = (refl, refl)
 both-read Midpoint = (refl, refl)
 both-read Composite = (refl, refl)
+both-read Largest = (refl, refl)
 
 -- both are job files
 pub both-files : (policy : Policy) → PostsOfNothing (oneNine policy) 3 (jobText (jobWithPosts NoPosts (oneNine policy))) (jobText (jobWithPosts (Every 3 0) (oneNine policy)))

@@ -43,7 +43,7 @@ pub enum ListLine {
 }
 
 impl Cursor {
-    // One of the five policy words and a line feed.
+    // One of the six policy words and a line feed.
     pub fn policy(self, s: &[u8]) -> PolicyWord
         ensures { λ r. ⌜ policyOf (now (s .entry)) r ≡ readPolicy (drop (self .at) (now (s .entry))) ⌝ }
     {
@@ -61,6 +61,9 @@ impl Cursor {
         }
         if let Step::Next(next) = self.word(s, b"COMPOSITE\n") {
             return PolicyWord::Named(Policy::Composite, next);
+        }
+        if let Step::Next(next) = self.word(s, b"LARGEST\n") {
+            return PolicyWord::Named(Policy::Largest, next);
         }
         PolicyWord::Bad
     }

@@ -1,5 +1,5 @@
 -- One more aisle of the best plan is read out of the table.
-use Prim.Native.Nat.{ℕ, suc, _-_, _<_}
+use Prim.Native.Nat.{ℕ, suc, _-_, _≤_, _<_}
 use native.Mathlib.Omega.{arith}
 use mathlib.Core.Path.{_≡_, refl, sym, _∙_, ap, ap₂, subst}
 use mathlib.Core.List.{List, [], _∷_, _++_, map, append-assoc}
@@ -168,6 +168,9 @@ module _ {job : Job} {n here : ℕ} {t : Trace} {next after fronts backs : List 
   few : n < 16
   few = let m = asked .more in let w = within (job .layout) (h .ok .layout) in omega arith
 
+  few-cells : cells ≤ 24
+  few-cells = within (job .layout) (h .ok .layout) .cells .1
+
   -- the row behind the actions holds the table's values there
   after-holds : AfterHolds job (left job n) (suc n) after
   after-holds = after-value job (left job n) (suc n) next (asked .row) refl after (h .filled)
@@ -175,7 +178,7 @@ module _ {job : Job} {n here : ℕ} {t : Trace} {next after fronts backs : List 
   -- the ways over actions are the table's, and so are the ways on over passages
   actions-agree : (v : ℕ) → firstAt (wayOver aisle after fronts backs (t .at)) v (actionsOf cells) ≡ firstAt (over job n (t .at)) v (actionsOf cells)
   actions-agree v =
-      let way = through-value job (h .ok .stock) (left job n) (suc n) (nextAt after) fronts backs (h .maps) after-holds in
+      let way = through-value job few-cells (h .ok .stock) (left job n) (suc n) (nextAt after) fronts backs (h .maps) after-holds in
       let at-here = way (t .at .state) (t .at .demand) (asked .traced .state-below) (asked .traced .demand-below) in
       first-agree _ _ v (actionsOf cells) (λ a m. at-here a (actions-sound cells a m))
 
@@ -204,8 +207,8 @@ module _ {job : Job} {n here : ℕ} {t : Trace} {next after fronts backs : List 
   behind-action a to fits to-is =
       let s = t .at .state in
       let q = t .at .demand in
-      let state : to .state ≡ stateCode (stateAfter job n (t .at) a) = ap (λ (p : At). p .state) to-is ∙ step-code job (suc n) a s in
-      let demand = left-code job (h .ok .stock) (left job n) (suc n) (nextAt after) fronts backs (h .maps) after-holds a fits q in
+      let state : to .state ≡ stateCode (stateAfter job n (t .at) a) = ap (λ (p : At). p .state) to-is ∙ step-code job (suc n) few-cells a fits s in
+      let demand = left-code job few-cells (h .ok .stock) (left job n) (suc n) (nextAt after) fronts backs (h .maps) after-holds a fits q in
       let code : to .demand ≡ lessCode (radices job) (gains job (suc n) a) q =
       ap (λ (p : At). p .demand) to-is ∙ demand (asked .traced .demand-below) in
       record {

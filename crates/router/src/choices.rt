@@ -5,7 +5,7 @@ use crate::ranks::action_of;
 use crate::ranks::passage_of;
 use aisles::candidates::Candidate;
 use aisles::candidates::action_length;
-use aisles::candidates::keeps_halves;
+use aisles::candidates::passes_between;
 use aisles::layers::Aisle;
 use demand::digits::DEMANDS;
 use demand::digits::wide;
@@ -76,8 +76,8 @@ fn step_to<'a>(fronts: &'a [u16], backs: &'a [u16], x: Aisle, at: At, c: Candida
     let front = c.front;
     let back = c.back;
     let q = at.demand;
-    let halves = keeps_halves(x.layout, c);
-    let state = action_step(x.policy, c.kind, x.holds, halves, at.state);
+    let between = passes_between(x.between, c);
+    let state = action_step(x.policy, c.kind, x.holds, between, at.state);
     let f = wide(fronts[front * DEMANDS + q]);
     let demand = wide(backs[back * DEMANDS + f]);
     At { state, demand }

@@ -12,13 +12,14 @@ use lib.ListN.{length}
 use Rattle.rules.specs.declared.Posts.{Posts}
 use Rattle.rules.specs.declared.Posts.the-variants.{NoPosts, Every}
 use Rattle.rules.specs.declared.Layout.{Layout}
+use Rattle.rules.specs.declared.Policy.{Policy}
 use Rattle.rules.specs.declared.StockRecord.{StockRecord}
 use Rattle.rules.specs.declared.OrderLine.{OrderLine}
 use Rattle.rules.specs.declared.Refusal.{Refusal}
 use Rattle.rules.specs.declared.Refusal.the-variants.{LayoutBounds, StockBounds, CellTwice, ListBounds, ArticleTwice, TooHeavy, ShortOfStock}
 use Rattle.rules.specs.Lists.{anyTwo, Sorted}
 use Rattle.rules.specs.Store.{within, postsInBounds, PostsWithin, layoutInBounds, LayoutWithin}
-use Rattle.rules.specs.Jobs.{Job}
+use Rattle.rules.specs.Jobs.{Job, jobUnder}
 use Rattle.rules.specs.Refusals.{recordInBounds, stockInBounds, sameCell, lineInBounds, listInBounds, sameArticle, weight, weightLimit, allStock, shortOfStock, numberOf, firstRow, jobRows, jobRefusal, Admitted, RecordWithin, StockWithin, LineWithin, ListWithin}
 use Rattle.rules.proofs.Lists.{all-true, any-false, any-true, sorted-imply, no-two-alike, alike-members}
 
@@ -192,3 +193,17 @@ refused-for-stock job =
     let last = is-short (shortOfStock job) in
     let line = line-out-of-stock job in
     (λ e. (let p = q .0 e in (p .0, line .0 (last .0 p.1))), λ p. q .1 (p .0, last .1 (line .1 p.1)))
+
+-- the job under another policy is admitted as well
+pub admitted-under : (policy : Policy) (job : Job) → Admitted job → Admitted (jobUnder policy job)
+unfolding stockInBounds recordInBounds listInBounds shortOfStock allStock
+admitted-under policy job a =
+    record {
+      layout = a .layout;
+      stock = a .stock;
+      cells-once = a .cells-once;
+      list = a .list;
+      articles-once = a .articles-once;
+      light = a .light;
+      in-stock = a .in-stock;
+    }

@@ -8,7 +8,7 @@ use mathlib.Core.Bool.{true}
 use lib.ListN.{replicate}
 use Rattle.rules.specs.declared.Action.{Action}
 use Rattle.rules.specs.declared.Policy.{Policy}
-use Rattle.rules.specs.declared.Policy.the-variants.{Exact, Return, Traversal, Midpoint, Composite}
+use Rattle.rules.specs.declared.Policy.the-variants.{Exact, Return, Traversal, Midpoint, Composite, Largest}
 use Rattle.rules.specs.declared.Action.the-variants.{Bottom}
 use Rattle.rules.specs.declared.Passage.{Passage}
 use Rattle.rules.specs.declared.Passage.the-variants.{P02}
@@ -23,13 +23,14 @@ use Rattle.rules.specs.Lengths.{actionLength, passageLength}
 use Rattle.rules.specs.Answers.{refused, served, answer, hostAnswer, output}
 use Rattle.rules.specs.BestPlan.{actionsOf, passagesInOrder, single, prepend, shorterOf, emptyPlan, servingPlans, bestPlan}
 use Rattle.rules.specs.Examples.{stocked, _⨯_, alpha, beta, steps, roundTrip, cases, ownJob, oneEach, midwayFront, midwayBack, farBack, nearBack, bothEnds, bottomOrTop, topOrGap, gapOrOnce, frontOrBack, leftFirst, topTie, withOthers, gapByFront, gapByBack, posted, thirdCells, beforeMiddle, behindMiddle, wrongLayout, wrongStock, sharedCell, sharedArticle, bothBottom, bothOnce, eightLines, nineLines, frontOnly, awayFromDepot, ownCases, twoLines, counted, fromTheBack, pageFromTheBack, texts, overfull, RefusedWith, workedJob, workedSheet, workedPage}
+use Rattle.rules.specs.Examples.{betaWith, cellsBetween, fourBetween, besideUnlisted, listedInGap, oneAisle, betweenEnds, largestCases, stopLists}
 use Rattle.rules.specs.FirstWalk.{without, stepsOf, firstWalk}
 use Rattle.rules.specs.JobFile.{numeral, field, header, sectionText, jobText, layoutText, layoutSectionText, recordText, lineText, isDigit, isNumber, readField, readHeader, readPolicyAs, readPolicy, readLayout, readPostsLine, readPosts, readRecord, readLine, readSection, readLayoutSection, readSections, readJob}
-use Rattle.rules.specs.Jobs.{listed, holdsListed}
-use Rattle.rules.specs.Machine.{actionPossible, actionStep, passageStep, treadsNothing, accepts}
+use Rattle.rules.specs.Jobs.{listed, holdsListed, cellHoldsListed}
+use Rattle.rules.specs.Machine.{partKeeps, keepsLargestGap, actionPossible, actionStep, passageStep, treadsNothing, accepts}
 use Rattle.rules.specs.Picks.{cellsOf, lackOf, lessOf, recordAt, taken, passedRecords, picksOf}
 use Rattle.rules.specs.Plans.{actionAt, passageAt, multiplicity, lengthOf, planLength, planPasses}
-use Rattle.rules.specs.Policies.{inFrontHalf, inBackHalf}
+use Rattle.rules.specs.Policies.{inFrontHalf, inBackHalf, listedCells, untrodden}
 use Rattle.rules.specs.Page.{aligned, column, pageLine, pickCell, pickedAt, alongWalk, pageOf, pageText}
 use Rattle.rules.specs.PageAnswers.{pageRefused, pageServed, pageAnswer, hostPageAnswer, pageOutput}
 use Rattle.rules.specs.Refusals.{recordInBounds, stockInBounds, sameCell, lineInBounds, listInBounds, sameArticle, weight, allStock, shortOfStock, jobRows, jobRefusal, checkJob, checkBytes, cleared, pageTable}
@@ -92,12 +93,13 @@ AllComputed [] = Unit {0}
 AllComputed (c ∷ rest) = RowComputed c × AllComputed rest
 
 -- what holds under each policy holds under every policy
-under-each : (P : Policy → Type 0) → P Exact → P Return → P Traversal → P Midpoint → P Composite → (policy : Policy) → P policy
-under-each P e r t m c Exact = e
-under-each P e r t m c Return = r
-under-each P e r t m c Traversal = t
-under-each P e r t m c Midpoint = m
-under-each P e r t m c Composite = c
+under-each : (P : Policy → Type 0) → P Exact → P Return → P Traversal → P Midpoint → P Composite → P Largest → (policy : Policy) → P policy
+under-each P e r t m c l Exact = e
+under-each P e r t m c l Return = r
+under-each P e r t m c l Traversal = t
+under-each P e r t m c l Midpoint = m
+under-each P e r t m c l Composite = c
+under-each P e r t m c l Largest = l
 
 infixr 5 _▸_
 -- a row before others
@@ -129,7 +131,8 @@ cases-computed =
     ▸ (λ policy. (refl, (ShortOfStock, refl, refl)))
     ▸ (λ policy. (ListBounds, refl, refl))
     ▸ (λ policy. (refl, (TooHeavy, refl, refl)))
-    ▸ under-each _ ((refl, refl, refl, refl), refl) ((refl, refl, refl, refl), refl) ((refl, refl, refl, refl), refl) ((refl, refl, refl, refl), refl) ((refl, refl, refl, refl), refl)
+    ▸ under-each _ ((refl, refl, refl, refl), refl) ((refl, refl, refl, refl), refl) ((refl, refl, refl, refl), refl)
+    ((refl, refl, refl, refl), refl) ((refl, refl, refl, refl), refl) ((refl, refl, refl, refl), refl)
     ▸ tt
 
 -- the table of the cases 1 to 14
@@ -164,7 +167,7 @@ own-cases-computed =
     ▸ ((refl, refl, refl, refl), refl)
     ▸ (λ policy. (refl, (ShortOfStock, refl, refl)))
     ▸ (λ policy. (ListBounds, refl, refl))
-    ▸ under-each _ (refl, refl) (refl, refl) (refl, refl) (refl, refl) (refl, refl)
+    ▸ under-each _ (refl, refl) (refl, refl) (refl, refl) (refl, refl) (refl, refl) (refl, refl)
     ▸ (refl, refl)
     ▸ (refl, refl, refl, refl)
     ▸ (refl, refl, refl, refl)
@@ -182,6 +185,52 @@ own-cases-computed =
 pub own-cases-hold : AllHold ownCases
 own-cases-hold = all-hold ownCases own-cases-computed
 
+-- the rows of request #104
+largest-cases-computed : AllComputed largestCases
+unfolding actionsOf passagesInOrder single prepend shorterOf stocked _⨯_ alpha beta listed holdsListed actionPossible actionStep passageStep accepts actionAt
+    passageAt multiplicity lengthOf planLength planPasses inFrontHalf inBackHalf supply serves aisleLength position backHeight depotPoint distance edgesOf
+    boundedBest actionLength passageLength recordInBounds stockInBounds sameCell lineInBounds listInBounds sameArticle weight allStock shortOfStock jobRows
+    jobRefusal within layoutInBounds ownJob posted bothOnce treadsNothing cellHoldsListed listedCells untrodden partKeeps keepsLargestGap betaWith cellsBetween fourBetween
+    besideUnlisted listedInGap oneAisle betweenEnds largestCases
+largest-cases-computed =
+    (refl, refl, refl, refl)
+    ▸ (refl, refl, refl, refl)
+    ▸ (refl, refl, refl, refl)
+    ▸ (refl, refl, refl, refl)
+    ▸ (refl, refl)
+    ▸ (refl, refl)
+    ▸ (refl, refl, refl, refl)
+    ▸ (refl, refl)
+    ▸ (refl, refl)
+    ▸ (refl, refl)
+    ▸ (refl, refl)
+    ▸ (refl, refl)
+    ▸ (refl, refl)
+    ▸ (refl, refl)
+    ▸ (refl, refl)
+    ▸ (refl, refl)
+    ▸ (refl, refl)
+    ▸ (refl, refl)
+    ▸ (refl, refl)
+    ▸ (refl, refl)
+    ▸ (refl, refl)
+    ▸ (refl, refl)
+    ▸ (refl, refl, refl, refl)
+    ▸ (refl, refl)
+    ▸ (refl, refl)
+    ▸ (refl, refl, refl, refl)
+    ▸ (refl, refl)
+    ▸ tt
+
+-- the table of request #104
+pub largest-cases-hold : AllHold largestCases
+largest-cases-hold = all-hold largestCases largest-cases-computed
+
+-- the lists of stops
+pub stops-hold : AllSame stopLists
+unfolding stopLists listedInGap betaWith ownJob stocked _⨯_ listedCells cellHoldsListed listed backHeight
+stops-hold = refl ▸ refl ▸ refl ▸ refl ▸ tt
+
 -- the texts of words and lines, byte for byte
 pub texts-hold : AllSame texts
 unfolding texts twoLines counted posted thirdCells jobText sectionText readPolicyAs readPolicy readLayout readPostsLine readPosts readRecord readLine
@@ -191,7 +240,7 @@ unfolding texts twoLines counted posted thirdCells jobText sectionText readPolic
     multiplicity without stepsOf firstWalk edgesOf backHeight depotPoint sameEdge samePoint isCrossing canStep stepTo stepEdge one pageRefused pageTable
     pageAnswer hostPageAnswer pageOutput
 texts-hold =
-    refl ▸ refl ▸ refl ▸ refl ▸ refl ▸ refl ▸ refl ▸ refl ▸ refl ▸ refl ▸ refl ▸ refl ▸ refl ▸ refl ▸ refl ▸ refl ▸ refl ▸ refl ▸ refl ▸ refl ▸ refl ▸ refl ▸ refl ▸ refl ▸ tt
+    refl ▸ refl ▸ refl ▸ refl ▸ refl ▸ refl ▸ refl ▸ refl ▸ refl ▸ refl ▸ refl ▸ refl ▸ refl ▸ refl ▸ refl ▸ refl ▸ refl ▸ refl ▸ refl ▸ refl ▸ refl ▸ refl ▸ refl ▸ refl ▸ refl ▸ tt
 
 -- a sheet space of 69 bytes is too short for the worked sheet: 9, and the work area is all zero
 pub short-space : CallGives (replicate 69 0) (replicate 32768 1) 9 0

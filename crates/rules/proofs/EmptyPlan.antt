@@ -11,7 +11,7 @@ use borrow.Author.Tests.{lt-ltb, le-leb, eq-eqb}
 use lib.ListN.{length, replicate, length-replicate}
 use Rattle.rules.specs.declared.Layout.{Layout}
 use Rattle.rules.specs.declared.Policy.{Policy}
-use Rattle.rules.specs.declared.Policy.the-variants.{Exact, Return, Traversal, Midpoint, Composite}
+use Rattle.rules.specs.declared.Policy.the-variants.{Exact, Return, Traversal, Midpoint, Composite, Largest}
 use Rattle.rules.specs.declared.Action.{Action}
 use Rattle.rules.specs.declared.Action.the-variants.{Void, Bottom, Top, Gap, Once, Twice}
 use Rattle.rules.specs.declared.Passage.{Passage}
@@ -187,6 +187,7 @@ named-void Return = (refl, refl)
 named-void Traversal = (refl, refl)
 named-void Midpoint = (refl, refl)
 named-void Composite = (refl, refl)
+named-void Largest = (refl, refl)
 
 module _ (job : Job) where
   abbrev idle : Plan
@@ -206,7 +207,7 @@ module _ (job : Job) where
         odd-others = λ e j i l. absurd (empty-entered j i);
       }
 
-  empty-midpoint : MidpointRule (job .layout) idle
+  empty-midpoint : {Between : ℕ → Action → Type 0} → MidpointRule Between idle
   unfolding First Last
   empty-midpoint =
       record {
@@ -216,12 +217,13 @@ module _ (job : Job) where
         between = λ e i j k f l low high. absurd (empty-entered i (f .0));
       }
 
-  empty-own : (policy : Policy) → OwnRule policy (job .layout) idle
+  empty-own : (policy : Policy) → OwnRule policy job idle
   empty-own Exact = tt
   empty-own Return = tt
   empty-own Traversal = empty-traversal
   empty-own Midpoint = empty-midpoint
   empty-own Composite = tt
+  empty-own Largest = empty-midpoint
 
   empty-rules : PolicyRules job idle
   empty-rules =
@@ -240,3 +242,4 @@ module _ (job : Job) where
   empty-follows Traversal = empty-rules
   empty-follows Midpoint = empty-rules
   empty-follows Composite = empty-rules
+  empty-follows Largest = empty-rules

@@ -3,7 +3,7 @@ use Prim.Native.Nat.{ℕ, zero, suc, _+_, _*_, _-_, _/_, _≤_, _<_}
 use mathlib.Core.Path.{_≡_, refl, sym, _∙_, ap, ap₂, subst}
 use mathlib.Core.List.{_++_, map, List·Memᴰ}
 use mathlib.Core.Bool.{Bool, true, false}
-use native.Mathlib.Nat.{mul-zero, mul-add, add-mul, mul-le-mul-left, mul-le-mul-right, div-zero, div-mul-le-self, le-div-iff-mul-le}
+use native.Mathlib.Nat.{mul-zero, suc-mul, mul-add, add-mul, mul-le-mul-left, mul-le-mul-right, div-zero, div-mul-le-self, le-div-iff-mul-le}
 use native.Mathlib.Omega.{arith}
 use lib.Dec.{ltb}
 use lib.ListN.{length}
@@ -16,7 +16,7 @@ use Rattle.rules.specs.declared.Action.the-variants.{Void, Bottom, Top, 
 use Rattle.rules.specs.declared.Passage.{Passage}
 use Rattle.rules.specs.declared.Passage.the-variants.{P00, P02, P11, P20, P22}
 use Rattle.rules.specs.Lists.{from, sumOf, concatOf}
-use Rattle.rules.specs.Store.{postsBefore, WithoutPosts, cellPosition, aisleLength, position, Edge, along, front, back, distance, edgesOf}
+use Rattle.rules.specs.Store.{postsBefore, WithoutPosts, LayoutWithin, cellPosition, aisleLength, position, Edge, along, front, back, distance, edgesOf}
 use Rattle.rules.specs.Plans.{Plan, Fits, WellFormed, actionAt, passageAt, aisleTreads, backTreads, frontTreads, multiplicity, lengthOf, planLength}
 use Rattle.rules.specs.Lengths.{actionLength, passageLength}
 use Rattle.rules.proofs.Lists.{sum-append, sum-agree, sum-plus, sum-below, sum-map, sum-concat, sum-from-append, sum-places, member-place}
@@ -99,6 +99,24 @@ module _ (z : Layout) where
       go (at-back b) (at-cell l g) = absurd (omega arith)
       go (at-back b) (at-back c) = rw (position-back h b, position-back k c) (omega arith)
 
+  -- and every edge of an aisle is at least 1 long
+  pub position-grows : LayoutWithin z → (h k : ℕ) → h < k → k ≤ suc (z .cells) → position z h < position z k
+  unfolding aisleLength
+  position-grows lw h k less within = go (height h) (height k)
+    where
+      go : Height h → Height k → position z h < position z k
+      go (at-front e) (at-front d) = absurd (omega arith)
+      go (at-front e) (at-cell low high) = rw (e, position-front, position-cell k low high) (omega (arith, lw .front .0))
+      go (at-front e) (at-back b) = rw (e, position-front, position-back k b) (omega (arith, lw .back .0))
+      go (at-cell low high) (at-front e) = absurd (omega arith)
+      go (at-cell low high) (at-cell l g) =
+          let p : suc (h - 1) * z .pitch ≤ (k - 1) * z .pitch = mul-le-mul-right (z .pitch) (omega arith) in
+          rw (position-cell h low high, position-cell k l g) (omega (arith, lw .pitch .0, suc-mul (h - 1) (z .pitch), posts-monotone (z .posts) h k (omega arith)))
+      go (at-cell low high) (at-back b) =
+          let p : (h - 1) * z .pitch ≤ (z .cells - 1) * z .pitch = mul-le-mul-right (z .pitch) (omega arith) in
+          rw (position-cell h low high, position-back k b) (omega (arith, lw .back .0, posts-monotone (z .posts) h (z .cells) high))
+      go (at-back b) _ = absurd (omega arith)
+
   -- the length of an action in its aisle, as the sum over the edges of the aisle
   unfoldable pub actionSum : ℕ → Action → ℕ
   actionSum j a = sumOf (λ k. aisleTreads a k * distance z (along j k)) (from 0 (suc (z .cells)))
@@ -116,7 +134,8 @@ module _ (p t : ℕ → ℕ) (grows : (i k : ℕ) → i ≤ k → p i ≤ p k) w
       rw (h a (omega arith) (omega arith), stretch-sum c (suc a) n b (omega arith) (λ k l. h k (omega arith)), whole, mul-add)
 
   -- an aisle in three stretches, up to h, from h to i and from i on
-  three-stretches : (x y w h i n : ℕ) → h ≤ i → i ≤ n → ((k : ℕ) → k < h → t k ≡ x) → ((k : ℕ) → h ≤ k → k < i → t k ≡ y) → ((k : ℕ) → i ≤ k → k < n → t k ≡ w) → sumOf (λ k. t k * (p (suc k) - p k)) (from 0 n) ≡ x * (p h - p 0) + (y * (p i - p h) + w * (p n - p i))
+  pub three-stretches : (x y w h i n : ℕ) → h ≤ i → i ≤ n → ((k : ℕ) → k < h → t k ≡ x) → ((k : ℕ) → h ≤ k → k < i → t k ≡ y) → ((k : ℕ) → i ≤ k → k < n → t k ≡ w)
+      → sumOf (λ k. t k * (p (suc k) - p k)) (from 0 n) ≡ x * (p h - p 0) + (y * (p i - p h) + w * (p n - p i))
   three-stretches x y w h i n hi le low middle high =
       let f : ℕ → ℕ = λ k. t k * (p (suc k) - p k) in
       let all : n ≡ h + ((i - h) + (n - i)) = omega arith in

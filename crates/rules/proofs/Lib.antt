@@ -5,6 +5,7 @@ pub mod Admission
 pub mod Answering
 pub mod Taken
 pub mod Lengths
+pub mod Stops
 pub mod Serving
 pub mod Listing
 pub mod EmptyPlan

@@ -4,12 +4,14 @@ use Prim.Native.Nat.{ℕ, zero, suc, _+_, _*_, _-_, _≤_}
 use mathlib.Core.Path.{_≡_, refl, sym, _∙_, ap, ap₂, fun-ext}
 use mathlib.Core.List.{List, [], _∷_, _++_, tail}
 use mathlib.Core.Option.{Option, none, some, Option·getD}
-use mathlib.Core.Bool.{true, false, cond, _&&_, _||_}
-use lib.Dec.{leb, ltb}
+use mathlib.Core.Bool.{true, false, cond, not, _&&_, _||_}
+use lib.Dec.{leb, ltb, eqb}
 use lib.ListN.{length, drop}
 use borrow.Author.Tests.{le-leb}
 use Rattle.rules.specs.declared.Posts.the-variants.{NoPosts, Every}
 use Rattle.rules.specs.declared.Layout.{Layout}
+use Rattle.rules.specs.declared.Policy.{Policy}
+use Rattle.rules.specs.declared.Policy.the-variants.{Exact, Return, Traversal, Midpoint, Composite, Largest}
 use Rattle.rules.specs.declared.Action.{Action}
 use Rattle.rules.specs.declared.Action.the-variants.{Void, Bottom, Top, Gap, Once, Twice}
 use Rattle.rules.specs.declared.Passage.{Passage}
@@ -18,12 +20,13 @@ use Rattle.rules.specs.declared.Direction.{Direction}
 use Rattle.rules.specs.declared.Direction.the-variants.{Back, Front, Left, Right}
 use Rattle.rules.specs.declared.Refusal.{Refusal}
 use Rattle.rules.specs.declared.Reply.the-variants.{Served}
-use Rattle.rules.specs.Lists.{sumOf, select, headOr}
+use Rattle.rules.specs.Lists.{from, sumOf, allOf, select, headOr}
 use Rattle.rules.specs.Store.{Point, Edge, along, front, back, withPosts, cellPosition, aisleLength, position, backHeight, depotPoint, distance, edgesOf, within, layoutInBounds}
-use Rattle.rules.specs.Jobs.{Job, emptyList, jobWithPosts, listed, holdsListed}
-use Rattle.rules.specs.Plans.{Plan, multiplicity, lengthOf, planLength, planPasses}
-use Rattle.rules.specs.Policies.{inFrontHalf, inBackHalf, halved}
+use Rattle.rules.specs.Jobs.{Job, emptyList, jobWithPosts, listed, holdsListed, cellHoldsListed}
+use Rattle.rules.specs.Plans.{Plan, aisleTreads, multiplicity, lengthOf, planLength, planPasses}
+use Rattle.rules.specs.Policies.{inFrontHalf, inBackHalf, halved, Part, fromFront, fromBack, partsOf, listedCells, stopsOn, untrodden, through}
 use Rattle.rules.specs.Machine.{State, policyBy, actionPossible, actionStep, passageStep, runFrom, isClosed, treadsNothing, accepts, nothing, dead}
+use Rattle.rules.specs.Machine.{stopsWithin, partKeeps, keepsLargestGap, betweenTest}
 use Rattle.rules.specs.Serving.{serves}
 use Rattle.rules.specs.BestPlan.{plansOf, firstShortest, servingPlans, emptyPlan, bestPlan}
 use Rattle.rules.specs.Walks.{Walk, isCrossing, canStep, stepTo, stepEdge}
@@ -83,6 +86,12 @@ module _ (k : ℕ) (z : Layout) where
   same-halves Once = refl
   same-halves Twice = refl
 
+  -- and so is the untrodden part of an aisle
+  same-untrodden : (j : ℕ) (a : Action) → untrodden posted j a ≡ untrodden bare j a
+  unfolding untrodden
+  same-untrodden j a =
+      ap (λ d. sumOf (λ k. cond (eqb (aisleTreads a k) 0) (d (along j k)) 0) (from 0 (suc (z .cells)))) (fun-ext same-distance)
+
   -- a walk is found step by step: the way on from a point, given the ways from the points around it
   abbrev wayOn : Layout → ((Edge → ℕ) → Point → Option Walk) → (Edge → ℕ) → Point → Option Walk
   wayOn y rest left x =
@@ -112,11 +121,35 @@ module _ (k : ℕ) (job : Job) where
   abbrev lined : Job
   lined = jobWithPosts (Every k 0) job
 
+  -- the stops are the same and as far apart, so LARGEST asks the same
+  same-part : (j n : ℕ) (part : Part) → partKeeps lined j n part ≡ partKeeps plain j n part
+  unfolding partKeeps listedCells cellHoldsListed listed backHeight
+  same-part j n (fromFront i) =
+      ap (λ at. cellHoldsListed plain j i && stopsWithin at n (stopsOn plain j (fromFront i))) (fun-ext (same-position k (job .layout)))
+  same-part j n (fromBack i) =
+      ap (λ at. cellHoldsListed plain j i && stopsWithin at n (stopsOn plain j (fromBack i))) (fun-ext (same-position k (job .layout)))
+
+  same-largest : (j : ℕ) (a : Action) → keepsLargestGap lined j a ≡ keepsLargestGap plain j a
+  unfolding keepsLargestGap
+  same-largest j a =
+      let gap = untrodden (lined .layout) j a in
+      ap (λ t. not (through a) && allOf t (partsOf a))
+      (fun-ext (λ part. same-part j gap part ∙ ap (λ n. partKeeps plain j n part) (same-untrodden k (job .layout) j a)))
+
+  -- and so does every policy
+  same-between : (policy : Policy) (j : ℕ) (a : Action) → betweenTest policy lined j a ≡ betweenTest policy plain j a
+  same-between Exact j a = same-halves k (job .layout) a
+  same-between Return j a = same-halves k (job .layout) a
+  same-between Traversal j a = same-halves k (job .layout) a
+  same-between Midpoint j a = same-halves k (job .layout) a
+  same-between Composite j a = same-halves k (job .layout) a
+  same-between Largest j a = same-largest j a
+
   -- the machine goes through the same states
   same-step : (j : ℕ) (a : Action) (s : State) → actionStep lined j a s ≡ actionStep plain j a s
   unfolding actionStep actionPossible holdsListed listed
   same-step j a s =
-      ap (λ between. cond (actionPossible plain j a) (policyBy (job .policy) between a s) dead) (same-halves k (job .layout) a)
+      ap (λ between. cond (actionPossible plain j a) (policyBy (job .policy) between a s) dead) (same-between (job .policy) j a)
 
   same-run : (actions : List Action) (passages : List Passage) (j : ℕ) (s : State) → runFrom lined j s actions passages ≡ runFrom plain j s actions passages
   unfolding passageStep

@@ -11,7 +11,7 @@ use lib.Dec.{leb}
 use native.Mathlib.Omega.{arith}
 use borrow.Author.Tests.{leb-true, leb-false, le-leb, lt-leb}
 use Rattle.rules.specs.declared.Policy.{Policy}
-use Rattle.rules.specs.declared.Policy.the-variants.{Exact, Return, Traversal, Midpoint, Composite}
+use Rattle.rules.specs.declared.Policy.the-variants.{Exact, Return, Traversal, Midpoint, Composite, Largest}
 use Rattle.rules.specs.declared.Layout.{Layout}
 use Rattle.rules.specs.declared.Action.{Action}
 use Rattle.rules.specs.declared.Action.the-variants.{Void, Bottom, Top, Gap, Once, Twice}
@@ -22,7 +22,8 @@ use Rattle.rules.specs.Lengths.{actionLength, passageLength}
 use Rattle.rules.specs.Jobs.{Job, emptyList}
 use Rattle.rules.specs.Plans.{Plan, Fits, WellFormed, planLength, planPasses}
 use Rattle.rules.specs.Policies.{passageNamed}
-use Rattle.rules.specs.Machine.{State, nothing, closed, atFront, atBack, odd, joined, split, ending, dead, lawfulStep, traversalStep, midpointStep, policyStep, actionPossible, actionStep, crossStep, passageStep, runFrom, isClosed, treadsNothing, accepts}
+use Rattle.rules.specs.Machine.{State, nothing, closed, atFront, atBack, odd, joined, split, ending, dead, runFrom, isClosed, treadsNothing, accepts}
+use Rattle.rules.specs.Machine.{lawfulStep, traversalStep, midpointStep, policyStep, betweenTest, actionPossible, actionStep, crossStep, passageStep}
 use Rattle.rules.specs.Serving.{serves}
 use Rattle.rules.proofs.Lengths.{plan-length}
 use Rattle.rules.proofs.Listing.{listed-sound}
@@ -46,20 +47,21 @@ traversal-dead (Gap h i) = refl
 traversal-dead Once = refl
 traversal-dead Twice = refl
 
-midpoint-dead : (z : Layout) (a : Action) → midpointStep z a dead ≡ dead
-midpoint-dead z Void = refl
-midpoint-dead z (Bottom i) = refl
-midpoint-dead z (Top i) = refl
-midpoint-dead z (Gap h i) = refl
-midpoint-dead z Once = refl
-midpoint-dead z Twice = refl
+midpoint-dead : (between : Action → Bool) (a : Action) → midpointStep between a dead ≡ dead
+midpoint-dead between Void = refl
+midpoint-dead between (Bottom i) = refl
+midpoint-dead between (Top i) = refl
+midpoint-dead between (Gap h i) = refl
+midpoint-dead between Once = refl
+midpoint-dead between Twice = refl
 
-policy-dead : (policy : Policy) (z : Layout) (a : Action) → policyStep policy z a dead ≡ dead
-policy-dead Exact z a = lawful-dead a
-policy-dead Return z a = lawful-dead a
-policy-dead Traversal z a = traversal-dead a
-policy-dead Midpoint z a = midpoint-dead z a
-policy-dead Composite z a = lawful-dead a
+policy-dead : (policy : Policy) (between : Action → Bool) (a : Action) → policyStep policy between a dead ≡ dead
+policy-dead Exact between a = lawful-dead a
+policy-dead Return between a = lawful-dead a
+policy-dead Traversal between a = traversal-dead a
+policy-dead Midpoint between a = midpoint-dead between a
+policy-dead Composite between a = lawful-dead a
+policy-dead Largest between a = midpoint-dead between a
 
 cross-dead : (d j : ℕ) (p : Passage) → crossStep d j p dead ≡ dead
 cross-dead d j P00 = refl
@@ -74,7 +76,7 @@ cond-dead false s e = refl
 
 pub action-dead : (job : Job) (j : ℕ) (a : Action) → actionStep job j a dead ≡ dead
 unfolding actionStep
-action-dead job j a = cond-dead (actionPossible job j a) _ (policy-dead (job .policy) (job .layout) a)
+action-dead job j a = cond-dead (actionPossible job j a) _ (policy-dead (job .policy) (betweenTest (job .policy) job j) a)
 
 pub passage-dead : (job : Job) (j : ℕ) (p : Passage) → passageStep job j p dead ≡ dead
 unfolding passageStep

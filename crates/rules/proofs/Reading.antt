@@ -14,7 +14,7 @@ use Rattle.rules.specs.declared.Posts.{Posts}
 use Rattle.rules.specs.declared.Posts.the-variants.{NoPosts, Every}
 use Rattle.rules.specs.declared.Layout.{Layout}
 use Rattle.rules.specs.declared.Policy.{Policy}
-use Rattle.rules.specs.declared.Policy.the-variants.{Exact, Return, Traversal, Midpoint, Composite}
+use Rattle.rules.specs.declared.Policy.the-variants.{Exact, Return, Traversal, Midpoint, Composite, Largest}
 use Rattle.rules.specs.Lists.{concatOf}
 use Rattle.rules.specs.Store.{withPosts}
 use Rattle.rules.specs.Jobs.{Job}
@@ -176,9 +176,10 @@ policy-inverse = record { reads = reads; written = written }
     reads Traversal rest v = refl
     reads Midpoint rest v = refl
     reads Composite rest v = refl
+    reads Largest rest v = refl
 
     written : (s : List ℕ) (p : Policy) (rest : List ℕ) → readPolicy s ≡ some (p, rest) → (s ≡ policyText p ++ rest) × Unit {0}
-    written s p rest = or-else (one Exact) (or-else (one Return) (or-else (one Traversal) (or-else (one Midpoint) (one Composite))))
+    written s p rest = or-else (one Exact) (or-else (one Return) (or-else (one Traversal) (or-else (one Midpoint) (or-else (one Composite) (one Largest)))))
       where
         one : (q : Policy) → readPolicyAs q s ≡ some (p, rest) → (s ≡ policyText p ++ rest) × Unit {0}
         one q e = let w = policyAs-inverse q .written s p rest e in (rw (w .1) (w .0), tt)

@@ -1,13 +1,13 @@
 -- Document 01, "Walked examples": the cases 1 to 14 (14 as request #101 has it) and the job and sheet of "Sheet", byte for byte.
 use Prim.Native.Nat.{ℕ}
 use mathlib.Core.Path.{_≡_}
-use mathlib.Core.List.{List, [], _∷_, _++_}
+use mathlib.Core.List.{List, [], _∷_, _++_, map}
 use mathlib.Core.Bool.{Bool, true, false}
 use lib.ListN.{length, drop, replicate}
 use mathlib.Core.Option.{Option, none, some}
 use Rattle.rules.specs.declared.Posts.the-variants.{NoPosts, Every}
 use Rattle.rules.specs.declared.Policy.{Policy}
-use Rattle.rules.specs.declared.Policy.the-variants.{Exact, Return, Traversal, Midpoint, Composite}
+use Rattle.rules.specs.declared.Policy.the-variants.{Exact, Return, Traversal, Midpoint, Composite, Largest}
 use Rattle.rules.specs.declared.StockRecord.{StockRecord}
 use Rattle.rules.specs.declared.OrderLine.{OrderLine}
 use Rattle.rules.specs.declared.Action.{Action}
@@ -24,6 +24,7 @@ use Rattle.rules.specs.Jobs.{Job, jobWithPosts}
 use Rattle.rules.specs.JobFile.{policyWord, layoutText, layoutSectionText, recordText, lineText, jobText}
 use Rattle.rules.specs.Refusals.{weight, jobRefusal, numberOf, bad, checkBytes}
 use Rattle.rules.specs.Plans.{Plan, planLength, planPasses}
+use Rattle.rules.specs.Policies.{fromFront, fromBack, stopsOn}
 use Rattle.rules.specs.Serving.{serves}
 use Rattle.rules.specs.Machine.{accepts}
 use Rattle.rules.specs.BestPlan.{bestPlan}
@@ -244,6 +245,35 @@ unfoldable pub behindMiddle : Policy → Job
 behindMiddle =
     ownJob 3 2 5 1 3 1 1 (stocked 1 1 1 1 ∷ stocked 2 1 2 1 ∷ stocked 2 2 4 1 ∷ stocked 3 1 3 1 ∷ []) oneEach
 
+-- store β whose end aisles are both entered, for the articles 3 and 4, and the rest of its stock and its list
+unfoldable pub betaWith : List StockRecord → List OrderLine → Policy → Job
+betaWith stock lines = ownJob 3 5 1 1 1 1 1 (stocked 1 3 3 1 ∷ stocked 3 3 4 1 ∷ stock) ((3 ⨯ 1) ∷ (4 ⨯ 1) ∷ lines)
+
+-- in aisle 2 these cells are wanted
+unfoldable pub cellsBetween : List ℕ → Policy → Job
+cellsBetween cells = betaWith (map (λ c. stocked 2 c 1 1) cells) ((1 ⨯ length cells) ∷ [])
+
+-- the cells 1 to 4, the last of which lies behind the middle
+unfoldable pub fourBetween : Policy → Job
+fourBetween = cellsBetween (1 ∷ 2 ∷ 3 ∷ 4 ∷ [])
+
+-- in aisle 2 one cell is wanted, and another holds article 9, which is not on the list
+unfoldable pub besideUnlisted : ℕ → ℕ → Policy → Job
+besideUnlisted wanted other = betaWith (stocked 2 wanted 1 1 ∷ stocked 2 other 9 1 ∷ []) ((1 ⨯ 1) ∷ [])
+
+-- in aisle 2 the first and the last cell are wanted; its cell 3 holds article 5, which aisle 1 has too
+unfoldable pub listedInGap : Policy → Job
+listedInGap =
+    betaWith (stocked 1 4 5 1 ∷ stocked 2 1 1 1 ∷ stocked 2 3 5 1 ∷ stocked 2 5 2 1 ∷ []) ((1 ⨯ 1) ∷ (2 ⨯ 1) ∷ (5 ⨯ 1) ∷ [])
+
+-- a plan of store β that goes through the end aisles
+unfoldable pub betweenEnds : Bool → Action → Expected
+betweenEnds b a = allowing b (Once ∷ a ∷ Once ∷ []) (P11 ∷ P11 ∷ [])
+
+-- an aisle alone, its cell 4 of five wanted
+unfoldable pub oneAisle : Policy → Job
+oneAisle = ownJob 1 5 1 1 1 1 1 (stocked 1 4 1 1 ∷ []) ((1 ⨯ 1) ∷ [])
+
 -- jobs with two faults each: the layout and the stock; the stock, and a cell twice; a cell twice, and the list; an article twice, and the weight
 unfoldable pub wrongLayout : Policy → Job
 wrongLayout = ownJob 2 3 2 1 2 5 3 (stocked 3 1 7 1 ∷ []) ((7 ⨯ 1) ∷ [])
@@ -319,6 +349,47 @@ ownCases =
     ∷ underEvery (posted 24 11 thirdCells) (refusal 2)  -- u 0 to 10, also where k exceeds C
     ∷ []
 
+-- cases of request #104: LARGEST shorter than MIDPOINT, and as long; its rule for aisles between, each row against a misreading
+unfoldable pub largestCases : List Case
+largestCases =
+    under Midpoint fourBetween (tour 26 (Once ∷ Gap 2 3 ∷ Once ∷ []) (P11 ∷ P11 ∷ []))
+    ∷ under Largest fourBetween (tour 24 (Once ∷ Bottom 4 ∷ Once ∷ []) (P11 ∷ P11 ∷ []))  -- shorter: no halves for BOTTOM
+    ∷ under Midpoint beta (tour 20 (Once ∷ Gap 1 5 ∷ Once ∷ []) (P11 ∷ P11 ∷ []))
+    ∷ under Largest beta (tour 20 (Once ∷ Gap 1 5 ∷ Once ∷ []) (P11 ∷ P11 ∷ []))  -- as long
+    ∷ under Largest (cellsBetween (2 ∷ 3 ∷ 4 ∷ 5 ∷ [])) (betweenEnds true (Top 2))  -- no halves for TOP
+    ∷ under Largest (cellsBetween (1 ∷ 2 ∷ 3 ∷ 4 ∷ 5 ∷ [])) (betweenEnds true (Gap 1 2))  -- nor for GAP
+    ∷ under Largest (cellsBetween (3 ∷ [])) (tour 22 (Once ∷ Bottom 3 ∷ Once ∷ []) (P11 ∷ P11 ∷ []))  -- the gap may equal a stop distance
+    ∷ under Largest (cellsBetween (3 ∷ [])) (betweenEnds true (Top 3))  -- at the back too
+    ∷ under Largest (cellsBetween (2 ∷ 4 ∷ [])) (betweenEnds true (Gap 2 4))  -- and at both ends
+    ∷ under Largest (cellsBetween (4 ∷ [])) (betweenEnds false (Bottom 4))  -- the front crossing is a stop, a passed cell without stock is none
+    ∷ under Largest (cellsBetween (2 ∷ [])) (betweenEnds false (Top 2))  -- so is the back crossing
+    ∷ under Largest (besideUnlisted 4 2) (betweenEnds false (Bottom 4))  -- a passed cell with another article is no stop
+    ∷ under Largest (cellsBetween (1 ∷ 4 ∷ [])) (betweenEnds false (Bottom 4))  -- every distance counts, the last one
+    ∷ under Largest (cellsBetween (3 ∷ 4 ∷ [])) (betweenEnds false (Bottom 4))  -- and the first
+    ∷ under Largest (cellsBetween (3 ∷ 5 ∷ [])) (betweenEnds false (Gap 3 5))  -- on the front part of a GAP
+    ∷ under Largest (cellsBetween (1 ∷ 3 ∷ [])) (betweenEnds false (Gap 1 3))  -- and on its back part
+    ∷ under Midpoint (cellsBetween (1 ∷ [])) (betweenEnds true (Bottom 2))  -- MIDPOINT may turn at any cell
+    ∷ under Largest (cellsBetween (1 ∷ [])) (betweenEnds false (Bottom 2))  -- LARGEST turns at cells with listed articles
+    ∷ under Largest (besideUnlisted 1 2) (betweenEnds false (Bottom 2))  -- another article is not enough
+    ∷ under Largest (cellsBetween (5 ∷ [])) (betweenEnds false (Top 4))
+    ∷ under Largest (cellsBetween (5 ∷ [])) (betweenEnds false (Gap 1 5))  -- the front turn of a GAP
+    ∷ under Largest (cellsBetween (1 ∷ [])) (betweenEnds false (Gap 1 5))  -- and its back turn
+    ∷ under Largest listedInGap (tour 20 (Once ∷ Gap 1 5 ∷ Once ∷ []) (P11 ∷ P11 ∷ []))  -- over a listed cell in the untrodden part
+    ∷ under Largest (posted 4 2 (cellsBetween (4 ∷ []))) (betweenEnds true (Bottom 4))  -- the untrodden part goes past the posts
+    ∷ under Largest (posted 2 2 (cellsBetween (4 ∷ []))) (betweenEnds false (Bottom 4))  -- and so do the stop distances
+    ∷ under Largest oneAisle (tour 8 (Bottom 4 ∷ []) [])  -- the first and the last entered aisle are not bound
+    ∷ under Largest (alpha ((9 ⨯ 1) ∷ [])) (bothOnce false)  -- no aisle without a listed article is entered
+    ∷ []
+
+-- stops of aisle 2 of `listedInGap`, upwards: the crossing and the passed listed cells, and no listed cell in the untrodden part
+unfoldable pub stopLists : List (List ℕ × List ℕ)
+stopLists =
+    (stopsOn (listedInGap Largest) 2 (fromFront 1), 0 ∷ 1 ∷ [])
+    ∷ (stopsOn (listedInGap Largest) 2 (fromFront 4), 0 ∷ 1 ∷ 3 ∷ [])
+    ∷ (stopsOn (listedInGap Largest) 2 (fromBack 5), 5 ∷ 6 ∷ [])
+    ∷ (stopsOn (listedInGap Largest) 2 (fromBack 2), 3 ∷ 5 ∷ 6 ∷ [])
+    ∷ []
+
 -- an L section with posts
 unfoldable pub twoLines : List ℕ
 twoLines =
@@ -353,6 +424,7 @@ texts =
     ∷ (policyWord Traversal, 84 ∷ 82 ∷ 65 ∷ 86 ∷ 69 ∷ 82 ∷ 83 ∷ 65 ∷ 76 ∷ [])  -- TRAVERSAL
     ∷ (policyWord Midpoint, 77 ∷ 73 ∷ 68 ∷ 80 ∷ 79 ∷ 73 ∷ 78 ∷ 84 ∷ [])  -- MIDPOINT
     ∷ (policyWord Composite, 67 ∷ 79 ∷ 77 ∷ 80 ∷ 79 ∷ 83 ∷ 73 ∷ 84 ∷ 69 ∷ [])  -- COMPOSITE
+    ∷ (policyWord Largest, 76 ∷ 65 ∷ 82 ∷ 71 ∷ 69 ∷ 83 ∷ 84 ∷ [])  -- LARGEST
     ∷ (recordText (stocked 1 2 3 4), 49 ∷ 32 ∷ 50 ∷ 32 ∷ 51 ∷ 32 ∷ 52 ∷ 10 ∷ [])  -- 1 2 3 4
     ∷ (lineText (7 ⨯ 2), 55 ∷ 32 ∷ 50 ∷ 10 ∷ [])  -- 7 2
     ∷ (actionText Void, 86 ∷ 79 ∷ 73 ∷ 68 ∷ 10 ∷ [])  -- VOID
@@ -379,7 +451,7 @@ texts =
     ∷ (output (jobText (posted 25 0 thirdCells Exact)), 82 ∷ 32 ∷ 49 ∷ 10 ∷ 50 ∷ 10 ∷ [])  -- R 1, 2: a k of 25 is out of bounds
     ∷ []
 
--- each text has its bytes
+-- both of each pair are the same
 abbrev pub AllSame : List (List ℕ × List ℕ) → Type 0
 AllSame [] = Unit {0}
 AllSame (x ∷ rest) = (x .0 ≡ x .1) × AllSame rest

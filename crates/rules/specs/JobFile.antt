@@ -9,7 +9,7 @@ use Rattle.rules.specs.declared.Posts.{Posts}
 use Rattle.rules.specs.declared.Posts.the-variants.{NoPosts, Every}
 use Rattle.rules.specs.declared.Layout.{Layout}
 use Rattle.rules.specs.declared.Policy.{Policy}
-use Rattle.rules.specs.declared.Policy.the-variants.{Exact, Return, Traversal, Midpoint, Composite}
+use Rattle.rules.specs.declared.Policy.the-variants.{Exact, Return, Traversal, Midpoint, Composite, Largest}
 use Rattle.rules.specs.declared.StockRecord.{StockRecord}
 use Rattle.rules.specs.declared.OrderLine.{OrderLine}
 use Rattle.rules.specs.Lists.{concatOf}
@@ -40,6 +40,7 @@ policyWord Return = 82 ∷ 69 ∷ 84 ∷ 85 ∷ 82 ∷ 78 ∷ []  -- RETURN
 policyWord Traversal = 84 ∷ 82 ∷ 65 ∷ 86 ∷ 69 ∷ 82 ∷ 83 ∷ 65 ∷ 76 ∷ []  -- TRAVERSAL
 policyWord Midpoint = 77 ∷ 73 ∷ 68 ∷ 80 ∷ 79 ∷ 73 ∷ 78 ∷ 84 ∷ []  -- MIDPOINT
 policyWord Composite = 67 ∷ 79 ∷ 77 ∷ 80 ∷ 79 ∷ 83 ∷ 73 ∷ 84 ∷ 69 ∷ []  -- COMPOSITE
+policyWord Largest = 76 ∷ 65 ∷ 82 ∷ 71 ∷ 69 ∷ 83 ∷ 84 ∷ []  -- LARGEST
 
 -- a number and the separator behind it
 unfoldable pub field : ℕ → ℕ → List ℕ
@@ -178,14 +179,15 @@ abbrev pub orElse : {A : Type 0} → Option A → Option A → Option A
 orElse none b = b
 orElse (some a) b = some a
 
--- one of the five policy words and a line feed
+-- one of the six policy words and a line feed
 unfoldable pub readPolicy : List ℕ → Reading Policy
 readPolicy s =
     orElse (readPolicyAs Exact s)
     (orElse (readPolicyAs Return s)
     (orElse (readPolicyAs Traversal s)
     (orElse (readPolicyAs Midpoint s)
-    (readPolicyAs Composite s))))
+    (orElse (readPolicyAs Composite s)
+    (readPolicyAs Largest s)))))
 
 -- the first line of the L section, which says no posts
 unfoldable pub readLayout : List ℕ → Reading (Layout × Policy)

@@ -22,6 +22,10 @@ abbrev pub jobWithPosts : Posts → Job → Job
 jobWithPosts posts job =
     record { layout = withPosts posts (job .layout); policy = job .policy; stock = job .stock; lines = job .lines }
 
+-- the job under another policy
+abbrev pub jobUnder : Policy → Job → Job
+jobUnder policy job = record { layout = job .layout; policy = policy; stock = job .stock; lines = job .lines }
+
 -- an empty list: it has no line, and there is nothing to fetch
 abbrev pub emptyList : List OrderLine → Bool
 emptyList [] = true
@@ -34,3 +38,8 @@ listed job a = anyOf (λ (l : OrderLine). eqb (l .article) a) (job .lines)
 -- the aisle holds an article of the list: some record of the aisle has a listed article
 unfoldable pub holdsListed : Job → ℕ → Bool
 holdsListed job j = anyOf (λ (r : StockRecord). eqb (r .aisle) j && listed job (r .article)) (job .stock)
+
+-- the cell c of aisle j holds an article of the list
+unfoldable pub cellHoldsListed : Job → ℕ → ℕ → Bool
+cellHoldsListed job j c =
+    anyOf (λ (r : StockRecord). eqb (r .aisle) j && eqb (r .cell) c && listed job (r .article)) (job .stock)

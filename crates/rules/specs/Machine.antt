@@ -1,21 +1,21 @@
 -- The executable test whether a job's policy allows a plan: a machine that goes through the plan from left to right, and for an
 -- empty list whether the plan treads nothing.
 -- Its states are those of Ratliff and Rosenthal (the paper's names in brackets) and one more, `ending`.
-use Prim.Native.Nat.{ℕ, zero, suc}
+use Prim.Native.Nat.{ℕ, zero, suc, _-_}
 use mathlib.Core.List.{List, [], _∷_, tail}
 use mathlib.Core.Bool.{Bool, true, false, cond, not, _&&_, _||_}
 use lib.Dec.{ltb, leb, eqb}
-use Rattle.rules.specs.declared.Layout.{Layout}
 use Rattle.rules.specs.declared.Policy.{Policy}
-use Rattle.rules.specs.declared.Policy.the-variants.{Exact, Return, Traversal, Midpoint, Composite}
+use Rattle.rules.specs.declared.Policy.the-variants.{Exact, Return, Traversal, Midpoint, Composite, Largest}
 use Rattle.rules.specs.declared.Action.{Action}
 use Rattle.rules.specs.declared.Action.the-variants.{Void, Bottom, Top, Gap, Once, Twice}
 use Rattle.rules.specs.declared.Passage.{Passage}
 use Rattle.rules.specs.declared.Passage.the-variants.{P00, P02, P11, P20, P22}
 use Rattle.rules.specs.Lists.{allOf, headOr}
-use Rattle.rules.specs.Jobs.{Job, emptyList, holdsListed}
+use Rattle.rules.specs.Store.{position}
+use Rattle.rules.specs.Jobs.{Job, emptyList, holdsListed, cellHoldsListed}
 use Rattle.rules.specs.Plans.{Plan}
-use Rattle.rules.specs.Policies.{actionNamed, passageNamed, halved}
+use Rattle.rules.specs.Policies.{actionNamed, passageNamed, halved, Part, partsOf, turnOf, stopsOn, untrodden, through}
 
 -- what has been trodden so far, seen from the right
 pub data State : Type 0 where
@@ -26,7 +26,7 @@ pub data State : Type 0 where
   odd : State  -- at both ends, each with an odd number of treads (uu1c)
   joined : State  -- at both ends, even, one component (ee1c)
   split : State  -- at both ends, even, two components (ee2c)
-  ending : State  -- goes on at the front, and no aisle may be entered any more (TRAVERSAL and MIDPOINT)
+  ending : State  -- goes on at the front, and no aisle may be entered any more (TRAVERSAL, MIDPOINT and LARGEST)
   dead : State  -- no plan goes on from here
 
 -- a row of the table: the next state for each state in which an aisle may be entered
@@ -59,7 +59,7 @@ traversalStep (Gap h i) s = dead
 traversalStep Once s = row odd odd dead joined dead dead s
 traversalStep Twice s = dead
 
--- MIDPOINT: a single BOTTOM, or ONCE, aisles between, ONCE; with the answer of the test for aisles between
+-- MIDPOINT and LARGEST: a single BOTTOM, or ONCE, aisles between, ONCE; with the answer of the test for aisles between
 abbrev pub midpointBy : Bool → Action → State → State
 midpointBy between Void s = s
 midpointBy between (Bottom i) s = row ending ending dead (cond between odd dead) dead dead s
@@ -68,9 +68,9 @@ midpointBy between (Gap h i) s = row dead dead dead (cond between odd dead) dead
 midpointBy between Once s = row odd odd dead ending dead dead s
 midpointBy between Twice s = dead
 
--- MIDPOINT's test: the halves
-abbrev pub midpointStep : Layout → Action → State → State
-midpointStep z a s = midpointBy (halved z a) a s
+-- the same with the test itself
+abbrev pub midpointStep : (Action → Bool) → Action → State → State
+midpointStep between a s = midpointBy (between a) a s
 
 -- the state after an action that the policy names, with the answer of the test for aisles between
 abbrev pub policyBy : Policy → Bool → Action → State → State
@@ -79,9 +79,34 @@ policyBy Return between a s = lawfulStep a s
 policyBy Traversal between a s = traversalStep a s
 policyBy Midpoint between a s = midpointBy between a s
 policyBy Composite between a s = lawfulStep a s
+policyBy Largest between a s = midpointBy between a s
 
-abbrev pub policyStep : Policy → Layout → Action → State → State
-policyStep policy z a s = policyBy policy (halved z a) a s
+-- the same with the test itself
+abbrev pub policyStep : Policy → (Action → Bool) → Action → State → State
+policyStep policy between a s = policyBy policy (between a) a s
+
+-- whether the distances between neighbouring stops are at most n, by the positions of heights
+abbrev pub stopsWithin : (ℕ → ℕ) → ℕ → List ℕ → Bool
+stopsWithin at n [] = true
+stopsWithin at n (x ∷ []) = true
+stopsWithin at n (x ∷ y ∷ stops) = leb (at y - at x) n && stopsWithin at n (y ∷ stops)
+
+-- whether a part turns at a cell with a listed article, and its neighbouring stops are at most n apart
+unfoldable pub partKeeps : Job → ℕ → ℕ → Part → Bool
+partKeeps job j n part = cellHoldsListed job j (turnOf part) && stopsWithin (position (job .layout)) n (stopsOn job j part)
+
+-- LARGEST's test for aisles between, `LargestGap` (Policies): that the two agree is proved (proofs/Stops, `largest-gap`)
+unfoldable pub keepsLargestGap : Job → ℕ → Action → Bool
+keepsLargestGap job j a = not (through a) && allOf (partKeeps job j (untrodden (job .layout) j a)) (partsOf a)
+
+-- the test for aisles between: LARGEST's is the largest gap, MIDPOINT's the halves; the others do not ask it
+abbrev pub betweenTest : Policy → Job → ℕ → Action → Bool
+betweenTest Exact job j a = halved (job .layout) a
+betweenTest Return job j a = halved (job .layout) a
+betweenTest Traversal job j a = halved (job .layout) a
+betweenTest Midpoint job j a = halved (job .layout) a
+betweenTest Composite job j a = halved (job .layout) a
+betweenTest Largest job j a = keepsLargestGap job j a
 
 -- whether the policy lets an aisle be entered: EXACT any, the others those that hold an article of the list
 abbrev pub mayEnter : Policy → Bool → Bool
@@ -90,6 +115,7 @@ mayEnter Return holds = holds
 mayEnter Traversal holds = holds
 mayEnter Midpoint holds = holds
 mayEnter Composite holds = holds
+mayEnter Largest holds = holds
 
 -- VOID is always possible
 abbrev pub isVoid : Action → Bool
@@ -107,7 +133,7 @@ actionPossible job j a =
 
 -- the state after the action of aisle j
 unfoldable pub actionStep : Job → ℕ → Action → State → State
-actionStep job j a s = cond (actionPossible job j a) (policyStep (job .policy) (job .layout) a s) dead
+actionStep job j a s = cond (actionPossible job j a) (policyStep (job .policy) (betweenTest (job .policy) job j) a s) dead
 
 -- the state after a passage behind an aisle; whether the depot is here, has been reached, has been passed
 abbrev pub crossBy : (here reached passed : Bool) → Passage → State → State

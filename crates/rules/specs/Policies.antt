@@ -1,20 +1,20 @@
--- Document 01, "Policies": the plans that a job's policy allows.
-use Prim.Native.Nat.{ℕ, zero, suc, _+_, _*_, _%_, _≤_, _<_}
+-- Document 01, "Policies", and request #104, LARGEST: the plans that a job's policy allows.
+use Prim.Native.Nat.{ℕ, zero, suc, _+_, _*_, _-_, _%_, _≤_, _<_}
 use mathlib.Core.Path.{_≡_}
-use mathlib.Core.List.{List, [], _∷_}
+use mathlib.Core.List.{List, [], _∷_, _++_, List·Memᴰ}
 use mathlib.Core.Bool.{Bool, true, false, cond, _&&_}
 use lib.Dec.{leb, eqb}
 use Rattle.rules.specs.declared.Layout.{Layout}
 use Rattle.rules.specs.declared.Policy.{Policy}
-use Rattle.rules.specs.declared.Policy.the-variants.{Exact, Return, Traversal, Midpoint, Composite}
+use Rattle.rules.specs.declared.Policy.the-variants.{Exact, Return, Traversal, Midpoint, Composite, Largest}
 use Rattle.rules.specs.declared.Action.{Action}
 use Rattle.rules.specs.declared.Action.the-variants.{Void, Bottom, Top, Gap, Once, Twice}
 use Rattle.rules.specs.declared.Passage.{Passage}
 use Rattle.rules.specs.declared.Passage.the-variants.{P00, P02, P11, P20, P22}
-use Rattle.rules.specs.Lists.{sumOf, anyOf}
-use Rattle.rules.specs.Store.{aisleLength, position}
-use Rattle.rules.specs.Jobs.{Job, holdsListed}
-use Rattle.rules.specs.Plans.{Plan, Kind, VOID, BOTTOM, TOP, GAP, ONCE, TWICE, kindOf, kindRank, actionAt, passageAt, backTreads, frontTreads, entered}
+use Rattle.rules.specs.Lists.{from, sumOf, anyOf, select}
+use Rattle.rules.specs.Store.{along, aisleLength, position, backHeight, distance}
+use Rattle.rules.specs.Jobs.{Job, holdsListed, cellHoldsListed}
+use Rattle.rules.specs.Plans.{Plan, Kind, VOID, BOTTOM, TOP, GAP, ONCE, TWICE, kindOf, kindRank, actionAt, passageAt, aisleTreads, backTreads, frontTreads, entered}
 use Rattle.rules.specs.Lawful.{LawfulFor}
 
 -- the kinds of actions that a policy names
@@ -24,6 +24,7 @@ kindsNamed Return = VOID ∷ BOTTOM ∷ []
 kindsNamed Traversal = VOID ∷ BOTTOM ∷ ONCE ∷ []
 kindsNamed Midpoint = VOID ∷ BOTTOM ∷ TOP ∷ GAP ∷ ONCE ∷ []
 kindsNamed Composite = VOID ∷ BOTTOM ∷ TOP ∷ ONCE ∷ []
+kindsNamed Largest = VOID ∷ BOTTOM ∷ TOP ∷ GAP ∷ ONCE ∷ []
 
 -- the passages that a policy names
 abbrev pub passagesNamed : Policy → List Passage
@@ -32,6 +33,7 @@ passagesNamed Return = P00 ∷ P02 ∷ []
 passagesNamed Traversal = P00 ∷ P02 ∷ P11 ∷ []
 passagesNamed Midpoint = P00 ∷ P02 ∷ P11 ∷ []
 passagesNamed Composite = P00 ∷ P02 ∷ P11 ∷ P20 ∷ []
+passagesNamed Largest = P00 ∷ P02 ∷ P11 ∷ []
 
 -- the action is of a kind that the policy names
 abbrev pub actionNamed : Policy → Action → Bool
@@ -87,28 +89,89 @@ halved z (Gap h i) = inFrontHalf z h && inBackHalf z i
 halved z Once = false
 halved z Twice = false
 
--- MIDPOINT: a single entered aisle is BOTTOM; otherwise the first and the last entered are ONCE
--- and those between keep to the halves
-pub record MidpointRule (z : Layout) (plan : Plan) : Type 0 where
+-- a trodden part of an aisle: from the front or from the back crossing to the cell of its turn, and back
+pub data Part : Type 0 where
+  fromFront : ℕ → Part
+  fromBack : ℕ → Part
+
+-- the trodden parts of an action; ONCE and TWICE make no turn
+abbrev pub partsOf : Action → List Part
+partsOf Void = []
+partsOf (Bottom i) = fromFront i ∷ []
+partsOf (Top i) = fromBack i ∷ []
+partsOf (Gap h i) = fromFront h ∷ fromBack i ∷ []
+partsOf Once = []
+partsOf Twice = []
+
+-- the cell at which a part turns
+abbrev pub turnOf : Part → ℕ
+turnOf (fromFront i) = i
+turnOf (fromBack i) = i
+
+-- whether a part passes a cell
+abbrev pub partPasses : Part → ℕ → Bool
+partPasses (fromFront i) c = leb c i
+partPasses (fromBack i) c = leb i c
+
+-- the cells with listed articles that a part passes in aisle j, upwards
+unfoldable pub listedCells : Job → ℕ → Part → List ℕ
+listedCells job j part = select (λ c. partPasses part c && cellHoldsListed job j c) (from 1 (job .layout .cells))
+
+-- the stops on a part, as heights, upwards: the passed cells with listed articles and the crossing from which it is entered
+abbrev pub stopsOn : Job → ℕ → Part → List ℕ
+stopsOn job j (fromFront i) = 0 ∷ listedCells job j (fromFront i)
+stopsOn job j (fromBack i) = listedCells job j (fromBack i) ++ (backHeight (job .layout) ∷ [])
+
+-- neighbouring stops: y comes right behind x in the list
+pub data Neighbours : List ℕ → ℕ → ℕ → Type 0 where
+  next : {x y : ℕ} {stops : List ℕ} → Neighbours (x ∷ y ∷ stops) x y
+  later : {w x y : ℕ} {stops : List ℕ} → Neighbours stops x y → Neighbours (w ∷ stops) x y
+
+-- the length of the untrodden part of aisle j: of its edges that the action does not tread
+unfoldable pub untrodden : Layout → ℕ → Action → ℕ
+untrodden z j a = sumOf (λ k. cond (eqb (aisleTreads a k) 0) (distance z (along j k)) 0) (from 0 (suc (z .cells)))
+
+-- whether an action goes through its aisle: ONCE and TWICE do
+abbrev pub through : Action → Bool
+through Void = false
+through (Bottom i) = false
+through (Top i) = false
+through (Gap h i) = false
+through Once = true
+through Twice = true
+
+-- LARGEST between the first and the last entered aisle: VOID, BOTTOM, TOP or GAP; a turn only at a cell that holds a listed article;
+-- the untrodden part at least as long as every distance between neighbouring stops x and y on the trodden parts, of which y lies further
+-- from the front
+pub record LargestGap (job : Job) (j : ℕ) (a : Action) : Type 0 where
+  pub not-through : through a ≡ false
+  pub turns : (part : Part) → List·Memᴰ part (partsOf a) → cellHoldsListed job j (turnOf part) ≡ true
+  pub longest : (part : Part) → List·Memᴰ part (partsOf a) → (x y : ℕ) → Neighbours (stopsOn job j part) x y
+      → position (job .layout) y - position (job .layout) x ≤ untrodden (job .layout) j a
+
+-- MIDPOINT and LARGEST: a single entered aisle is BOTTOM; otherwise the first and the last entered are ONCE
+-- and those between keep to the policy's rule for them
+pub record MidpointRule (Between : ℕ → Action → Type 0) (plan : Plan) : Type 0 where
   pub single : enteredAisles plan ≡ 1 → (j : ℕ) → Entered plan j → IsBottom (actionAt plan j)
   pub first : (enteredAisles plan ≡ 1 → ⊥) → (j : ℕ) → First plan j → actionAt plan j ≡ Once
   pub last : (enteredAisles plan ≡ 1 → ⊥) → (j : ℕ) → Last plan j → actionAt plan j ≡ Once
-  pub between : (enteredAisles plan ≡ 1 → ⊥) → (i j k : ℕ) → First plan i → Last plan k → i < j → j < k → halved z (actionAt plan j) ≡ true
+  pub between : (enteredAisles plan ≡ 1 → ⊥) → (i j k : ℕ) → First plan i → Last plan k → i < j → j < k → Between j (actionAt plan j)
 
--- what TRAVERSAL and MIDPOINT ask beyond their actions and passages
-abbrev pub OwnRule : Policy → Layout → Plan → Type 0
-OwnRule Exact z plan = Unit {0}
-OwnRule Return z plan = Unit {0}
-OwnRule Traversal z plan = TraversalRule plan
-OwnRule Midpoint z plan = MidpointRule z plan
-OwnRule Composite z plan = Unit {0}
+-- what TRAVERSAL, MIDPOINT and LARGEST ask beyond their actions and passages
+abbrev pub OwnRule : Policy → Job → Plan → Type 0
+OwnRule Exact job plan = Unit {0}
+OwnRule Return job plan = Unit {0}
+OwnRule Traversal job plan = TraversalRule plan
+OwnRule Midpoint job plan = MidpointRule (λ j a. halved (job .layout) a ≡ true) plan
+OwnRule Composite job plan = Unit {0}
+OwnRule Largest job plan = MidpointRule (LargestGap job) plan
 
 -- the rules of a policy: its actions and passages only, an aisle holding no article of the list is VOID, and its own rule
 pub record PolicyRules (job : Job) (plan : Plan) : Type 0 where
   pub actions : (j : ℕ) → actionNamed (job .policy) (actionAt plan j) ≡ true
   pub passages : (j : ℕ) → passageNamed (job .policy) (passageAt plan j) ≡ true
   pub void : (j : ℕ) → holdsListed job j ≡ false → actionAt plan j ≡ Void
-  pub own : OwnRule (job .policy) (job .layout) plan
+  pub own : OwnRule (job .policy) job plan
 
 -- EXACT adds nothing; the other policies add their rules
 abbrev pub Follows : Policy → Job → Plan → Type 0
@@ -117,6 +180,7 @@ Follows Return job plan = PolicyRules job plan
 Follows Traversal job plan = PolicyRules job plan
 Follows Midpoint job plan = PolicyRules job plan
 Follows Composite job plan = PolicyRules job plan
+Follows Largest job plan = PolicyRules job plan
 
 -- the plans that the job's policy allows: those that are lawful for its list and follow it
 pub record Allowed (job : Job) (plan : Plan) : Type 0 where

@@ -26,6 +26,7 @@ pub enum Policy {
     Traversal,
     Midpoint,
     Composite,
+    Largest,
 }
 
 // A stock record: a cell, the article in it and how much of it.

@@ -11,7 +11,7 @@ use lib.ListN.{length, length-append, length-map}
 use borrow.Author.Tests.{lt-ltb}
 use Rattle.rules.specs.declared.Layout.{Layout}
 use Rattle.rules.specs.declared.Policy.{Policy}
-use Rattle.rules.specs.declared.Policy.the-variants.{Exact, Return, Traversal, Midpoint, Composite}
+use Rattle.rules.specs.declared.Policy.the-variants.{Exact, Return, Traversal, Midpoint, Composite, Largest}
 use Rattle.rules.specs.declared.Action.{Action}
 use Rattle.rules.specs.declared.Action.the-variants.{Void, Bottom, Top, Gap, Once, Twice}
 use Rattle.rules.specs.declared.Passage.{Passage}
@@ -65,6 +65,7 @@ policy-most Return = omega arith
 policy-most Traversal = omega arith
 policy-most Midpoint = omega arith
 policy-most Composite = omega arith
+policy-most Largest = omega arith
 
 -- an action of an aisle of 24 cells at most
 action-most : (n : ℕ) → n ≤ 24 → (a : Action) → Fits n a → length (actionText a) ≤ 10

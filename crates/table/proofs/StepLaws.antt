@@ -5,19 +5,25 @@ use mathlib.Core.Path.{_≡_, refl, sym, ap}
 use mathlib.Core.Bool.{Bool, true, false, cond}
 use lib.Dec.{ltb, leb, eqb}
 use borrow.Author.Tests.{ltb-true, ltb-false, eqb-true, eqb-false, lt-ltb, le-ltb, le-leb, lt-leb, ne-eqb}
+use Rattle.rules.specs.declared.Policy.{Policy}
+use Rattle.rules.specs.declared.Policy.the-variants.{Exact, Return, Traversal, Midpoint, Composite, Largest}
 use Rattle.rules.specs.declared.Action.{Action}
 use Rattle.rules.specs.declared.Action.the-variants.{Void, Bottom, Top, Gap, Once, Twice}
 use Rattle.rules.specs.declared.Passage.{Passage}
+use Rattle.rules.specs.Plans.{Fits}
 use Rattle.rules.specs.Jobs.{Job, holdsListed}
-use Rattle.rules.specs.Policies.{passageNamed}
-use Rattle.rules.specs.Machine.{State, dead, actionPossible, actionStep, crossStep, passageStep}
+use Rattle.rules.proofs.Stops.{gapFrom, gapTo}
+use Rattle.rules.specs.Policies.{passageNamed, through}
+use Rattle.rules.specs.Machine.{State, dead, keepsLargestGap, betweenTest, actionPossible, actionStep, crossStep, passageStep}
 use Rattle.machine.specs.States.{stateCode, stateOf}
 use Rattle.machine.specs.Steps.{policyOf, policyCode, kindCode, bit, crossOf}
+use Rattle.machine.specs.Tables.{asksGap}
 use Rattle.machine.proofs.StepLaws.{policy-of-code, by-kind}
-use Rattle.aisles.specs.Candidates.{candidateOf}
+use Rattle.between.specs.Between.{allowsTurns, betweenOf}
+use Rattle.between.proofs.Laws.{allows-halves, allows-largest}
+use Rattle.aisles.specs.Candidates.{candidateOf, candidateBetween}
 use Rattle.aisles.specs.Layers.{stepCode}
 use Rattle.table.specs.TableHolds.{sideOf, flagOf, aisleOf}
-use Rattle.aisles.proofs.Geometry.{halves-of-candidate}
 
 -- the numbers of tests stand for them
 bit-of-flag : (b : Bool) → bit (flagOf b) ≡ b
@@ -36,12 +42,44 @@ kind-of-candidate cells (Gap h i) = refl
 kind-of-candidate cells Once = refl
 kind-of-candidate cells Twice = refl
 
--- the state after a candidate is the state after its action
-pub step-code : (job : Job) (j : ℕ) (a : Action) (s : ℕ) → stepCode (aisleOf job j) (candidateOf (job .layout .cells) a) s ≡ stateCode (actionStep job j a (stateOf s))
-unfolding stepCode aisleOf actionStep actionPossible
-step-code job j a s =
-    rw (policy-of-code (job .policy), kind-of-candidate (job .layout .cells) a, bit-of-flag (holdsListed job j), halves-of-candidate (job .layout) a)
-    (ap stateCode (by-kind (job .policy) (job .layout) a (holdsListed job j) (stateOf s)))
+module _ (job : Job) (j : ℕ) (few : job .layout .cells ≤ 24) where
+  -- an aisle's turns are tested as the policy tests aisles between
+  turns-tested : (policy : Policy) (a : Action) → Fits (job .layout .cells) a → through a ≡ false
+      → allowsTurns (betweenOf (asksGap policy) job j) (gapFrom a) (gapTo (job .layout .cells) a) ≡ betweenTest policy job j a
+  turns-tested Exact a fits t = allows-halves job j a few fits t
+  turns-tested Return a fits t = allows-halves job j a few fits t
+  turns-tested Traversal a fits t = allows-halves job j a few fits t
+  turns-tested Midpoint a fits t = allows-halves job j a few fits t
+  turns-tested Composite a fits t = allows-halves job j a few fits t
+  turns-tested Largest a fits t = allows-largest job j a few fits t
+
+  -- an action that goes through its aisle passes no such test
+  through-refused : (policy : Policy) → (betweenTest policy job j Once ≡ false) × (betweenTest policy job j Twice ≡ false)
+  unfolding keepsLargestGap
+  through-refused Exact = (refl, refl)
+  through-refused Return = (refl, refl)
+  through-refused Traversal = (refl, refl)
+  through-refused Midpoint = (refl, refl)
+  through-refused Composite = (refl, refl)
+  through-refused Largest = (refl, refl)
+
+  -- so is a candidate
+  between-code : (a : Action) → Fits (job .layout .cells) a
+      → candidateBetween (betweenOf (asksGap (job .policy)) job j) (candidateOf (job .layout .cells) a) ≡ betweenTest (job .policy) job j a
+  unfolding candidateBetween
+  between-code Void fits = turns-tested (job .policy) Void fits refl
+  between-code (Bottom i) fits = turns-tested (job .policy) (Bottom i) fits refl
+  between-code (Top i) fits = turns-tested (job .policy) (Top i) fits refl
+  between-code (Gap h i) fits = turns-tested (job .policy) (Gap h i) fits refl
+  between-code Once fits = sym (through-refused (job .policy) .0)
+  between-code Twice fits = sym (through-refused (job .policy) .1)
+
+  -- the state after a candidate is the state after its action
+  pub step-code : (a : Action) → Fits (job .layout .cells) a → (s : ℕ) → stepCode (aisleOf job j) (candidateOf (job .layout .cells) a) s ≡ stateCode (actionStep job j a (stateOf s))
+  unfolding stepCode aisleOf actionStep actionPossible
+  step-code a fits s =
+      rw (policy-of-code (job .policy), kind-of-candidate (job .layout .cells) a, bit-of-flag (holdsListed job j), between-code a fits)
+      (ap stateCode (by-kind (job .policy) (betweenTest (job .policy) job j) a (holdsListed job j) (stateOf s)))
 
 -- where an aisle lies answers the three tests on the depot
 record Tests (d j side : ℕ) : Type 0 where

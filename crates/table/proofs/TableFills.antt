@@ -22,6 +22,10 @@ use Rattle.demand.proofs.Composition.{met-zero}
 use Rattle.table.specs.declared.filling.Order.{Order}
 use Rattle.aisles.specs.declared.layers.Aisle.{Aisle}
 use Rattle.rows.specs.Rows.{numbers}
+use Rattle.between.specs.declared.Between.{Between}
+use Rattle.between.specs.Between.{betweenOf}
+use Rattle.between.proofs.Laws.{graded}
+use Rattle.machine.specs.Tables.{asksGap}
 use Rattle.aisles.specs.Layers.{InRange, AisleReady, RowFilled}
 use Rattle.table.specs.Crossings.{AfterFilled}
 use Rattle.table.specs.TableHolds.{sideOf, flagOf, triedAt, OrderOf, aisleOf, RowHolds, AfterHolds, endRow}
@@ -92,8 +96,9 @@ tried-five zero = omega arith
 tried-five (suc n) = omega arith
 
 -- an aisle by its numbers
-abbrev aisle-with : Layout → ℕ → ℕ → ℕ → ℕ → ℕ → Aisle
-aisle-with z p h w side tried = record { layout = z; policy = p; holds = h; weight = w; side = side; tried = tried }
+abbrev aisle-with : Layout → ℕ → ℕ → ℕ → ℕ → ℕ → Between → Aisle
+aisle-with z p h w side tried b =
+    record { layout = z; policy = p; holds = h; weight = w; side = side; tried = tried; between = b }
 
 -- the numbers of an aisle of an admitted job are in range
 aisle-range : (job : Job) → Admitted job → (j : ℕ) → InRange (aisleOf job j)
@@ -106,6 +111,7 @@ aisle-range job ok j =
       small = ok .light;
       side-below = side-below (job .layout .depot) j;
       few = tried-five (job .layout .aisles - j);
+      graded = graded (asksGap (job .policy)) job j (within (job .layout) (ok .layout) .cells .1);
     }
 
 -- an aisle whose maps are filled is ready
@@ -142,11 +148,12 @@ module _ (job : Job) (o : Order) (of : OrderOf job o) where
         }
 
   -- the numbers of an aisle, one by one
-  pub aisle-is : (j h side tried : ℕ) → bit h ≡ holdsListed job j → h < 2 → side ≡ sideOf (o .layout .depot) j → tried ≡ triedAt (o .layout .aisles - j)
-      → aisle-with (o .layout) (o .policy) h (o .digits .weight) side tried ≡ aisleOf job j
+  pub aisle-is : (j h side tried : ℕ) (b : Between) → bit h ≡ holdsListed job j → h < 2 → side ≡ sideOf (o .layout .depot) j → tried ≡ triedAt (o .layout .aisles - j)
+      → b ≡ betweenOf (asksGap (job .policy)) job j
+      → aisle-with (o .layout) (o .policy) h (o .digits .weight) side tried b ≡ aisleOf job j
   unfolding aisleOf
-  aisle-is j h side tried listed flag side-is tried-is =
-      rw (side-is, tried-is, flag-is h (holdsListed job j) listed flag, of .policy, of .digits .counted, of .layout) refl
+  aisle-is j h side tried b listed flag side-is tried-is b-is =
+      rw (side-is, tried-is, flag-is h (holdsListed job j) listed flag, of .policy, of .digits .counted, of .layout, b-is) refl
 
 -- an aisle of a job, given as such
 module _ (job : Job) (j : ℕ) (x : Aisle) (x-is : x ≡ aisleOf job j) where
@@ -179,4 +186,4 @@ module _ (job : Job) (j : ℕ) (x : Aisle) (x-is : x ≡ aisleOf job j) where
     pub layer-holds : (after fronts backs row : List ℕ) → MapsReady job j fronts backs → AfterHolds job right j after → RowFilled x row after fronts backs
         → RowHolds job (suc right) j row
     layer-holds after fronts backs row maps holds filled =
-        row-value job (ok .stock) right j after fronts backs row maps holds (subst (λ (y : Aisle). RowFilled y row after fronts backs) x-is filled)
+        row-value job (within (job .layout) (ok .layout) .cells .1) (ok .stock) right j after fronts backs row maps holds (subst (λ (y : Aisle). RowFilled y row after fronts backs) x-is filled)

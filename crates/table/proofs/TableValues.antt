@@ -1,5 +1,5 @@
 -- The rows that the code fills hold the table's values.
-use Prim.Native.Nat.{ℕ, zero, suc, _+_, _*_, _-_, _<_}
+use Prim.Native.Nat.{ℕ, zero, suc, _+_, _*_, _-_, _≤_, _<_}
 use native.Mathlib.Omega.{arith}
 use mathlib.Core.Path.{_≡_, refl, sym, _∙_, ap, ap₂}
 use mathlib.Core.List.{List, [], _∷_}
@@ -112,7 +112,7 @@ module _ (job : Job) where
     unfolding aisleOf
     after-value left after filled s q l h = filled s q l h ∙ least-after-value left s q h
 
-  module _ (stocked : stockInBounds job ≡ true) (n j : ℕ) (aft : ℕ → ℕ → ℕ) (fronts backs : List ℕ) (maps : MapsReady job j fronts backs)
+  module _ (few : job .layout .cells ≤ 24) (stocked : stockInBounds job ≡ true) (n j : ℕ) (aft : ℕ → ℕ → ℕ) (fronts backs : List ℕ) (maps : MapsReady job j fronts backs)
       (holds : (s q : ℕ) → s < 9 → q < weight (job .lines) → aft s q ≡ behind job n j (stateOf s) (demandOf (radices job) q)) where
     -- the demand after a candidate
     pub left-code : (a : Action) → Fits (job .layout .cells) a → (q : ℕ) → q < weight (job .lines)
@@ -135,15 +135,15 @@ module _ (job : Job) where
     through-value s q l h a fits =
         let to = actionStep job j a (stateOf s) in
         ap₂ sat (length-of-candidate (job .layout) a)
-        (ap₂ aft (step-code job j a s) (left-code a fits q h)
+        (ap₂ aft (step-code job j few a fits s) (left-code a fits q h)
         ∙ holds (stateCode to) (lessCode (radices job) (gains job j a) q) (omega (arith, state-small to)) (below-weight j a q)
         ∙ ap₂ (behind job n j) (state-of-code to) (less-code (gains job j a) (radices-positive job) (gains-length job j a) q))
 
   -- the row of an aisle
-  pub row-value : stockInBounds job ≡ true → (n j : ℕ) (after fronts backs row : List ℕ) → MapsReady job j fronts backs → AfterHolds job n j after
+  pub row-value : job .layout .cells ≤ 24 → stockInBounds job ≡ true → (n j : ℕ) (after fronts backs row : List ℕ) → MapsReady job j fronts backs → AfterHolds job n j after
       → RowFilled (aisleOf job j) row after fronts backs → RowHolds job (suc n) j row
   unfolding aisleOf allActions
-  row-value stocked n j after fronts backs row maps holds filled s q l h =
+  row-value few stocked n j after fronts backs row maps holds filled s q l h =
       filled s q l h
       ∙ least-agree noTour _ _ (actionsOf (job .layout .cells))
-      (λ a m. through-value stocked n j (nextAt after) fronts backs maps holds s q l h a (actions-sound (job .layout .cells) a m))
+      (λ a m. through-value few stocked n j (nextAt after) fronts backs maps holds s q l h a (actions-sound (job .layout .cells) a m))

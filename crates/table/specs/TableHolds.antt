@@ -13,6 +13,8 @@ use Rattle.optimum.specs.Demand.{radices, demandOf}
 use Rattle.optimum.specs.Routing.{noTour, routing, allActions}
 use Rattle.machine.specs.States.{stateOf}
 use Rattle.machine.specs.Steps.{policyCode}
+use Rattle.machine.specs.Tables.{asksGap}
+use Rattle.between.specs.Between.{betweenOf}
 use Rattle.values.specs.Shelves.{ShelfOf}
 use Rattle.demand.specs.Digits.{DigitsOf}
 use Rattle.table.specs.declared.filling.Order.{Order}
@@ -51,6 +53,7 @@ aisleOf job j =
       weight = weight (job .lines);
       side = sideOf (job .layout .depot) j;
       tried = triedAt (job .layout .aisles - j);
+      between = betweenOf (asksGap (job .policy)) job j;
     }
 
 -- the table's values with n aisles left from aisle j on, and behind the actions of aisle j with n aisles to the right

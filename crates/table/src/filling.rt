@@ -2,10 +2,13 @@
 use crate::passages::fill_after;
 use aisles::layers::Aisle;
 use aisles::layers::fill_row;
+use between::between_of;
 use demand::digits::Digits;
 use demand::maps::MAP;
 use demand::maps::fill_maps;
 use demand::shelf::holds_listed;
+use demand::shelf::listed_cells;
+use machine::asks_gap;
 use rows::NONE;
 use rows::NUMBERS;
 use rules::Layout;
@@ -37,6 +40,8 @@ pub fn aisle_of(o: Order, j: usize) -> Aisle
     let holds = holds_listed(o.shelf, o.layout.cells, j);
     let side = side_of(o.layout.depot, j);
     let tried = tried_of(o.layout.aisles, j);
+    let listed = listed_cells(o.shelf, o.layout.cells, j);
+    let between = between_of(layout, asks_gap(o.policy), listed);
     Aisle {
         layout,
         policy: o.policy,
@@ -44,6 +49,7 @@ pub fn aisle_of(o: Order, j: usize) -> Aisle
         weight: o.digits.weight,
         side,
         tried,
+        between,
     }
 }
 
@@ -78,6 +84,7 @@ pub fn policy_number(policy: Policy) -> usize
         Policy::Traversal => 2,
         Policy::Midpoint => 3,
         Policy::Composite => 4,
+        Policy::Largest => 5,
     }
 }
 

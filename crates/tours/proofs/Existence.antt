@@ -1,6 +1,6 @@
 -- A serving plan exists: where no line exceeds all the stock of its article, some plan that the policy allows serves the list.
 -- It enters every aisle that holds a listed article and passes all its cells. From aisle to aisle it goes on at the front, or at
--- both ends while a round is open, and is closed off behind the last aisle.
+-- both ends while a round is open, and is closed off behind the last aisle. LARGEST's is MIDPOINT's with its gaps moved.
 use Prim.Native.Nat.{ℕ, zero, suc, _+_, _*_, _≤_, _<_}
 use native.Mathlib.Omega.{arith}
 use mathlib.Core.Path.{_≡_, refl, sym, _∙_, ap, subst}
@@ -12,7 +12,7 @@ use lib.Dec.{leb, eqb}
 use lib.ListN.{length}
 use Rattle.rules.specs.declared.Layout.{Layout}
 use Rattle.rules.specs.declared.Policy.{Policy}
-use Rattle.rules.specs.declared.Policy.the-variants.{Exact, Return, Traversal, Midpoint, Composite}
+use Rattle.rules.specs.declared.Policy.the-variants.{Exact, Return, Traversal, Midpoint, Composite, Largest}
 use Rattle.rules.specs.declared.Action.{Action}
 use Rattle.rules.specs.declared.Action.the-variants.{Void, Bottom, Top, Gap, Once}
 use Rattle.rules.specs.declared.Passage.{Passage}
@@ -21,28 +21,32 @@ use Rattle.rules.specs.declared.StockRecord.{StockRecord}
 use Rattle.rules.specs.declared.OrderLine.{OrderLine}
 use Rattle.rules.specs.Store.{position, aisleLength, LayoutWithin}
 use Rattle.rules.specs.Lists.{from, nth, sumOf, anyOf}
-use Rattle.rules.specs.Jobs.{Job, listed, holdsListed}
+use Rattle.rules.specs.Jobs.{Job, jobUnder, listed, holdsListed}
 use Rattle.rules.specs.Plans.{Plan, WellFormed, Fits, actionAt, passesCell, planPasses}
-use Rattle.rules.specs.Policies.{Allowed, actionNamed, passageNamed, inFrontHalf, inBackHalf}
+use Rattle.rules.specs.Policies.{Allowed, actionNamed, passageNamed, inFrontHalf, inBackHalf, halved}
 use Rattle.rules.specs.Serving.{supply, Serves, PlanServes}
 use Rattle.rules.specs.Refusals.{Admitted, allStock, RecordWithin}
-use Rattle.rules.specs.Machine.{State, nothing, closed, atFront, odd, joined, ending, dead, lawfulStep, midpointStep, policyStep, crossStep, isVoid, mayEnter, actionPossible, actionStep, passageStep, runFrom, isClosed, closesOff, accepts}
+use Rattle.rules.specs.Machine.{State, nothing, closed, atFront, odd, joined, ending, dead, lawfulStep, midpointStep, policyStep, betweenTest, crossStep}
+use Rattle.rules.specs.Machine.{isVoid, mayEnter, actionPossible, actionStep, passageStep, runFrom, isClosed, closesOff, accepts}
 use Rattle.rules.proofs.Lists.{any-true, from-member, sum-agree}
 use Rattle.rules.specs.BestPlan.{emptyPlan}
-use Rattle.rules.proofs.Admission.{layout-within, stock-within, list-within, lines-in-stock}
+use Rattle.rules.proofs.Admission.{layout-within, stock-within, list-within, lines-in-stock, admitted-under}
 use Rattle.rules.proofs.EmptyPlan.{empty-well-formed}
 use Rattle.rules.proofs.EmptyList.{closed-accepted, empty-accepted, empty-serves}
 use Rattle.tours.proofs.Basics.{split-at, true-not-false, or-true}
 use Rattle.tours.proofs.Machine.{accepts-allowed}
+use Rattle.tours.proofs.GapsMoved.{line-listed, gaps-moved}
 
 -- an action that passes all cells of its aisle
 record Whole (cells : ℕ) (a : Action) : Type 0 where
   fits : Fits cells a
   passes : (c : ℕ) → 1 ≤ c → c ≤ cells → passesCell a c ≡ true
 
+-- BOTTOM up to the last cell passes all cells
 bottom-whole : (cells : ℕ) → 1 ≤ cells → Whole cells (Bottom cells)
 bottom-whole cells some = record { fits = omega arith; passes = λ c low high. le-leb c cells high }
 
+-- ONCE passes all cells
 once-whole : (cells : ℕ) → Whole cells Once
 once-whole cells = record { fits = tt; passes = λ c low high. refl }
 
@@ -60,6 +64,7 @@ in-back-half z c f =
     let l = leb-false p (aisleLength z) f in
     le-leb (aisleLength z) p (omega arith)
 
+-- among the first n cells there is such a cell
 half-of : (z : Layout) (n : ℕ) → (h : ℕ) × Half z n h
 half-of z zero = (0, record { within = omega arith; front = λ l. absurd (omega arith); back = λ l. absurd (omega arith) })
 half-of z (suc n) = let t = half-of z n in go (t .0) (t .1) (split-at (t .0) n) (inFrontHalf z (suc n)) refl
@@ -76,8 +81,9 @@ half-of z (suc n) = let t = half-of z n in go (t .0) (t .1) (split-at (t .0) n) 
 record Between (z : Layout) (a : Action) : Type 0 where
   whole : Whole (z .cells) a
   named : actionNamed Midpoint a ≡ true
-  step : midpointStep z a odd ≡ odd
+  step : midpointStep (halved z) a odd ≡ odd
 
+-- there is such an action
 between : (z : Layout) → 1 ≤ z .cells → (a : Action) × Between z a
 between z some = let t = half-of z (z .cells) in go (t .0) (t .1) (split-at (t .0) (z .cells))
   where
@@ -106,6 +112,25 @@ Pairs Return = ⊥
 Pairs Traversal = Unit {0}
 Pairs Midpoint = Unit {0}
 Pairs Composite = ⊥
+Pairs Largest = Unit {0}
+
+-- the policies whose plan is built aisle by aisle
+abbrev Direct : Policy → Type 0
+Direct Exact = Unit {0}
+Direct Return = Unit {0}
+Direct Traversal = Unit {0}
+Direct Midpoint = Unit {0}
+Direct Composite = Unit {0}
+Direct Largest = ⊥
+
+-- all but LARGEST
+direct? : (policy : Policy) → Direct policy ⊎ (policy ≡ Largest)
+direct? Exact = inl tt
+direct? Return = inl tt
+direct? Traversal = inl tt
+direct? Midpoint = inl tt
+direct? Composite = inl tt
+direct? Largest = inr refl
 
 -- the states before an aisle from which the plan can go on; `more`: the aisle or one behind it is entered
 data Ready (policy : Policy) (more : Bool) : State → Type 0 where
@@ -120,57 +145,73 @@ data Behind (policy : Policy) (more : Bool) : State → Type 0 where
   met-again : Behind policy more joined
 
 -- the state behind an aisle that may be entered
-abbrev enterStep : Policy → Layout → Action → State → State
-enterStep policy z a s = cond (actionNamed policy a && (isVoid a || mayEnter policy true)) (policyStep policy z a s) dead
+abbrev enterStep : Job → ℕ → Policy → Action → State → State
+enterStep job j policy a s = cond (actionNamed policy a && (isVoid a || mayEnter policy true)) (policyStep policy (betweenTest policy job j) a s) dead
 
-module _ (z : Layout) (some : 1 ≤ z .cells) where
+module _ (job : Job) (some : 1 ≤ job .layout .cells) (j : ℕ) where
   -- an aisle is entered so that all its cells are passed
   abbrev Entering : Policy → Bool → State → Type 0
-  Entering policy more s = (a : Action) × Whole (z .cells) a × Behind policy more (enterStep policy z a s)
+  Entering policy more s = (a : Action) × Whole (job .layout .cells) a × Behind policy more (enterStep job j policy a s)
 
-  by-bottom : (policy : Policy) (more : Bool) {s : State} → (Pairs policy → ⊥) → ((r : State) → enterStep policy z (Bottom (z .cells)) r ≡ lawfulStep (Bottom (z .cells)) r) → Ready policy true s → Entering policy more s
-  by-bottom policy more alone e (none-yet l) = (Bottom (z .cells), bottom-whole (z .cells) some, rw (e nothing) (as-before on-front))
-  by-bottom policy more alone e on-front = (Bottom (z .cells), bottom-whole (z .cells) some, rw (e atFront) (as-before on-front))
-  by-bottom policy more alone e (on-both p l) = absurd (alone p)
-  by-bottom policy more alone e (none-left l) = absurd (true-not-false l)
+  -- by ONCE
+  by-once : (policy : Policy) (more : Bool) (s : State) → Behind policy more (enterStep job j policy Once s) → Entering policy more s
+  by-once policy more s behind = (Once, once-whole (job .layout .cells), behind)
 
-  enter : (policy : Policy) (more : Bool) {s : State} → Ready policy true s → Entering policy more s
-  enter Exact more r = by-bottom Exact more (λ p. p) (λ s. refl) r
-  enter Return more r = by-bottom Return more (λ p. p) (λ s. refl) r
-  enter Composite more r = by-bottom Composite more (λ p. p) (λ s. refl) r
-  enter Traversal true (none-yet l) = (Once, once-whole (z .cells), as-before (on-both tt refl))
-  enter Traversal false (none-yet l) = (Bottom (z .cells), bottom-whole (z .cells) some, as-before (none-left refl))
-  enter Traversal true on-front = (Once, once-whole (z .cells), as-before (on-both tt refl))
-  enter Traversal false on-front = (Bottom (z .cells), bottom-whole (z .cells) some, as-before (none-left refl))
-  enter Traversal true (on-both p l) = (Once, once-whole (z .cells), met-again)
-  enter Traversal false (on-both p l) = (Once, once-whole (z .cells), met-again)
-  enter Traversal true (none-left l) = absurd (true-not-false l)
-  enter Traversal false (none-left l) = absurd (true-not-false l)
-  enter Midpoint true (none-yet l) = (Once, once-whole (z .cells), as-before (on-both tt refl))
-  enter Midpoint false (none-yet l) = (Bottom (z .cells), bottom-whole (z .cells) some, as-before (none-left refl))
-  enter Midpoint true on-front = (Once, once-whole (z .cells), as-before (on-both tt refl))
-  enter Midpoint false on-front = (Bottom (z .cells), bottom-whole (z .cells) some, as-before (none-left refl))
-  enter Midpoint true (on-both p l) =
-      let t = between z some in
+  -- by BOTTOM up to the last cell
+  by-bottom : (policy : Policy) (more : Bool) (s : State) → Behind policy more (enterStep job j policy (Bottom (job .layout .cells)) s) → Entering policy more s
+  by-bottom policy more s behind = (Bottom (job .layout .cells), bottom-whole (job .layout .cells) some, behind)
+
+  -- every aisle by BOTTOM, where no round is opened
+  all-bottom : (policy : Policy) (more : Bool) {s : State} → (Pairs policy → ⊥)
+      → ((r : State) → enterStep job j policy (Bottom (job .layout .cells)) r ≡ lawfulStep (Bottom (job .layout .cells)) r)
+      → Ready policy true s → Entering policy more s
+  all-bottom policy more alone e (none-yet l) = by-bottom policy more nothing (rw (e nothing) (as-before on-front))
+  all-bottom policy more alone e on-front = by-bottom policy more atFront (rw (e atFront) (as-before on-front))
+  all-bottom policy more alone e (on-both p l) = absurd (alone p)
+  all-bottom policy more alone e (none-left l) = absurd (true-not-false l)
+
+  -- from each state in which the plan is ready
+  enter : (policy : Policy) (more : Bool) {s : State} → Direct policy → Ready policy true s → Entering policy more s
+  enter Exact more direct r = all-bottom Exact more (λ p. p) (λ s. refl) r
+  enter Return more direct r = all-bottom Return more (λ p. p) (λ s. refl) r
+  enter Composite more direct r = all-bottom Composite more (λ p. p) (λ s. refl) r
+  enter Traversal true direct (none-yet l) = by-once Traversal true nothing (as-before (on-both tt refl))
+  enter Traversal false direct (none-yet l) = by-bottom Traversal false nothing (as-before (none-left refl))
+  enter Traversal true direct on-front = by-once Traversal true atFront (as-before (on-both tt refl))
+  enter Traversal false direct on-front = by-bottom Traversal false atFront (as-before (none-left refl))
+  enter Traversal true direct (on-both p l) = by-once Traversal true odd met-again
+  enter Traversal false direct (on-both p l) = by-once Traversal false odd met-again
+  enter Traversal true direct (none-left l) = absurd (true-not-false l)
+  enter Traversal false direct (none-left l) = absurd (true-not-false l)
+  enter Midpoint true direct (none-yet l) = by-once Midpoint true nothing (as-before (on-both tt refl))
+  enter Midpoint false direct (none-yet l) = by-bottom Midpoint false nothing (as-before (none-left refl))
+  enter Midpoint true direct on-front = by-once Midpoint true atFront (as-before (on-both tt refl))
+  enter Midpoint false direct on-front = by-bottom Midpoint false atFront (as-before (none-left refl))
+  enter Midpoint true direct (on-both p l) =
+      let t = between (job .layout) some in
       (t .0, t .1 .whole, rw (t .1 .named, or-true (isVoid (t .0)), t .1 .step) (as-before (on-both tt refl)))
-  enter Midpoint false (on-both p l) = (Once, once-whole (z .cells), as-before (none-left refl))
-  enter Midpoint true (none-left l) = absurd (true-not-false l)
-  enter Midpoint false (none-left l) = absurd (true-not-false l)
+  enter Midpoint false direct (on-both p l) = by-once Midpoint false odd (as-before (none-left refl))
+  enter Midpoint true direct (none-left l) = absurd (true-not-false l)
+  enter Midpoint false direct (none-left l) = absurd (true-not-false l)
+  enter Largest more direct r = absurd direct
 
--- every policy names 00 and 02, and those of a round that is closed later name 11
+-- every policy names 00 and 02
 front-named : (policy : Policy) → (passageNamed policy P00 ≡ true) × (passageNamed policy P02 ≡ true)
 front-named Exact = (refl, refl)
 front-named Return = (refl, refl)
 front-named Traversal = (refl, refl)
 front-named Midpoint = (refl, refl)
 front-named Composite = (refl, refl)
+front-named Largest = (refl, refl)
 
+-- those of a round that is closed later name 11
 both-named : (policy : Policy) → Pairs policy → passageNamed policy P11 ≡ true
 both-named Exact p = absurd p
 both-named Return p = absurd p
 both-named Traversal p = refl
 both-named Midpoint p = refl
 both-named Composite p = absurd p
+both-named Largest p = refl
 
 module _ (policy : Policy) (d j : ℕ) where
   -- the state behind a passage
@@ -209,7 +250,7 @@ record Rest (job : Job) (n j : ℕ) (s : State) : Type 0 where
   passes : PassedFrom job j actions
   closes : runFrom job j s actions passages ≡ closed
 
-module _ (job : Job) (within : LayoutWithin (job .layout)) where
+module _ (job : Job) (direct : Direct (job .policy)) (within : LayoutWithin (job .layout)) where
   -- what is done in aisle j
   record Done (j : ℕ) (more : Bool) (s : State) : Type 0 where
     action : Action
@@ -217,38 +258,44 @@ module _ (job : Job) (within : LayoutWithin (job .layout)) where
     passes : holdsListed job j ≡ true → Whole (job .layout .cells) action
     behind : Behind (job .policy) more (actionStep job j action s)
 
+  -- what is done depends on whether the aisle holds a listed article
   done : (j : ℕ) (more : Bool) (s : State) → Ready (job .policy) (holdsListed job j || more) s → Done j more s
   unfolding actionStep actionPossible
   done j more s r = go (holdsListed job j) refl r
     where
-      by-void : (policy : Policy) → cond (actionNamed policy Void && true) (policyStep policy (job .layout) Void s) dead ≡ s
+      by-void : (policy : Policy) → cond (actionNamed policy Void && true) (policyStep policy (betweenTest policy job j) Void s) dead ≡ s
       by-void Exact = refl
       by-void Return = refl
       by-void Traversal = refl
       by-void Midpoint = refl
       by-void Composite = refl
+      by-void Largest = refl
 
       go : (b : Bool) → holdsListed job j ≡ b → Ready (job .policy) (b || more) s → Done j more s
       go true e r =
-          let t = enter (job .layout) (within .cells .0) (job .policy) more r in
+          let t = enter job (within .cells .0) j (job .policy) more direct r in
           record { action = t .0; fits = t .1 .fits; passes = λ h. t .1; behind = rw e (t .2) }
       go false e r =
           record { action = Void; fits = tt; passes = λ h. absurd (true-not-false (sym h ∙ e)); behind = rw (by-void (job .policy)) (as-before r) }
 
+  -- one more action that fits
   fits-first : (a : Action) (actions : List Action) → Fits (job .layout .cells) a → ((k : ℕ) → Fits (job .layout .cells) (nth actions k Void))
       → (k : ℕ) → Fits (job .layout .cells) (nth (a ∷ actions) k Void)
   fits-first a actions f g zero = tt
   fits-first a actions f g (suc zero) = f
   fits-first a actions f g (suc (suc k)) = g (suc k)
 
+  -- one more aisle whose cells are passed
   passes-first : (j : ℕ) (a : Action) (actions : List Action) → (holdsListed job j ≡ true → Whole (job .layout .cells) a) → PassedFrom job (suc j) actions → PassedFrom job j (a ∷ actions)
   passes-first j a actions f g zero i e l h = let same : i ≡ j = omega arith in f (rw same at h)
   passes-first j a actions f g (suc k) i e l h = g k i (omega arith) l h
 
+  -- there is nothing to fit in an empty list
   void-fits : (k : ℕ) → Fits (job .layout .cells) (nth [] k Void)
   void-fits zero = tt
   void-fits (suc k) = tt
 
+  -- from a state that is ready the plan goes on to the last aisle
   rest : (n j : ℕ) (s : State) → j + n ≡ job .layout .aisles → Ready (job .policy) (anyOf (holdsListed job) (from j (suc n))) s → Rest job n j s
   unfolding passageStep
   rest zero j s e r =
@@ -285,26 +332,34 @@ some-term f (x ∷ xs) h = elim (split-at 0 (f x)) [
   | inr l ↦ let t = some-term f xs (omega arith) in (t .0, List·Memᴰ·tail (t .1), t .2)
 ]
 
+-- two true parts
 both : (a b : Bool) → a ≡ true → b ≡ true → a && b ≡ true
 both a b e f = rw (e, f)
 
+-- a plan that the machine closes off and that serves the list
+abbrev ClosedServing : Job → Type 0
+ClosedServing job = (plan : Plan) × WellFormed (job .layout) plan × (closesOff job plan ≡ true) × PlanServes job plan
+
 module _ (job : Job) (a : Admitted job) where
+  -- the layout is within its bounds
   within : LayoutWithin (job .layout)
   within = layout-within (job .layout) .0 (a .layout)
 
+  -- each record is within its bounds
   record-in : (r : StockRecord) → List·Memᴰ r (job .stock) → RecordWithin (job .layout) r
   record-in = stock-within job .0 (a .stock) .records
 
   -- the aisle of a record of a line's article holds a listed article
   holds : (l : OrderLine) (r : StockRecord) → List·Memᴰ l (job .lines) → List·Memᴰ r (job .stock) → r .article ≡ l .article → holdsListed job (r .aisle) ≡ true
-  unfolding holdsListed listed
+  unfolding holdsListed
   holds l r m n e = any-true (λ (s : StockRecord). eqb (s .aisle) (r .aisle) && listed job (s .article)) (job .stock) .1 (
     r,
     n,
     both (eqb (r .aisle) (r .aisle)) (listed job (r .article)) (eq-eqb (r .aisle) (r .aisle) refl)
-        (any-true (λ (k : OrderLine). eqb (k .article) (r .article)) (job .lines) .1 (l, m, eq-eqb (l .article) (r .article) (sym e))),
+        (line-listed job l (r .article) m e),
   )
 
+  -- no line exceeds the stock of its article
   in-stock : (l : OrderLine) → List·Memᴰ l (job .lines) → l .quantity ≤ allStock job (l .article)
   in-stock = lines-in-stock job .0 (a .in-stock)
 
@@ -339,21 +394,37 @@ module _ (job : Job) (a : Admitted job) where
           rw (e, h (r .aisle) (w .aisle .0) (w .aisle .1) (holds l r m n (eqb-true (r .article) (l .article) e)) .passes (r .cell) (w .cell .0) (w .cell .1))
       go r n false e = rw e
 
-  -- for each policy some plan that the machine closes off serves a list with lines
-  closed-exists : 1 ≤ length (job .lines) → (plan : Plan) × WellFormed (job .layout) plan × (closesOff job plan ≡ true) × PlanServes job plan
+  -- built aisle by aisle, some plan that the machine closes off serves a list with lines
+  direct-exists : Direct (job .policy) → 1 ≤ length (job .lines) → ClosedServing job
   unfolding actionAt
-  closed-exists some-line = go (job .layout .aisles) refl (within .aisles .0)
+  direct-exists direct some-line = go (job .layout .aisles) refl (within .aisles .0)
     where
-      go : (m : ℕ) → job .layout .aisles ≡ m → 1 ≤ m → (plan : Plan) × WellFormed (job .layout) plan × (closesOff job plan ≡ true) × PlanServes job plan
+      go : (m : ℕ) → job .layout .aisles ≡ m → 1 ≤ m → ClosedServing job
       go zero e some = absurd (omega arith)
       go (suc n) e some =
-          let t = rest job within n 1 nothing (omega arith) (none-yet (subst (λ (k : ℕ). anyOf (holdsListed job) (from 1 k) ≡ true) e (some-aisle some-line))) in
+          let t = rest job direct within n 1 nothing (omega arith) (none-yet (subst (λ (k : ℕ). anyOf (holdsListed job) (from 1 k) ≡ true) e (some-aisle some-line))) in
           let plan : Plan = record { actions = t .actions; passages = t .passages } in
           (plan, record { aisles = t .aisles ∙ sym e; passages = ap suc (t .gaps) ∙ sym e; fits = t .fits }, ap isClosed (t .closes), whole-stock plan (at-aisle (t .actions) (t .passes)))
         where
           at-aisle : (actions : List Action) → PassedFrom job 1 actions → (j : ℕ) → 1 ≤ j → j ≤ job .layout .aisles → holdsListed job j ≡ true → Whole (job .layout .cells) (nth actions j Void)
           at-aisle actions p zero low high h = absurd (omega arith)
           at-aisle actions p (suc k) low high h = p k (suc k) (omega arith) high h
+
+module _ (job : Job) (a : Admitted job) where
+  -- under LARGEST it is MIDPOINT's with its gaps moved
+  largest-exists : 1 ≤ length (job .lines) → ClosedServing (jobUnder Largest job)
+  unfolding PlanServes Serves
+  largest-exists some-line =
+      let (plan, wf, c, s) = direct-exists (jobUnder Midpoint job) (admitted-under Midpoint job a) tt some-line in
+      let (moved, formed, closes, serves, shorter) = gaps-moved job a plan wf c in
+      (moved, formed, closes, serves s)
+
+  -- for each policy some plan that the machine closes off serves a list with lines
+  closed-exists : 1 ≤ length (job .lines) → ClosedServing job
+  closed-exists some-line = elim (direct? (job .policy)) [
+    | inl d ↦ direct-exists job a d some-line
+    | inr e ↦ subst (λ (policy : Policy). ClosedServing (jobUnder policy job)) (sym e) (largest-exists some-line)
+  ]
 
   -- for each policy some plan that is accepted serves the list: for an empty one the plan that treads nothing
   pub serving-exists : (plan : Plan) × WellFormed (job .layout) plan × (accepts job plan ≡ true) × PlanServes job plan
@@ -362,7 +433,7 @@ module _ (job : Job) (a : Admitted job) where
       go : (lines : List OrderLine) → job .lines ≡ lines → (plan : Plan) × WellFormed (job .layout) plan × (accepts job plan ≡ true) × PlanServes job plan
       go [] e =
           let idle = emptyPlan (job .layout) in
-          (idle, empty-well-formed (job .layout) (within .aisles .0), empty-accepted job e, empty-serves job e idle)
+          (idle, empty-well-formed (job .layout) (within job a .aisles .0), empty-accepted job e, empty-serves job e idle)
       go (l ∷ lines) e =
           let t = closed-exists (rw e (omega arith)) in
           (t .0, t .1, closed-accepted job (t .0) (t .2), t .3)

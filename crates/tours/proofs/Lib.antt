@@ -10,6 +10,8 @@ pub mod Counting
 pub mod Simulation
 pub mod Traversal
 pub mod Midpoint
+pub mod OneAisle
 pub mod Rules
 pub mod Machine
+pub mod GapsMoved
 pub mod Existence

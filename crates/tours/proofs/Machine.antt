@@ -24,14 +24,14 @@ module _ (job : Job) (plan : Plan) (depot-low : 1 ≤ job .layout .depot) where
       forth : closesOff job plan ≡ true → Lawful (job .layout) plan × Follows (job .policy) job plan
       forth h =
           let t = closes-by-table job wf .0 h in
-          let r = policy-table wf depot-low (job .policy) (λ j. t .0 j .passage) .0 (t .1) in
+          let r = policy-table job wf depot-low (job .policy) (λ j. t .0 j .passage) .0 (t .1) in
           (r .0, follows-rules job plan (job .policy) refl .0 (t .0, r .1))
 
       back : Lawful (job .layout) plan × Follows (job .policy) job plan → closesOff job plan ≡ true
       back (law, follows) =
           let f = follows-rules job plan (job .policy) refl .1 follows in
           closes-by-table job wf .1
-          (f .0, policy-table wf depot-low (job .policy) (λ j. f .0 j .passage) .1 (law, f .1))
+          (f .0, policy-table job wf depot-low (job .policy) (λ j. f .0 j .passage) .1 (law, f .1))
 
   -- a plan is lawful for the list: lawful, or it treads nothing and the list is empty
   by-list : (lines : List OrderLine) → job .lines ≡ lines → LawfulFor (job .layout) lines plan → Lawful (job .layout) plan ⊎ ((job .lines ≡ []) × TreadsNothing (job .layout) plan)

@@ -1,35 +1,45 @@
--- MIDPOINT: its table closes off just the lawful plans that keep its rule.
+-- MIDPOINT and LARGEST: their table closes off just the lawful plans that keep their rule, with a test for aisles between.
 use Prim.Native.Nat.{ℕ, zero, suc, _≤_, _<_}
 use native.Mathlib.Omega.{arith}
 use mathlib.Core.Path.{_≡_, refl, sym, subst, _∙_}
 use mathlib.Core.Logic.{_⊎_, inl, inr, _↔_}
-use mathlib.Core.Bool.{true, cond}
+use mathlib.Core.Bool.{Bool, true, false, cond}
 use Rattle.rules.specs.declared.Layout.{Layout}
-use Rattle.rules.specs.declared.Policy.the-variants.{Midpoint}
+use Rattle.rules.specs.declared.Policy.the-variants.{Midpoint, Largest}
 use Rattle.rules.specs.declared.Action.{Action}
 use Rattle.rules.specs.declared.Action.the-variants.{Void, Bottom, Top, Gap, Once, Twice}
 use Rattle.rules.specs.declared.Passage.{Passage}
 use Rattle.rules.specs.Plans.{Plan, WellFormed, actionAt, passageAt}
-use Rattle.rules.specs.Policies.{Entered, First, Last, IsBottom, MidpointRule, enteredAisles, halved}
+use Rattle.rules.specs.Policies.{Entered, First, Last, IsBottom, MidpointRule, enteredAisles}
 use Rattle.rules.specs.Machine.{State, nothing, closed, atFront, atBack, odd, joined, split, ending, dead, lawfulStep, midpointStep, crossStep}
 use Rattle.tours.specs.Prefixes.{lawfulState, policyState}
-use Rattle.tours.proofs.Basics.{below, split-at, same-number, false-not-true}
+use Rattle.tours.proofs.Basics.{below, split-at, same-number, true-not-false}
 use Rattle.tours.proofs.Parity.{Live, oddness, passage-parity, live-before-passage}
 use Rattle.tours.proofs.Runs.{live-before-step, live-test}
 use Rattle.tours.proofs.Counting.{not-entered-void, void-not-entered, bottom-entered, once-entered, entered-inside, first-entered, last-entered, count-one, count-two}
 use Rattle.tours.proofs.Simulation.{Plain, Fitting, Tracks, Between, Ends, Over, over-cross, tracks-void, tracks-cross, between-cross, ends-run, midpoint-fits}
 
+-- the laws of a test for aisles between, by aisle and action: VOID passes it, ONCE and TWICE do not
+pub record BetweenLaws (between : ℕ → Action → Bool) : Type 0 where
+  pub void : (j : ℕ) → between j Void ≡ true
+  pub once : (j : ℕ) → between j Once ≡ false
+  pub twice : (j : ℕ) → between j Twice ≡ false
+
+-- the rule of MIDPOINT and LARGEST, with a test for aisles between
+abbrev pub TestRule : (ℕ → Action → Bool) → Plan → Type 0
+TestRule between plan = MidpointRule (λ j a. between j a ≡ true) plan
+
 -- none of the first n aisles is entered
 abbrev NoneEntered : Plan → ℕ → Type 0
 NoneEntered plan n = (j : ℕ) → j ≤ n → Entered plan j → ⊥
 
--- the first entered of the first n aisles is ONCE, those behind it keep to the halves
-record Opened (z : Layout) (plan : Plan) (n : ℕ) : Type 0 where
+-- the first entered of the first n aisles is ONCE, those behind it pass the test
+record Opened (between : ℕ → Action → Bool) (plan : Plan) (n : ℕ) : Type 0 where
   first : ℕ
   inside : first ≤ n
   once : actionAt plan first ≡ Once
   before : (j : ℕ) → j < first → Entered plan j → ⊥
-  halves : (j : ℕ) → first < j → j ≤ n → halved z (actionAt plan j) ≡ true
+  pass : (j : ℕ) → first < j → j ≤ n → between j (actionAt plan j) ≡ true
 
 -- a single one of the first n aisles is entered, by BOTTOM
 record Single (plan : Plan) (n : ℕ) : Type 0 where
@@ -39,8 +49,8 @@ record Single (plan : Plan) (n : ℕ) : Type 0 where
   before : (j : ℕ) → j < place → Entered plan j → ⊥
   behind : (j : ℕ) → place < j → j ≤ n → Entered plan j → ⊥
 
--- the first and the last entered of the first n aisles are ONCE, those between keep to the halves
-record Double (z : Layout) (plan : Plan) (n : ℕ) : Type 0 where
+-- the first and the last entered of the first n aisles are ONCE, those between pass the test
+record Double (between : ℕ → Action → Bool) (plan : Plan) (n : ℕ) : Type 0 where
   first : ℕ
   last : ℕ
   order : first < last
@@ -48,74 +58,75 @@ record Double (z : Layout) (plan : Plan) (n : ℕ) : Type 0 where
   first-once : actionAt plan first ≡ Once
   last-once : actionAt plan last ≡ Once
   before : (j : ℕ) → j < first → Entered plan j → ⊥
-  between : (j : ℕ) → first < j → j < last → halved z (actionAt plan j) ≡ true
+  pass : (j : ℕ) → first < j → j < last → between j (actionAt plan j) ≡ true
   behind : (j : ℕ) → last < j → j ≤ n → Entered plan j → ⊥
 
 -- what MIDPOINT's run has gone through when it is in a state
-abbrev GoneThrough : Layout → Plan → ℕ → State → Type 0
-GoneThrough z plan n o =
+abbrev GoneThrough : (ℕ → Action → Bool) → Plan → ℕ → State → Type 0
+GoneThrough between plan n o =
     (NoneEntered plan n × (oddness o ≡ 0))
-    ⊎ ((Opened z plan n × (oddness o ≡ 1)) ⊎ ((Single plan n ⊎ Double z plan n) × Over o))
+    ⊎ ((Opened between plan n × (oddness o ≡ 1)) ⊎ ((Single plan n ⊎ Double between plan n) × Over o))
 
 -- the first entered aisle is ONCE: both runs go to `odd`
-first-once : (z : Layout) (o x : State) → Tracks o x → (Live x → oddness x ≡ 0) → Between (midpointStep z Once o) (lawfulStep Once x)
-first-once z o nothing e even = rw e
-first-once z o closed e even = tt
-first-once z o atFront e even = rw e
-first-once z o atBack e even = absurd e
-first-once z o odd e even = absurd (let h = even tt in omega arith)
-first-once z o joined e even = absurd e
-first-once z o split e even = absurd e
-first-once z o ending e even = absurd e
-first-once z o dead e even = tt
+first-once : (between : Action → Bool) (o x : State) → Tracks o x → (Live x → oddness x ≡ 0) → Between (midpointStep between Once o) (lawfulStep Once x)
+first-once between o nothing e even = rw e
+first-once between o closed e even = tt
+first-once between o atFront e even = rw e
+first-once between o atBack e even = absurd e
+first-once between o odd e even = absurd (let h = even tt in omega arith)
+first-once between o joined e even = absurd e
+first-once between o split e even = absurd e
+first-once between o ending e even = absurd e
+first-once between o dead e even = tt
 
 -- the first entered aisle is BOTTOM: the policy's run begins to end
-first-bottom : (z : Layout) (k : ℕ) (o x : State) → Tracks o x → Ends (midpointStep z (Bottom k) o) (lawfulStep (Bottom k) x)
-first-bottom z k o nothing e = rw e
-first-bottom z k o closed e = tt
-first-bottom z k o atFront e = rw e
-first-bottom z k o atBack e = absurd e
-first-bottom z k o odd e = tt
-first-bottom z k o joined e = absurd e
-first-bottom z k o split e = absurd e
-first-bottom z k o ending e = absurd e
-first-bottom z k o dead e = tt
+first-bottom : (between : Action → Bool) (k : ℕ) (o x : State) → Tracks o x → Ends (midpointStep between (Bottom k) o) (lawfulStep (Bottom k) x)
+first-bottom between k o nothing e = rw e
+first-bottom between k o closed e = tt
+first-bottom between k o atFront e = rw e
+first-bottom between k o atBack e = absurd e
+first-bottom between k o odd e = tt
+first-bottom between k o joined e = absurd e
+first-bottom between k o split e = absurd e
+first-bottom between k o ending e = absurd e
+first-bottom between k o dead e = tt
 
--- an action in the halves keeps both runs in `odd`
-half-step : (z : Layout) (a : Action) → halved z a ≡ true → (o x : State) → Between o x → Between (midpointStep z a o) (lawfulStep a x)
-half-step z a h o nothing e = absurd e
-half-step z a h o closed e = absurd e
-half-step z a h o atFront e = absurd e
-half-step z a h o atBack e = absurd e
-half-step z Void h o odd e = e
-half-step z (Bottom k) h o odd e = rw (e, h) refl
-half-step z (Top k) h o odd e = rw (e, h) refl
-half-step z (Gap g k) h o odd e = rw (e, h) refl
-half-step z Once h o odd e = absurd (false-not-true h)
-half-step z Twice h o odd e = absurd (false-not-true h)
-half-step z a h o joined e = absurd e
-half-step z a h o split e = absurd e
-half-step z a h o ending e = absurd e
-half-step z Void h o dead e = tt
-half-step z (Bottom k) h o dead e = tt
-half-step z (Top k) h o dead e = tt
-half-step z (Gap g k) h o dead e = tt
-half-step z Once h o dead e = tt
-half-step z Twice h o dead e = tt
+module _ {between : ℕ → Action → Bool} (laws : BetweenLaws between) (j : ℕ) where
+  -- an action that passes the test keeps both runs in `odd`
+  pass-step : (a : Action) → between j a ≡ true → (o x : State) → Between o x → Between (midpointStep (between j) a o) (lawfulStep a x)
+  pass-step a h o nothing e = absurd e
+  pass-step a h o closed e = absurd e
+  pass-step a h o atFront e = absurd e
+  pass-step a h o atBack e = absurd e
+  pass-step Void h o odd e = e
+  pass-step (Bottom k) h o odd e = rw (e, h) refl
+  pass-step (Top k) h o odd e = rw (e, h) refl
+  pass-step (Gap g k) h o odd e = rw (e, h) refl
+  pass-step Once h o odd e = absurd (true-not-false (sym h ∙ laws .once j))
+  pass-step Twice h o odd e = absurd (true-not-false (sym h ∙ laws .twice j))
+  pass-step a h o joined e = absurd e
+  pass-step a h o split e = absurd e
+  pass-step a h o ending e = absurd e
+  pass-step Void h o dead e = tt
+  pass-step (Bottom k) h o dead e = tt
+  pass-step (Top k) h o dead e = tt
+  pass-step (Gap g k) h o dead e = tt
+  pass-step Once h o dead e = tt
+  pass-step Twice h o dead e = tt
 
 -- the last entered aisle is ONCE: the policy's run begins to end
-last-once-ends : (z : Layout) (o x : State) → Between o x → Ends (midpointStep z Once o) (lawfulStep Once x)
-last-once-ends z o nothing e = absurd e
-last-once-ends z o closed e = absurd e
-last-once-ends z o atFront e = absurd e
-last-once-ends z o atBack e = absurd e
-last-once-ends z o odd e = rw e
-last-once-ends z o joined e = absurd e
-last-once-ends z o split e = absurd e
-last-once-ends z o ending e = absurd e
-last-once-ends z o dead e = tt
+last-once-ends : (between : Action → Bool) (o x : State) → Between o x → Ends (midpointStep between Once o) (lawfulStep Once x)
+last-once-ends between o nothing e = absurd e
+last-once-ends between o closed e = absurd e
+last-once-ends between o atFront e = absurd e
+last-once-ends between o atBack e = absurd e
+last-once-ends between o odd e = rw e
+last-once-ends between o joined e = absurd e
+last-once-ends between o split e = absurd e
+last-once-ends between o ending e = absurd e
+last-once-ends between o dead e = tt
 
-module _ {z : Layout} {plan : Plan} (wf : WellFormed z plan) where
+module _ {z : Layout} {plan : Plan} (wf : WellFormed z plan) {between : ℕ → Action → Bool} (laws : BetweenLaws between) where
   module _ (i : ℕ) where
     -- one more VOID
     none-on : (k : ℕ) → actionAt plan (suc i) ≡ Void → ((j : ℕ) → k < j → j ≤ i → Entered plan j → ⊥)
@@ -125,23 +136,26 @@ module _ {z : Layout} {plan : Plan} (wf : WellFormed z plan) where
       | inr p ↦ void-not-entered plan (suc i) e (rw p at g)
     ]
 
+    -- one more VOID, none entered yet
     still-none : NoneEntered plan i → actionAt plan (suc i) ≡ Void → NoneEntered plan (suc i)
     still-none none e j l g = elim (below j i l) [
       | inl b ↦ none j b g
       | inr p ↦ void-not-entered plan (suc i) e (rw p at g)
     ]
 
-    still-opened : Opened z plan i → halved z (actionAt plan (suc i)) ≡ true → Opened z plan (suc i)
+    -- one more aisle that passes the test
+    still-opened : Opened between plan i → between (suc i) (actionAt plan (suc i)) ≡ true → Opened between plan (suc i)
     still-opened o e =
         record {
           first = o .first;
           inside = let l = o .inside in omega arith;
           once = o .once;
           before = o .before;
-          halves = λ j l h. elim (below j i h) [ inl b ↦ o .halves j l b | inr p ↦ rw p e ];
+          pass = λ j l h. elim (below j i h) [ inl b ↦ o .pass j l b | inr p ↦ rw p e ];
         }
 
-    still-done : Single plan i ⊎ Double z plan i → actionAt plan (suc i) ≡ Void → Single plan (suc i) ⊎ Double z plan (suc i)
+    -- one more VOID behind the last entered aisle
+    still-done : Single plan i ⊎ Double between plan i → actionAt plan (suc i) ≡ Void → Single plan (suc i) ⊎ Double between plan (suc i)
     still-done (inl s) e =
         inl (record {
           place = s .place;
@@ -159,20 +173,22 @@ module _ {z : Layout} {plan : Plan} (wf : WellFormed z plan) where
           first-once = d .first-once;
           last-once = d .last-once;
           before = d .before;
-          between = d .between;
+          pass = d .pass;
           behind = none-on (d .last) e (d .behind);
         })
 
-    now-opened : NoneEntered plan i → actionAt plan (suc i) ≡ Once → Opened z plan (suc i)
+    -- the first entered aisle is ONCE
+    now-opened : NoneEntered plan i → actionAt plan (suc i) ≡ Once → Opened between plan (suc i)
     now-opened none e =
         record {
           first = suc i;
           inside = omega arith;
           once = e;
           before = λ j l. none j (omega arith);
-          halves = λ j l h. absurd (omega arith);
+          pass = λ j l h. absurd (omega arith);
         }
 
+    -- the first entered aisle is BOTTOM
     now-single : NoneEntered plan i → IsBottom (actionAt plan (suc i)) → Single plan (suc i)
     now-single none b =
         record {
@@ -183,7 +199,8 @@ module _ {z : Layout} {plan : Plan} (wf : WellFormed z plan) where
           behind = λ j l h e. omega arith;
         }
 
-    now-double : Opened z plan i → actionAt plan (suc i) ≡ Once → Double z plan (suc i)
+    -- the last entered aisle is ONCE
+    now-double : Opened between plan i → actionAt plan (suc i) ≡ Once → Double between plan (suc i)
     now-double o e =
         let l = o .inside in
         record {
@@ -194,24 +211,25 @@ module _ {z : Layout} {plan : Plan} (wf : WellFormed z plan) where
           first-once = o .once;
           last-once = e;
           before = o .before;
-          between = λ j h g. o .halves j h (omega arith);
+          pass = λ j h g. o .pass j h (omega arith);
           behind = λ j h g c. omega arith;
         }
 
-    -- an action in the halves keeps the state `odd`
-    gone-half : (a : Action) → actionAt plan (suc i) ≡ a → Live (cond (halved z a) odd dead)
-        → GoneThrough z plan i odd → GoneThrough z plan (suc i) (cond (halved z a) odd dead)
-    gone-half a e l (inl (none, c)) = absurd (omega arith)
-    gone-half a e l (inr (inl (o, c))) =
-        let h = live-test (halved z a) odd l .0 in
+    -- an action that passes the test keeps the state `odd`
+    gone-pass : (a : Action) → actionAt plan (suc i) ≡ a → Live (cond (between (suc i) a) odd dead)
+        → GoneThrough between plan i odd → GoneThrough between plan (suc i) (cond (between (suc i) a) odd dead)
+    gone-pass a e l (inl (none, c)) = absurd (omega arith)
+    gone-pass a e l (inr (inl (o, c))) =
+        let h = live-test (between (suc i) a) odd l .0 in
         inr (inl (still-opened o (rw e h), rw h))
-    gone-half a e l (inr (inr (d, over))) = absurd over
+    gone-pass a e l (inr (inr (d, over))) = absurd over
 
-    gone-action : (a : Action) → actionAt plan (suc i) ≡ a → (o : State) → Live (midpointStep z a o)
-        → GoneThrough z plan i o → GoneThrough z plan (suc i) (midpointStep z a o)
+    -- what has been gone through with one more action
+    gone-action : (a : Action) → actionAt plan (suc i) ≡ a → (o : State) → Live (midpointStep (between (suc i)) a o)
+        → GoneThrough between plan i o → GoneThrough between plan (suc i) (midpointStep (between (suc i)) a o)
     unfolding IsBottom
     gone-action Void e o l (inl (none, c)) = inl (still-none none e, c)
-    gone-action Void e o l (inr (inl (b, c))) = inr (inl (still-opened b (rw e), c))
+    gone-action Void e o l (inr (inl (b, c))) = inr (inl (still-opened b (rw e (laws .void (suc i))), c))
     gone-action Void e o l (inr (inr (d, over))) = inr (inr (still-done d e, over))
     gone-action (Bottom k) e nothing l (inl (none, c)) = inr (inr (inl (now-single none (k, e)), tt))
     gone-action (Bottom k) e nothing l (inr (inl (b, c))) = absurd (omega arith)
@@ -221,7 +239,7 @@ module _ {z : Layout} {plan : Plan} (wf : WellFormed z plan) where
     gone-action (Bottom k) e atFront l (inr (inl (b, c))) = absurd (omega arith)
     gone-action (Bottom k) e atFront l (inr (inr (d, over))) = absurd over
     gone-action (Bottom k) e atBack l g = absurd l
-    gone-action (Bottom k) e odd l g = gone-half (Bottom k) e l g
+    gone-action (Bottom k) e odd l g = gone-pass (Bottom k) e l g
     gone-action (Bottom k) e joined l g = absurd l
     gone-action (Bottom k) e split l g = absurd l
     gone-action (Bottom k) e ending l g = absurd l
@@ -230,7 +248,7 @@ module _ {z : Layout} {plan : Plan} (wf : WellFormed z plan) where
     gone-action (Top k) e closed l g = absurd l
     gone-action (Top k) e atFront l g = absurd l
     gone-action (Top k) e atBack l g = absurd l
-    gone-action (Top k) e odd l g = gone-half (Top k) e l g
+    gone-action (Top k) e odd l g = gone-pass (Top k) e l g
     gone-action (Top k) e joined l g = absurd l
     gone-action (Top k) e split l g = absurd l
     gone-action (Top k) e ending l g = absurd l
@@ -239,7 +257,7 @@ module _ {z : Layout} {plan : Plan} (wf : WellFormed z plan) where
     gone-action (Gap h k) e closed l g = absurd l
     gone-action (Gap h k) e atFront l g = absurd l
     gone-action (Gap h k) e atBack l g = absurd l
-    gone-action (Gap h k) e odd l g = gone-half (Gap h k) e l g
+    gone-action (Gap h k) e odd l g = gone-pass (Gap h k) e l g
     gone-action (Gap h k) e joined l g = absurd l
     gone-action (Gap h k) e split l g = absurd l
     gone-action (Gap h k) e ending l g = absurd l
@@ -261,21 +279,23 @@ module _ {z : Layout} {plan : Plan} (wf : WellFormed z plan) where
     gone-action Once e dead l g = absurd l
     gone-action Twice e o l g = absurd l
 
+    -- a passage adds nothing to it
     gone-passage : (d : ℕ) (p : Passage) (o : State) → Live (crossStep d (suc i) p o)
-        → GoneThrough z plan (suc i) o → GoneThrough z plan (suc i) (crossStep d (suc i) p o)
+        → GoneThrough between plan (suc i) o → GoneThrough between plan (suc i) (crossStep d (suc i) p o)
     gone-passage d p o l (inl (none, c)) = inl (none, passage-parity d (suc i) p o l .1 ∙ c)
     gone-passage d p o l (inr (inl (b, c))) = inr (inl (b, passage-parity d (suc i) p o l .1 ∙ c))
     gone-passage d p o l (inr (inr (b, over))) = inr (inr (b, over-cross d (suc i) p o over))
 
-  gone-run : (n : ℕ) → Live (policyState Midpoint z plan n) → GoneThrough z plan n (policyState Midpoint z plan n)
+  -- what the run has gone through up to aisle n
+  gone-run : (n : ℕ) → Live (policyState Midpoint between (z .depot) plan n) → GoneThrough between plan n (policyState Midpoint between (z .depot) plan n)
   gone-run zero l = inl ((λ j h e. let k = entered-inside wf j e in omega arith), refl)
   gone-run (suc i) l =
       let a = actionAt plan (suc i) in
       let p = passageAt plan (suc i) in
-      let o = policyState Midpoint z plan i in
-      let behind = live-before-passage (z .depot) (suc i) p (midpointStep z a o) l in
-      gone-passage i (z .depot) p (midpointStep z a o) l
-      (gone-action i a refl o behind (gone-run i (live-before-step Midpoint z a o behind)))
+      let o = policyState Midpoint between (z .depot) plan i in
+      let behind = live-before-passage (z .depot) (suc i) p (midpointStep (between (suc i)) a o) l in
+      gone-passage i (z .depot) p (midpointStep (between (suc i)) a o) l
+      (gone-action i a refl o behind (gone-run i (live-before-step Midpoint (between (suc i)) a o behind)))
 
   -- before the first entered aisle EXACT's run is not in the state `odd`
   even-run : (n : ℕ) → NoneEntered plan n → Live (lawfulState (z .depot) plan n) → oddness (lawfulState (z .depot) plan n) ≡ 0
@@ -290,61 +310,63 @@ module _ {z : Layout} {plan : Plan} (wf : WellFormed z plan) where
 
   module _ (plain : (j : ℕ) → Plain (passageAt plan j)) where
     -- before the first entered aisle the two runs are the same
-    tracks-run : (n : ℕ) → NoneEntered plan n → Tracks (policyState Midpoint z plan n) (lawfulState (z .depot) plan n)
+    tracks-run : (n : ℕ) → NoneEntered plan n → Tracks (policyState Midpoint between (z .depot) plan n) (lawfulState (z .depot) plan n)
     tracks-run zero none = refl
     tracks-run (suc i) none =
         tracks-cross (z .depot) (suc i) (passageAt plan (suc i)) (plain (suc i)) _ _
         (rw (not-entered-void plan (suc i) (none (suc i) (omega arith)))
-        (tracks-void (policyState Midpoint z plan i) (lawfulState (z .depot) plan i) (tracks-run i (λ j l. none j (omega arith)))))
+        (tracks-void (policyState Midpoint between (z .depot) plan i) (lawfulState (z .depot) plan i) (tracks-run i (λ j l. none j (omega arith)))))
 
     -- between the first and the last entered aisle both runs are in the state `odd`
-    between-run : {m : ℕ} (d : Double z plan m) (n : ℕ) → d .first ≤ n → n < d .last
-        → Between (policyState Midpoint z plan n) (lawfulState (z .depot) plan n)
+    between-run : {m : ℕ} (d : Double between plan m) (n : ℕ) → d .first ≤ n → n < d .last
+        → Between (policyState Midpoint between (z .depot) plan n) (lawfulState (z .depot) plan n)
     between-run d zero l h = absurd (let e = entered-inside wf (d .first) (once-entered plan (d .first) (d .first-once)) in omega arith)
     between-run d (suc i) l h =
         between-cross (z .depot) (suc i) (passageAt plan (suc i)) (plain (suc i)) _ _ (elim (below (d .first) i l) [
-          | inl g ↦ half-step z (actionAt plan (suc i)) (d .between (suc i) (omega arith) h) (policyState Midpoint z plan i) (lawfulState (z .depot) plan i)
+          | inl g ↦ pass-step laws (suc i) (actionAt plan (suc i)) (d .pass (suc i) (omega arith) h) (policyState Midpoint between (z .depot) plan i) (lawfulState (z .depot) plan i)
               (between-run d i g (omega arith))
           | inr p ↦
               let none : NoneEntered plan i = λ j k. d .before j (omega arith) in
               rw (subst (λ (j : ℕ). actionAt plan j ≡ Once) p (d .first-once))
-              (first-once z (policyState Midpoint z plan i) (lawfulState (z .depot) plan i) (tracks-run i none) (even-run i none))
+              (first-once (between (suc i)) (policyState Midpoint between (z .depot) plan i) (lawfulState (z .depot) plan i) (tracks-run i none) (even-run i none))
         ])
 
-    single-ends : {m : ℕ} → Single plan m → Ends (policyState Midpoint z plan m) (lawfulState (z .depot) plan m)
+    -- behind a single BOTTOM both runs go to their ends
+    single-ends : {m : ℕ} → Single plan m → Ends (policyState Midpoint between (z .depot) plan m) (lawfulState (z .depot) plan m)
     unfolding IsBottom
     single-ends {m} s = go (s .place) refl
       where
-        go : (j : ℕ) → s .place ≡ j → Ends (policyState Midpoint z plan m) (lawfulState (z .depot) plan m)
+        go : (j : ℕ) → s .place ≡ j → Ends (policyState Midpoint between (z .depot) plan m) (lawfulState (z .depot) plan m)
         go zero p = absurd (let e = entered-inside wf (s .place) (bottom-entered plan (s .place) (s .bottom)) in omega arith)
         go (suc i) p =
             let l = s .inside in
-            ends-run Midpoint z plan plain i m
+            ends-run Midpoint between (z .depot) plan plain i m
             (rw (subst (λ (j : ℕ). actionAt plan j ≡ Bottom (s .bottom .0)) p (s .bottom .1))
-            (first-bottom z (s .bottom .0) (policyState Midpoint z plan i) (lawfulState (z .depot) plan i)
+            (first-bottom (between (suc i)) (s .bottom .0) (policyState Midpoint between (z .depot) plan i) (lawfulState (z .depot) plan i)
             (tracks-run i (λ j k. s .before j (omega arith)))))
             (λ j h. s .behind j (omega arith)) m (omega arith) (omega arith)
 
-    double-ends : {m : ℕ} → Double z plan m → Ends (policyState Midpoint z plan m) (lawfulState (z .depot) plan m)
+    -- behind the last ONCE both runs go to their ends
+    double-ends : {m : ℕ} → Double between plan m → Ends (policyState Midpoint between (z .depot) plan m) (lawfulState (z .depot) plan m)
     double-ends {m} d = go (d .last) refl
       where
-        go : (j : ℕ) → d .last ≡ j → Ends (policyState Midpoint z plan m) (lawfulState (z .depot) plan m)
+        go : (j : ℕ) → d .last ≡ j → Ends (policyState Midpoint between (z .depot) plan m) (lawfulState (z .depot) plan m)
         go zero p = absurd (let l = d .order in omega arith)
         go (suc i) p =
             let l = d .inside in
             let h = d .order in
-            ends-run Midpoint z plan plain i m
+            ends-run Midpoint between (z .depot) plan plain i m
             (rw (subst (λ (j : ℕ). actionAt plan j ≡ Once) p (d .last-once))
-            (last-once-ends z (policyState Midpoint z plan i) (lawfulState (z .depot) plan i) (between-run d i (omega arith) (omega arith))))
+            (last-once-ends (between (suc i)) (policyState Midpoint between (z .depot) plan i) (lawfulState (z .depot) plan i) (between-run d i (omega arith) (omega arith))))
             (λ j g. d .behind j (omega arith)) m (omega arith) (omega arith)
 
   -- the rule says how the entered aisles are gone through
-  rule-gone : MidpointRule z plan → NoneEntered plan (z .aisles) ⊎ (Single plan (z .aisles) ⊎ Double z plan (z .aisles))
+  rule-gone : TestRule between plan → NoneEntered plan (z .aisles) ⊎ (Single plan (z .aisles) ⊎ Double between plan (z .aisles))
   unfolding First Last
   rule-gone rule = go (first-entered wf) (last-entered wf)
     where
       go : ((j : ℕ) → Entered plan j → ⊥) ⊎ ((f : ℕ) × First plan f) → ((j : ℕ) → Entered plan j → ⊥) ⊎ ((k : ℕ) × Last plan k)
-          → NoneEntered plan (z .aisles) ⊎ (Single plan (z .aisles) ⊎ Double z plan (z .aisles))
+          → NoneEntered plan (z .aisles) ⊎ (Single plan (z .aisles) ⊎ Double between plan (z .aisles))
       go (inl none) last = inl (λ j l. none j)
       go (inr first) (inl none) = inl (λ j l. none j)
       go (inr (f, first)) (inr (k, last)) = elim (split-at f k) [
@@ -358,7 +380,7 @@ module _ {z : Layout} {plan : Plan} (wf : WellFormed z plan) where
               first-once = rule .first more f first;
               last-once = rule .last more k last;
               before = first .1;
-              between = λ j h g. rule .between more f j k first last h g;
+              pass = λ j h g. rule .between more f j k first last h g;
               behind = λ j h g. last .1 j h;
             }))
         | inr l ↦
@@ -373,7 +395,8 @@ module _ {z : Layout} {plan : Plan} (wf : WellFormed z plan) where
             }))
       ]
 
-  none-rule : ((j : ℕ) → Entered plan j → ⊥) → MidpointRule z plan
+  -- a plan that enters no aisle keeps the rule
+  none-rule : ((j : ℕ) → Entered plan j → ⊥) → TestRule between plan
   unfolding First Last
   none-rule none =
       record {
@@ -383,7 +406,8 @@ module _ {z : Layout} {plan : Plan} (wf : WellFormed z plan) where
         between = λ more i j k f l. absurd (none i (f .0));
       }
 
-  single-rule : Single plan (z .aisles) → MidpointRule z plan
+  -- a single BOTTOM keeps it
+  single-rule : Single plan (z .aisles) → TestRule between plan
   unfolding First Last
   single-rule s =
       let e = bottom-entered plan (s .place) (s .bottom) in
@@ -396,7 +420,8 @@ module _ {z : Layout} {plan : Plan} (wf : WellFormed z plan) where
         between = λ more i j k f l. absurd (more one);
       }
 
-  double-rule : Double z plan (z .aisles) → MidpointRule z plan
+  -- two ONCE and aisles between that pass the test keep it
+  double-rule : Double between plan (z .aisles) → TestRule between plan
   unfolding First Last
   double-rule d =
       record {
@@ -406,7 +431,7 @@ module _ {z : Layout} {plan : Plan} (wf : WellFormed z plan) where
         between = λ more i j k f l h g.
             let p = at-first i f in
             let q = at-last k l in
-            d .between j (omega arith) (omega arith);
+            d .pass j (omega arith) (omega arith);
       }
     where
       first-in : Entered plan (d .first)
@@ -421,7 +446,8 @@ module _ {z : Layout} {plan : Plan} (wf : WellFormed z plan) where
       at-last : (j : ℕ) → Last plan j → j ≡ d .last
       at-last j l = same-number j (d .last) (λ h. l .1 (d .last) h last-in) (λ h. d .behind j h (entered-inside wf j (l .0) .1) (l .0))
 
-  gone-rule : GoneThrough z plan (z .aisles) closed → MidpointRule z plan
+  -- what has been gone through keeps the rule
+  gone-rule : GoneThrough between plan (z .aisles) closed → TestRule between plan
   gone-rule (inl (none, c)) = none-rule (λ j e. none j (entered-inside wf j e .1) e)
   gone-rule (inr (inl (o, c))) = absurd (omega arith)
   gone-rule (inr (inr (inl s, over))) = single-rule s
@@ -429,15 +455,31 @@ module _ {z : Layout} {plan : Plan} (wf : WellFormed z plan) where
 
   -- MIDPOINT's table closes off a plan just when EXACT's does and the rule is kept
   pub midpoint-table : ((j : ℕ) → Plain (passageAt plan j))
-      → (policyState Midpoint z plan (z .aisles) ≡ closed) ↔ ((lawfulState (z .depot) plan (z .aisles) ≡ closed) × MidpointRule z plan)
+      → (policyState Midpoint between (z .depot) plan (z .aisles) ≡ closed) ↔ ((lawfulState (z .depot) plan (z .aisles) ≡ closed) × TestRule between plan)
   midpoint-table plain = (
     (λ c. (
-      subst (λ (o : State). Fitting o (lawfulState (z .depot) plan (z .aisles))) c (midpoint-fits z plan (z .aisles)),
-      gone-rule (subst (GoneThrough z plan (z .aisles)) c (gone-run (z .aisles) (subst Live (sym c) tt))),
+      subst (λ (o : State). Fitting o (lawfulState (z .depot) plan (z .aisles))) c (midpoint-fits between (z .depot) plan (z .aisles)),
+      gone-rule (subst (GoneThrough between plan (z .aisles)) c (gone-run (z .aisles) (subst Live (sym c) tt))),
     )),
     (λ h. elim (rule-gone (h .1)) [
-      | inl none ↦ subst (λ (x : State). Tracks (policyState Midpoint z plan (z .aisles)) x) (h .0) (tracks-run plain (z .aisles) none)
-      | inr (inl s) ↦ subst (λ (x : State). Ends (policyState Midpoint z plan (z .aisles)) x) (h .0) (single-ends plain s)
-      | inr (inr d) ↦ subst (λ (x : State). Ends (policyState Midpoint z plan (z .aisles)) x) (h .0) (double-ends plain d)
+      | inl none ↦ subst (λ (x : State). Tracks (policyState Midpoint between (z .depot) plan (z .aisles)) x) (h .0) (tracks-run plain (z .aisles) none)
+      | inr (inl s) ↦ subst (λ (x : State). Ends (policyState Midpoint between (z .depot) plan (z .aisles)) x) (h .0) (single-ends plain s)
+      | inr (inr d) ↦ subst (λ (x : State). Ends (policyState Midpoint between (z .depot) plan (z .aisles)) x) (h .0) (double-ends plain d)
     ]),
   )
+
+-- with the same test LARGEST's run is MIDPOINT's
+pub largest-run : (between : ℕ → Action → Bool) (d : ℕ) (plan : Plan) (n : ℕ) → policyState Largest between d plan n ≡ policyState Midpoint between d plan n
+largest-run between d plan zero = refl
+largest-run between d plan (suc i) = rw (largest-run between d plan i)
+
+-- what keeps the rule keeps it with every weaker demand on the aisles between
+pub weaker-rule : {Between Weaker : ℕ → Action → Type 0} {plan : Plan} → ((j : ℕ) (a : Action) → Between j a → Weaker j a)
+    → MidpointRule Between plan → MidpointRule Weaker plan
+weaker-rule {plan = plan} weaker rule =
+    record {
+      single = rule .single;
+      first = rule .first;
+      last = rule .last;
+      between = λ more i j k f l low high. weaker j (actionAt plan j) (rule .between more i j k f l low high);
+    }

@@ -5,7 +5,7 @@ use mathlib.Core.Logic.{_↔_}
 use mathlib.Core.Bool.{Bool, true, false, _&&_, _||_}
 use Rattle.rules.specs.declared.Layout.{Layout}
 use Rattle.rules.specs.declared.Policy.{Policy}
-use Rattle.rules.specs.declared.Policy.the-variants.{Exact, Return, Traversal, Midpoint, Composite}
+use Rattle.rules.specs.declared.Policy.the-variants.{Exact, Return, Traversal, Midpoint, Composite, Largest}
 use Rattle.rules.specs.declared.Action.{Action}
 use Rattle.rules.specs.declared.Action.the-variants.{Void, Bottom, Top, Gap, Once, Twice}
 use Rattle.rules.specs.declared.Passage.{Passage}
@@ -13,50 +13,82 @@ use Rattle.rules.specs.declared.Passage.the-variants.{P00, P02, P11, P20, P22}
 use Rattle.rules.specs.Jobs.{Job, holdsListed}
 use Rattle.rules.specs.Plans.{Plan, WellFormed, actionAt, passageAt}
 use Rattle.rules.specs.Lawful.{Lawful}
-use Rattle.rules.specs.Policies.{actionNamed, passageNamed, OwnRule, PolicyRules, Follows}
-use Rattle.rules.specs.Machine.{State, closed, lawfulStep, policyStep, isVoid, mayEnter, actionPossible}
+use Rattle.rules.specs.Policies.{actionNamed, passageNamed, halved, OwnRule, PolicyRules, Follows}
+use Rattle.rules.specs.Machine.{State, closed, lawfulStep, policyStep, keepsLargestGap, betweenTest, isVoid, mayEnter, actionPossible}
+use Rattle.rules.proofs.Stops.{largest-gap}
 use Rattle.tours.specs.Prefixes.{lawfulState, policyState}
 use Rattle.tours.proofs.Basics.{or-true, false-not-true}
 use Rattle.tours.proofs.Exact.{closed-iff-lawful}
 use Rattle.tours.proofs.Runs.{Possible}
 use Rattle.tours.proofs.Traversal.{traversal-table}
-use Rattle.tours.proofs.Midpoint.{midpoint-table}
+use Rattle.tours.proofs.Midpoint.{BetweenLaws, TestRule, midpoint-table, largest-run, weaker-rule}
 
 -- EXACT, RETURN and COMPOSITE share one table
-same-run : (policy : Policy) (z : Layout) (plan : Plan) → ((a : Action) (s : State) → policyStep policy z a s ≡ lawfulStep a s)
-    → (n : ℕ) → policyState policy z plan n ≡ lawfulState (z .depot) plan n
-same-run policy z plan same zero = refl
-same-run policy z plan same (suc i) =
-    rw (same-run policy z plan same i, same (actionAt plan (suc i)) (lawfulState (z .depot) plan i))
+same-run : (policy : Policy) (between : ℕ → Action → Bool) (d : ℕ) (plan : Plan)
+    → ((test : Action → Bool) (a : Action) (s : State) → policyStep policy test a s ≡ lawfulStep a s)
+    → (n : ℕ) → policyState policy between d plan n ≡ lawfulState d plan n
+same-run policy between d plan same zero = refl
+same-run policy between d plan same (suc i) =
+    rw (same-run policy between d plan same i, same (between (suc i)) (actionAt plan (suc i)) (lawfulState d plan i))
 
-module _ {z : Layout} {plan : Plan} (wf : WellFormed z plan) (depot-low : 1 ≤ z .depot) where
-  shared-table : (policy : Policy) → ((a : Action) (s : State) → policyStep policy z a s ≡ lawfulStep a s)
-      → (policyState policy z plan (z .aisles) ≡ closed) ↔ (Lawful z plan × Unit {0})
+-- MIDPOINT's test, the halves, keeps the laws of a test for aisles between
+halves-laws : (z : Layout) → BetweenLaws (λ j a. halved z a)
+halves-laws z = record { void = λ j. refl; once = λ j. refl; twice = λ j. refl }
+
+-- and so does LARGEST's, the largest gap
+pub largest-laws : (job : Job) → BetweenLaws (keepsLargestGap job)
+unfolding keepsLargestGap
+largest-laws job = record { void = λ j. refl; once = λ j. refl; twice = λ j. refl }
+
+-- LARGEST's rule is the rule with its test
+largest-rule : (job : Job) (plan : Plan) → TestRule (keepsLargestGap job) plan ↔ OwnRule Largest job plan
+largest-rule job plan = (weaker-rule (λ j a. largest-gap job j a .0), weaker-rule (λ j a. largest-gap job j a .1))
+
+module _ (job : Job) {plan : Plan} (wf : WellFormed (job .layout) plan) (depot-low : 1 ≤ job .layout .depot) where
+  -- the policy's table, with its test for aisles between, closes off the plan
+  abbrev Closed : Policy → Type 0
+  Closed policy = policyState policy (betweenTest policy job) (job .layout .depot) plan (job .layout .aisles) ≡ closed
+
+  -- a policy with EXACT's table has no rule of its own
+  shared-table : (policy : Policy) → ((test : Action → Bool) (a : Action) (s : State) → policyStep policy test a s ≡ lawfulStep a s)
+      → Closed policy ↔ (Lawful (job .layout) plan × Unit {0})
   shared-table policy same =
-      let r = same-run policy z plan same (z .aisles) in
+      let r = same-run policy (betweenTest policy job) (job .layout .depot) plan same (job .layout .aisles) in
       let e = closed-iff-lawful wf depot-low in
       ((λ c. (e .0 (sym r ∙ c), tt)), (λ h. r ∙ e .1 (h .0)))
 
+  -- a rule beside EXACT's table is a rule beside the lawful plans
   own-table : (policy : Policy) (Rule : Type 0)
-      → (policyState policy z plan (z .aisles) ≡ closed) ↔ ((lawfulState (z .depot) plan (z .aisles) ≡ closed) × Rule)
-      → (policyState policy z plan (z .aisles) ≡ closed) ↔ (Lawful z plan × Rule)
+      → Closed policy ↔ ((lawfulState (job .layout .depot) plan (job .layout .aisles) ≡ closed) × Rule)
+      → Closed policy ↔ (Lawful (job .layout) plan × Rule)
   own-table policy Rule t =
       let e = closed-iff-lawful wf depot-low in
       ((λ c. let h = t .0 c in (e .0 (h .0), h .1)), (λ h. t .1 (e .1 (h .0), h .1)))
 
+  -- LARGEST's table is MIDPOINT's with the largest gap as the test
+  largest-table : ((j : ℕ) → passageNamed Largest (passageAt plan j) ≡ true) → Closed Largest ↔ (Lawful (job .layout) plan × OwnRule Largest job plan)
+  largest-table named =
+      let r = largest-run (keepsLargestGap job) (job .layout .depot) plan (job .layout .aisles) in
+      let t = midpoint-table wf (largest-laws job) named in
+      let rule = largest-rule job plan in
+      own-table Largest (OwnRule Largest job plan) ((λ c. let h = t .0 (sym r ∙ c) in (h .0, rule .0 (h .1))), (λ h. r ∙ t .1 (h .0, rule .1 (h .1))))
+
   -- a policy's table closes off just the lawful plans that keep the policy's own rule
   pub policy-table : (policy : Policy) → ((j : ℕ) → passageNamed policy (passageAt plan j) ≡ true)
-      → (policyState policy z plan (z .aisles) ≡ closed) ↔ (Lawful z plan × OwnRule policy z plan)
-  policy-table Exact named = shared-table Exact (λ a s. refl)
-  policy-table Return named = shared-table Return (λ a s. refl)
-  policy-table Traversal named = own-table Traversal (OwnRule Traversal z plan) (traversal-table wf named)
-  policy-table Midpoint named = own-table Midpoint (OwnRule Midpoint z plan) (midpoint-table wf named)
-  policy-table Composite named = shared-table Composite (λ a s. refl)
+      → Closed policy ↔ (Lawful (job .layout) plan × OwnRule policy job plan)
+  policy-table Exact named = shared-table Exact (λ test a s. refl)
+  policy-table Return named = shared-table Return (λ test a s. refl)
+  policy-table Traversal named = own-table Traversal (OwnRule Traversal job plan) (traversal-table wf (betweenTest Traversal job) named)
+  policy-table Midpoint named = own-table Midpoint (OwnRule Midpoint job plan) (midpoint-table wf (halves-laws (job .layout)) named)
+  policy-table Composite named = shared-table Composite (λ test a s. refl)
+  policy-table Largest named = largest-table named
 
+-- both parts of a true conjunction
 both-true : (a b : Bool) → a && b ≡ true → (a ≡ true) × (b ≡ true)
 both-true true b e = (refl, e)
 both-true false b e = absurd (false-not-true e)
 
+-- an action that is possible in any aisle is VOID
 void-if : (a : Action) → isVoid a || false ≡ true → a ≡ Void
 void-if Void e = refl
 void-if (Bottom i) e = absurd (false-not-true e)
@@ -65,6 +97,7 @@ void-if (Gap h i) e = absurd (false-not-true e)
 void-if Once e = absurd (false-not-true e)
 void-if Twice e = absurd (false-not-true e)
 
+-- EXACT names every action
 all-actions : (a : Action) → actionNamed Exact a ≡ true
 all-actions Void = refl
 all-actions (Bottom i) = refl
@@ -73,6 +106,7 @@ all-actions (Gap h i) = refl
 all-actions Once = refl
 all-actions Twice = refl
 
+-- EXACT names every passage
 all-passages : (p : Passage) → passageNamed Exact p ≡ true
 all-passages P00 = refl
 all-passages P02 = refl
@@ -83,7 +117,8 @@ all-passages P22 = refl
 module _ (job : Job) (plan : Plan) where
   -- a policy that lets only aisles with a listed article be entered
   module _ (listed-only : (b : Bool) → mayEnter (job .policy) b ≡ b) where
-    listed-rules : ((j : ℕ) → Possible job plan j) × OwnRule (job .policy) (job .layout) plan → PolicyRules job plan
+    -- what the tests ask and its own rule are the rules of the policy
+    listed-rules : ((j : ℕ) → Possible job plan j) × OwnRule (job .policy) job plan → PolicyRules job plan
     unfolding actionPossible
     listed-rules (possible, own) =
         record {
@@ -98,7 +133,8 @@ module _ (job : Job) (plan : Plan) where
             both-true (actionNamed (job .policy) (actionAt plan j)) (isVoid (actionAt plan j) || mayEnter (job .policy) (holdsListed job j))
             (possible j .action)
 
-    rules-listed : PolicyRules job plan → ((j : ℕ) → Possible job plan j) × OwnRule (job .policy) (job .layout) plan
+    -- the rules of the policy answer the tests
+    rules-listed : PolicyRules job plan → ((j : ℕ) → Possible job plan j) × OwnRule (job .policy) job plan
     unfolding actionPossible
     rules-listed rules = (
       (λ j. record {
@@ -112,12 +148,13 @@ module _ (job : Job) (plan : Plan) where
         enter j true e = rw e (or-true (isVoid (actionAt plan j)))
         enter j false e = rw (rules .void j e)
 
-    listed-follows : (((j : ℕ) → Possible job plan j) × OwnRule (job .policy) (job .layout) plan) ↔ PolicyRules job plan
+    -- the two together
+    listed-follows : (((j : ℕ) → Possible job plan j) × OwnRule (job .policy) job plan) ↔ PolicyRules job plan
     listed-follows = (listed-rules, rules-listed)
 
   -- what the machine's tests ask, with the policy's own rule, is what the policy asks
   pub follows-rules : (policy : Policy) → job .policy ≡ policy
-      → (((j : ℕ) → Possible job plan j) × OwnRule (job .policy) (job .layout) plan) ↔ Follows policy job plan
+      → (((j : ℕ) → Possible job plan j) × OwnRule (job .policy) job plan) ↔ Follows policy job plan
   unfolding actionPossible
   follows-rules Exact e = (
     (λ h. tt),
@@ -133,3 +170,4 @@ module _ (job : Job) (plan : Plan) where
   follows-rules Traversal e = listed-follows (λ b. rw e)
   follows-rules Midpoint e = listed-follows (λ b. rw e)
   follows-rules Composite e = listed-follows (λ b. rw e)
+  follows-rules Largest e = listed-follows (λ b. rw e)

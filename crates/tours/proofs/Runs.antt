@@ -7,9 +7,8 @@ use mathlib.Core.Logic.{inl, inr, _↔_}
 use mathlib.Core.List.{List, [], _∷_, tail}
 use mathlib.Core.Bool.{Bool, true, false, cond}
 use lib.ListN.{length}
-use Rattle.rules.specs.declared.Layout.{Layout}
 use Rattle.rules.specs.declared.Policy.{Policy}
-use Rattle.rules.specs.declared.Policy.the-variants.{Exact, Return, Traversal, Midpoint, Composite}
+use Rattle.rules.specs.declared.Policy.the-variants.{Exact, Return, Traversal, Midpoint, Composite, Largest}
 use Rattle.rules.specs.declared.Action.{Action}
 use Rattle.rules.specs.declared.Action.the-variants.{Void, Bottom, Top, Gap, Once, Twice}
 use Rattle.rules.specs.declared.Passage.{Passage}
@@ -18,17 +17,20 @@ use Rattle.rules.specs.Lists.{nth, headOr}
 use Rattle.rules.specs.Jobs.{Job}
 use Rattle.rules.specs.Plans.{Plan, WellFormed, actionAt, passageAt}
 use Rattle.rules.specs.Policies.{passageNamed}
-use Rattle.rules.specs.Machine.{State, nothing, closed, atFront, atBack, odd, joined, split, ending, dead, policyStep, crossStep, actionPossible, actionStep, passageStep, runFrom, isClosed, closesOff}
+use Rattle.rules.specs.Machine.{State, nothing, closed, atFront, atBack, odd, joined, split, ending, dead}
+use Rattle.rules.specs.Machine.{midpointStep, policyStep, betweenTest, crossStep, actionPossible, actionStep, passageStep, runFrom, isClosed, closesOff}
 use Rattle.rules.proofs.EmptyPlan.{named-void}
 use Rattle.tours.specs.Prefixes.{stateAt, policyState}
 use Rattle.tours.proofs.Basics.{below, split-at}
 use Rattle.tours.proofs.Aisles.{action-past, passage-past}
 use Rattle.tours.proofs.Parity.{Live, live-before-action, live-before-passage}
 
+-- the first element has the number 1
 first-of : {A : Type 0} (xs : List A) (d : A) → nth xs 1 d ≡ headOr d xs
 first-of [] d = refl
 first-of (x ∷ xs) d = refl
 
+-- behind the first element the numbers are one less
 rest-of : {A : Type 0} (xs : List A) (k : ℕ) (d : A) → nth (tail xs) (suc k) d ≡ nth xs (suc (suc k)) d
 rest-of [] k d = refl
 rest-of (x ∷ xs) k d = refl
@@ -49,7 +51,8 @@ run-from job plan (a ∷ actions) passages j n f g e =
     (λ k i h. g (suc k) i (omega arith) ∙ sym (rest-of passages k P00))
     (omega arith))
 
-is-closed : (s : State) → isClosed s ≡ true → s ≡ closed
+-- a state that is closed is `closed`
+pub is-closed : (s : State) → isClosed s ≡ true → s ≡ closed
 is-closed nothing e = cc
 is-closed closed e = refl
 is-closed atFront e = cc
@@ -72,31 +75,36 @@ closes-off job {plan} wf =
     (omega arith) in
     ((λ a. sym r ∙ is-closed (runFrom job 1 nothing (plan .actions) (plan .passages)) a), (λ c. ap isClosed (r ∙ c)))
 
+-- MIDPOINT's step from `dead` leads to `dead`, whatever the test for aisles between
+live-before-midpoint : (between : Action → Bool) (a : Action) → Live (midpointStep between a dead) → ⊥
+live-before-midpoint between Void l = l
+live-before-midpoint between (Bottom i) l = l
+live-before-midpoint between (Top i) l = l
+live-before-midpoint between (Gap h i) l = l
+live-before-midpoint between Once l = l
+live-before-midpoint between Twice l = l
+
 -- the policy's step from `dead` leads to `dead`
-pub live-before-step : (policy : Policy) (z : Layout) (a : Action) (s : State) → Live (policyStep policy z a s) → Live s
-live-before-step policy z a nothing l = tt
-live-before-step policy z a closed l = tt
-live-before-step policy z a atFront l = tt
-live-before-step policy z a atBack l = tt
-live-before-step policy z a odd l = tt
-live-before-step policy z a joined l = tt
-live-before-step policy z a split l = tt
-live-before-step policy z a ending l = tt
-live-before-step Exact z a dead l = live-before-action a dead l
-live-before-step Return z a dead l = live-before-action a dead l
-live-before-step Composite z a dead l = live-before-action a dead l
-live-before-step Traversal z Void dead l = l
-live-before-step Traversal z (Bottom i) dead l = l
-live-before-step Traversal z (Top i) dead l = l
-live-before-step Traversal z (Gap h i) dead l = l
-live-before-step Traversal z Once dead l = l
-live-before-step Traversal z Twice dead l = l
-live-before-step Midpoint z Void dead l = l
-live-before-step Midpoint z (Bottom i) dead l = l
-live-before-step Midpoint z (Top i) dead l = l
-live-before-step Midpoint z (Gap h i) dead l = l
-live-before-step Midpoint z Once dead l = l
-live-before-step Midpoint z Twice dead l = l
+pub live-before-step : (policy : Policy) (between : Action → Bool) (a : Action) (s : State) → Live (policyStep policy between a s) → Live s
+live-before-step policy between a nothing l = tt
+live-before-step policy between a closed l = tt
+live-before-step policy between a atFront l = tt
+live-before-step policy between a atBack l = tt
+live-before-step policy between a odd l = tt
+live-before-step policy between a joined l = tt
+live-before-step policy between a split l = tt
+live-before-step policy between a ending l = tt
+live-before-step Exact between a dead l = live-before-action a dead l
+live-before-step Return between a dead l = live-before-action a dead l
+live-before-step Composite between a dead l = live-before-action a dead l
+live-before-step Traversal between Void dead l = l
+live-before-step Traversal between (Bottom i) dead l = l
+live-before-step Traversal between (Top i) dead l = l
+live-before-step Traversal between (Gap h i) dead l = l
+live-before-step Traversal between Once dead l = l
+live-before-step Traversal between Twice dead l = l
+live-before-step Midpoint between a dead l = live-before-midpoint between a l
+live-before-step Largest between a dead l = live-before-midpoint between a l
 
 -- a test that does not lead to `dead` has passed
 pub live-test : (b : Bool) (s : State) → Live (cond b s dead) → (b ≡ true) × Live s
@@ -108,20 +116,45 @@ pub record Possible (job : Job) (plan : Plan) (j : ℕ) : Type 0 where
   pub action : actionPossible job j (actionAt plan j) ≡ true
   pub passage : passageNamed (job .policy) (passageAt plan j) ≡ true
 
+module _ (job : Job) (j : ℕ) where
+  -- an action that does not lead to `dead` is the policy's, and so is its step
+  pub live-action : (a : Action) (s : State) → Live (actionStep job j a s)
+      → (actionPossible job j a ≡ true) × Live (policyStep (job .policy) (betweenTest (job .policy) job j) a s)
+  unfolding actionStep
+  live-action a s l = live-test (actionPossible job j a) _ l
+
+  -- a passage that does not lead to `dead` is the policy's and begins at a live state
+  pub live-passage : (p : Passage) (s : State) → Live (passageStep job j p s) → (passageNamed (job .policy) p ≡ true) × Live s
+  unfolding passageStep
+  live-passage p s l =
+      let d = job .layout .depot in
+      let u = live-test (passageNamed (job .policy) p) (crossStep d j p s) l in
+      (u .0, live-before-passage d j p s (u .1))
+
+  -- an aisle and the passage behind it that do not lead to `dead` begin at a live state
+  live-before-both : (a : Action) (p : Passage) (s : State) → Live (passageStep job j p (actionStep job j a s)) → Live s
+  live-before-both a p s l =
+      live-before-step (job .policy) (betweenTest (job .policy) job j) a s
+      (live-action a s (live-passage p (actionStep job j a s) l .1) .1)
+
+-- a run that does not lead to `dead` begins at a live state
+pub run-live : (job : Job) (j : ℕ) (s : State) (actions : List Action) (passages : List Passage) → Live (runFrom job j s actions passages) → Live s
+run-live job j s [] passages l = l
+run-live job j s (a ∷ actions) passages l =
+    let p = headOr P00 passages in
+    live-before-both job j a p s (run-live job (suc j) (passageStep job j p (actionStep job j a s)) actions (tail passages) l)
+
 module _ (job : Job) (plan : Plan) where
   -- a step that does not lead to `dead` is the policy's and begins at a live state
   possible-step : (i : ℕ) → Live (stateAt job plan (suc i)) → Possible job plan (suc i) × Live (stateAt job plan i)
-  unfolding actionStep passageStep
   possible-step i l =
       let s = stateAt job plan i in
       let a = actionAt plan (suc i) in
       let p = passageAt plan (suc i) in
-      let step = policyStep (job .policy) (job .layout) a s in
-      let behind = cond (actionPossible job (suc i) a) step dead in
-      let u = live-test (passageNamed (job .policy) p) (crossStep (job .layout .depot) (suc i) p behind) l in
-      let v = live-test (actionPossible job (suc i) a) step (live-before-passage (job .layout .depot) (suc i) p behind (u .1)) in
-      (record { action = v .0; passage = u .0 }, live-before-step (job .policy) (job .layout) a s (v .1))
+      let u = live-passage job (suc i) p (actionStep job (suc i) a s) l in
+      (record { action = live-action job (suc i) a s (u .1) .0; passage = u .0 }, live-before-both job (suc i) a p s l)
 
+  -- all aisles before a live state are the policy's
   possible-until : (n j : ℕ) → suc j ≤ n → Live (stateAt job plan n) → Possible job plan (suc j)
   possible-until zero j l live = absurd (omega arith)
   possible-until (suc n) j l live =
@@ -132,7 +165,8 @@ module _ (job : Job) (plan : Plan) where
       ]
 
   -- where all is the policy's, the tests fall away
-  tests-pass : ((j : ℕ) → Possible job plan j) → (n : ℕ) → stateAt job plan n ≡ policyState (job .policy) (job .layout) plan n
+  tests-pass : ((j : ℕ) → Possible job plan j) → (n : ℕ)
+      → stateAt job plan n ≡ policyState (job .policy) (betweenTest (job .policy) job) (job .layout .depot) plan n
   unfolding actionStep passageStep
   tests-pass f zero = refl
   tests-pass f (suc i) = rw (f (suc i) .action, f (suc i) .passage, tests-pass f i)
@@ -145,6 +179,7 @@ module _ (job : Job) {plan : Plan} (wf : WellFormed (job .layout) plan) where
       let v = named-void (job .policy) in
       record { action = rw (e, v .0); passage = rw f (v .1) }
 
+  -- in a plan that is closed off all is the policy's
   all-possible : stateAt job plan (job .layout .aisles) ≡ closed → (j : ℕ) → Possible job plan j
   unfolding actionAt passageAt
   all-possible c zero = outside zero refl refl
@@ -155,7 +190,7 @@ module _ (job : Job) {plan : Plan} (wf : WellFormed (job .layout) plan) where
 
   -- the machine closes off a plan whose actions and passages are the policy's and which the policy's table closes off
   pub closes-by-table : (closesOff job plan ≡ true)
-      ↔ (((j : ℕ) → Possible job plan j) × (policyState (job .policy) (job .layout) plan (job .layout .aisles) ≡ closed))
+      ↔ (((j : ℕ) → Possible job plan j) × (policyState (job .policy) (betweenTest (job .policy) job) (job .layout .depot) plan (job .layout .aisles) ≡ closed))
   closes-by-table = (
     (λ h.
         let c = closes-off job wf .0 h in

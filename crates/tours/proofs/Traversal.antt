@@ -3,6 +3,7 @@ use Prim.Native.Nat.{ℕ, zero, suc, _%_, _≤_, _<_}
 use native.Mathlib.Omega.{arith}
 use mathlib.Core.Path.{_≡_, refl, sym, subst, _∙_}
 use mathlib.Core.Logic.{_⊎_, inl, inr, _↔_}
+use mathlib.Core.Bool.{Bool}
 use Rattle.rules.specs.declared.Layout.{Layout}
 use Rattle.rules.specs.declared.Policy.the-variants.{Traversal}
 use Rattle.rules.specs.declared.Action.{Action}
@@ -35,6 +36,7 @@ record EndsBottom (plan : Plan) (n : ℕ) : Type 0 where
 abbrev GoneThrough : Plan → ℕ → State → Type 0
 GoneThrough plan n o = (AllOnce plan n × (enteredUpTo plan n % 2 ≡ oddness o)) ⊎ (EndsBottom plan n × Over o)
 
+-- ONCE keeps the two runs the same
 tracks-once : (o x : State) → Tracks o x → TracksBehind (traversalStep Once o) (lawfulStep Once x)
 tracks-once o nothing e = rw e
 tracks-once o closed e = tt
@@ -46,6 +48,7 @@ tracks-once o split e = absurd e
 tracks-once o ending e = absurd e
 tracks-once o dead e = tt
 
+-- at BOTTOM the policy's run begins to end
 tracks-bottom : (k : ℕ) (o x : State) → Tracks o x → Ends (traversalStep (Bottom k) o) (lawfulStep (Bottom k) x)
 tracks-bottom k o nothing e = rw e
 tracks-bottom k o closed e = tt
@@ -57,14 +60,16 @@ tracks-bottom k o split e = absurd e
 tracks-bottom k o ending e = absurd e
 tracks-bottom k o dead e = tt
 
-module _ {z : Layout} {plan : Plan} (wf : WellFormed z plan) where
+module _ {z : Layout} {plan : Plan} (wf : WellFormed z plan) (between : ℕ → Action → Bool) where
   module _ (i : ℕ) where
+    -- one more ONCE, or VOID
     still-once : AllOnce plan i → (Entered plan (suc i) → actionAt plan (suc i) ≡ Once) → AllOnce plan (suc i)
     still-once all new j l e = elim (below j i l) [
       | inl h ↦ all j h e
       | inr p ↦ rw p (new (rw p at e))
     ]
 
+    -- one more VOID behind the BOTTOM
     still-ended : EndsBottom plan i → actionAt plan (suc i) ≡ Void → EndsBottom plan (suc i)
     still-ended b e =
         record {
@@ -79,6 +84,7 @@ module _ {z : Layout} {plan : Plan} (wf : WellFormed z plan) where
           odd-number = rw (count-stays plan i (void-not-entered plan (suc i) e)) (b .odd-number);
         }
 
+    -- a BOTTOM behind an even number of ONCE
     now-ended : AllOnce plan i → enteredUpTo plan i % 2 ≡ 0 → IsBottom (actionAt plan (suc i)) → EndsBottom plan (suc i)
     now-ended all even b =
         record {
@@ -90,6 +96,7 @@ module _ {z : Layout} {plan : Plan} (wf : WellFormed z plan) where
           odd-number = let c = count-rises plan i (bottom-entered plan (suc i) b) in omega arith;
         }
 
+    -- what has been gone through with one more action
     gone-action : (a : Action) → actionAt plan (suc i) ≡ a → (o : State) → Live (traversalStep a o)
         → GoneThrough plan i o → GoneThrough plan (suc i) (traversalStep a o)
     unfolding IsBottom
@@ -124,32 +131,34 @@ module _ {z : Layout} {plan : Plan} (wf : WellFormed z plan) where
     gone-action Once e dead l g = absurd l
     gone-action Twice e o l g = absurd l
 
+    -- a passage adds nothing to it
     gone-passage : (d : ℕ) (p : Passage) (o : State) → Live (crossStep d (suc i) p o)
         → GoneThrough plan (suc i) o → GoneThrough plan (suc i) (crossStep d (suc i) p o)
     gone-passage d p o l (inl (all, c)) = inl (all, c ∙ sym (passage-parity d (suc i) p o l .1))
     gone-passage d p o l (inr (b, over)) = inr (b, over-cross d (suc i) p o over)
 
-  gone-run : (n : ℕ) → Live (policyState Traversal z plan n) → GoneThrough plan n (policyState Traversal z plan n)
+  -- what the run has gone through up to aisle n
+  gone-run : (n : ℕ) → Live (policyState Traversal between (z .depot) plan n) → GoneThrough plan n (policyState Traversal between (z .depot) plan n)
   unfolding actionAt Entered
   gone-run zero l = inl ((λ j h e. absurd (let k = entered-inside wf j e in omega arith)), refl)
   gone-run (suc i) l =
       let a = actionAt plan (suc i) in
       let p = passageAt plan (suc i) in
-      let o = policyState Traversal z plan i in
+      let o = policyState Traversal between (z .depot) plan i in
       let behind = live-before-passage (z .depot) (suc i) p (traversalStep a o) l in
       gone-passage i (z .depot) p (traversalStep a o) l
-      (gone-action i a refl o behind (gone-run i (live-before-step Traversal z a o behind)))
+      (gone-action i a refl o behind (gone-run i (live-before-step Traversal (between (suc i)) a o behind)))
 
   module _ (plain : (j : ℕ) → Plain (passageAt plan j)) where
     -- as long as all is ONCE, the two runs are the same
-    tracks-run : (n : ℕ) → AllOnce plan n → Tracks (policyState Traversal z plan n) (lawfulState (z .depot) plan n)
+    tracks-run : (n : ℕ) → AllOnce plan n → Tracks (policyState Traversal between (z .depot) plan n) (lawfulState (z .depot) plan n)
     tracks-run zero all = refl
     tracks-run (suc i) all =
         tracks-cross (z .depot) (suc i) (passageAt plan (suc i)) (plain (suc i)) _ _
         (step (entered? plan (suc i)) (tracks-run i (λ j l. all j (omega arith))))
       where
         o : State
-        o = policyState Traversal z plan i
+        o = policyState Traversal between (z .depot) plan i
 
         x : State
         x = lawfulState (z .depot) plan i
@@ -160,17 +169,17 @@ module _ {z : Layout} {plan : Plan} (wf : WellFormed z plan) where
         step (inr n) t = rw (not-entered-void plan (suc i) n) (tracks-void o x t)
 
     -- at the BOTTOM the policy's run begins to end
-    bottom-ends : {m : ℕ} (b : EndsBottom plan m) → Ends (policyState Traversal z plan m) (lawfulState (z .depot) plan m)
+    bottom-ends : {m : ℕ} (b : EndsBottom plan m) → Ends (policyState Traversal between (z .depot) plan m) (lawfulState (z .depot) plan m)
     unfolding IsBottom
     bottom-ends {m} b = go (b .place) refl
       where
-        go : (j : ℕ) → b .place ≡ j → Ends (policyState Traversal z plan m) (lawfulState (z .depot) plan m)
+        go : (j : ℕ) → b .place ≡ j → Ends (policyState Traversal between (z .depot) plan m) (lawfulState (z .depot) plan m)
         go zero p = absurd (let e = entered-inside wf (b .place) (bottom-entered plan (b .place) (b .bottom)) in omega arith)
         go (suc i) p =
             let l = b .inside in
-            ends-run Traversal z plan plain i m
+            ends-run Traversal between (z .depot) plan plain i m
             (rw (subst (λ (j : ℕ). actionAt plan j ≡ Bottom (b .bottom .0)) p (b .bottom .1))
-            (tracks-bottom (b .bottom .0) (policyState Traversal z plan i) (lawfulState (z .depot) plan i)
+            (tracks-bottom (b .bottom .0) (policyState Traversal between (z .depot) plan i) (lawfulState (z .depot) plan i)
             (tracks-run i (λ j k e. b .others j (omega arith) e))))
             (λ j h. b .behind j (omega arith)) m (omega arith) (omega arith)
 
@@ -198,6 +207,7 @@ module _ {z : Layout} {plan : Plan} (wf : WellFormed z plan) where
             odd-number = odd-one;
           })
 
+  -- what has been gone through keeps the rule
   gone-rule : GoneThrough plan (z .aisles) closed → TraversalRule plan
   unfolding Last
   gone-rule (inl (all, c)) =
@@ -238,14 +248,14 @@ module _ {z : Layout} {plan : Plan} (wf : WellFormed z plan) where
 
   -- TRAVERSAL's table closes off a plan just when EXACT's does and the rule is kept
   pub traversal-table : ((j : ℕ) → Plain (passageAt plan j))
-      → (policyState Traversal z plan (z .aisles) ≡ closed) ↔ ((lawfulState (z .depot) plan (z .aisles) ≡ closed) × TraversalRule plan)
+      → (policyState Traversal between (z .depot) plan (z .aisles) ≡ closed) ↔ ((lawfulState (z .depot) plan (z .aisles) ≡ closed) × TraversalRule plan)
   traversal-table plain = (
     (λ c. (
-      subst (λ (o : State). Fitting o (lawfulState (z .depot) plan (z .aisles))) c (traversal-fits z plan (z .aisles)),
+      subst (λ (o : State). Fitting o (lawfulState (z .depot) plan (z .aisles))) c (traversal-fits between (z .depot) plan (z .aisles)),
       gone-rule (subst (GoneThrough plan (z .aisles)) c (gone-run (z .aisles) (subst Live (sym c) tt))),
     )),
     (λ h. elim (rule-gone (h .1)) [
-      | inl all ↦ subst (λ (x : State). Tracks (policyState Traversal z plan (z .aisles)) x) (h .0) (tracks-run plain (z .aisles) all)
-      | inr b ↦ subst (λ (x : State). Ends (policyState Traversal z plan (z .aisles)) x) (h .0) (bottom-ends plain b)
+      | inl all ↦ subst (λ (x : State). Tracks (policyState Traversal between (z .depot) plan (z .aisles)) x) (h .0) (tracks-run plain (z .aisles) all)
+      | inr b ↦ subst (λ (x : State). Ends (policyState Traversal between (z .depot) plan (z .aisles)) x) (h .0) (bottom-ends plain b)
     ]),
   )

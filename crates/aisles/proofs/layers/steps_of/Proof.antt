@@ -11,11 +11,11 @@ use Rattle.aisles.proofs.layers.steps_of.Statement.{statement}
 use Rattle.aisles.proofs.layers.steps_of.Tie as tie
 
 abbrev Inv-loop : tie.InvT-loop
-Inv-loop kind halves policy holds out₀ s₀ out s = (s ≤ 8) × (length out ≡ 8) ×
-    ((k : ℕ) → k < s → getD out k 0 ≡ stateCode (stepOf (policyOf policy) (sampleAction kind) (bit holds) (bit halves) (stateOf k)))
+Inv-loop kind between policy holds out₀ s₀ out s = (s ≤ 8) × (length out ≡ 8) ×
+    ((k : ℕ) → k < s → getD out k 0 ≡ stateCode (stepOf (policyOf policy) (sampleAction kind) (bit holds) (bit between) (stateOf k)))
 
 abbrev μ-loop : tie.MeasureT-loop
-μ-loop kind halves policy holds out₀ s₀ out s = 8 - s
+μ-loop kind between policy holds out₀ s₀ out s = 8 - s
 
 loop-holds : tie.Need-loop-holds Inv-loop μ-loop
 loop-holds c = (omega arith, refl, λ k h. absurd (omega arith))
@@ -42,7 +42,7 @@ loop-again c =
     let step = c .action-step in (
       omega arith,
       length-set (o .out) (o .s) (step .result) ∙ o .inv .1,
-      filled-one (λ k. stateCode (stepOf (policyOf (p .x .policy)) (sampleAction (p .kind)) (bit (p .x .holds)) (bit (p .halves)) (stateOf k)))
+      filled-one (λ k. stateCode (stepOf (policyOf (p .x .policy)) (sampleAction (p .kind)) (bit (p .x .holds)) (bit (p .between)) (stateOf k)))
           (o .out) (o .s) (step .result) (omega (arith, o .inv .1)) (o .inv .2) (step .ensures),
     )
 

@@ -12,7 +12,7 @@ use Rattle.aisles.proofs.layers.thin.Statement.{statement}
 use Rattle.aisles.proofs.layers.thin.Tie as tie
 
 abbrev Inv-loop : tie.InvT-loop
-Inv-loop t same front₀ back₀ top h₀ front back h =
+Inv-loop t same front₀ back₀ from top h₀ front back h =
     (h ≤ top)
     × (length front ≡ 26)
     × (length back ≡ 26)
@@ -22,63 +22,67 @@ Inv-loop t same front₀ back₀ top h₀ front back h =
     × (getD back top 0 ≡ getD (t .back) top 0)
 
 abbrev μ-loop : tie.MeasureT-loop
-μ-loop t same front₀ back₀ top h₀ front back h = top - h
+μ-loop t same front₀ back₀ from top h₀ front back h = top - h
+
+-- the heights that are looked at are within the lists
+in-lists : (c : tie.In-loop Inv-loop μ-loop) → c .before .loop .h < 25
+in-lists c = omega (arith, c .before .before .before .before .before .pre)
 
 loop-holds : tie.Need-loop-holds Inv-loop μ-loop
 loop-holds c =
-    let fields = c .before .before .good .0 .1 .1 in
+    let fields = c .before .before .before .good .0 .1 .1 in
     (omega arith, simp length-map at (fields .0 .1 .0 .1), simp length-map at (fields .1 .0 .1 .0 .1), refl, λ k l. absurd (omega arith), λ k l. absurd (omega arith), refl)
 
 add-next : tie.Need-add-next Inv-loop μ-loop
-add-next c = omega (arith, c .before .before .before .before .pre)
+add-next c = omega (arith, in-lists c)
 
 element-copy-out-kept-turn : tie.Need-element-copy-out-kept-turn Inv-loop μ-loop
-element-copy-out-kept-turn c = omega (arith, c .before .before .before .before .pre)
+element-copy-out-kept-turn c = omega (arith, in-lists c)
 
 mul-kept-turn : tie.Need-mul-kept-turn Inv-loop μ-loop
-mul-kept-turn c = omega (arith, c .before .before .before .before .before .pre)
+mul-kept-turn c = omega (arith, in-lists (c .before))
 
 element-copy-out-kept-turn-2 : tie.Need-element-copy-out-kept-turn-2 Inv-loop μ-loop
-element-copy-out-kept-turn-2 c = omega (arith, c .before .before .before .before .before .pre)
+element-copy-out-kept-turn-2 c = omega (arith, in-lists (c .before))
 
 mul-kept-turn-2 : tie.Need-mul-kept-turn-2 Inv-loop μ-loop
-mul-kept-turn-2 c = omega (arith, c .before .before .before .before .before .before .pre)
+mul-kept-turn-2 c = omega (arith, in-lists (c .before .before))
 
 element-copy-out-kept-turn-3 : tie.Need-element-copy-out-kept-turn-3 Inv-loop μ-loop
-element-copy-out-kept-turn-3 c = omega (arith, c .before .before .before .before .before .before .pre)
+element-copy-out-kept-turn-3 c = omega (arith, in-lists (c .before .before))
 
 kept-turn-requires : tie.Need-kept-turn-requires Inv-loop μ-loop
 kept-turn-requires c κs = search needs
 
 mul-front : tie.Need-mul-front Inv-loop μ-loop
-mul-front c = omega (arith, c .before .before .before .before .before .before .before .before .pre)
+mul-front c = omega (arith, in-lists (c .before .before .before .before))
 
 array-write-front : tie.Need-array-write-front Inv-loop μ-loop
-array-write-front c = omega (arith, c .before .before .before .before .before .before .before .before .pre)
+array-write-front c = omega (arith, in-lists (c .before .before .before .before))
 
 element-copy-out-kept-turn-4 : tie.Need-element-copy-out-kept-turn-4 Inv-loop μ-loop
-element-copy-out-kept-turn-4 c = omega (arith, c .before .before .before .before .before .before .before .before .pre)
+element-copy-out-kept-turn-4 c = omega (arith, in-lists (c .before .before .before .before))
 
 mul-kept-turn-3 : tie.Need-mul-kept-turn-3 Inv-loop μ-loop
-mul-kept-turn-3 c = omega (arith, c .before .before .before .before .before .before .before .before .before .pre)
+mul-kept-turn-3 c = omega (arith, in-lists (c .before .before .before .before .before))
 
 element-copy-out-kept-turn-5 : tie.Need-element-copy-out-kept-turn-5 Inv-loop μ-loop
-element-copy-out-kept-turn-5 c = omega (arith, c .before .before .before .before .before .before .before .before .before .pre)
+element-copy-out-kept-turn-5 c = omega (arith, in-lists (c .before .before .before .before .before))
 
 mul-kept-turn-4 : tie.Need-mul-kept-turn-4 Inv-loop μ-loop
-mul-kept-turn-4 c = omega (arith, c .before .before .before .before .before .before .before .before .before .before .pre)
+mul-kept-turn-4 c = omega (arith, in-lists (c .before .before .before .before .before .before))
 
 element-copy-out-kept-turn-6 : tie.Need-element-copy-out-kept-turn-6 Inv-loop μ-loop
-element-copy-out-kept-turn-6 c = omega (arith, c .before .before .before .before .before .before .before .before .before .before .pre)
+element-copy-out-kept-turn-6 c = omega (arith, in-lists (c .before .before .before .before .before .before))
 
 kept-turn-requires-2 : tie.Need-kept-turn-requires-2 Inv-loop μ-loop
 kept-turn-requires-2 c κs = search needs
 
 mul-back : tie.Need-mul-back Inv-loop μ-loop
-mul-back c = omega (arith, c .before .before .before .before .before .before .before .before .before .before .before .before .pre)
+mul-back c = omega (arith, in-lists (c .before .before .before .before .before .before .before .before))
 
 array-write-back : tie.Need-array-write-back Inv-loop μ-loop
-array-write-back c = omega (arith, c .before .before .before .before .before .before .before .before .before .before .before .before .pre)
+array-write-back c = omega (arith, in-lists (c .before .before .before .before .before .before .before .before))
 
 loop-less : tie.Need-loop-less Inv-loop μ-loop
 loop-less c = omega arith
@@ -87,7 +91,7 @@ loop-again : tie.Need-loop-again Inv-loop μ-loop
 loop-again c =
     let at-front = c .before .before .before .before in
     let at-loop = at-front .before .before .before .before .before in
-    let at-start = at-loop .before .before .before in
+    let at-start = at-loop .before .before .before .before in
     let p = at-start .args in
     let o = at-loop .loop in
     let front = at-front .kept-turn in
@@ -104,7 +108,7 @@ loop-again c =
 returns : tie.Need-returns Inv-loop μ-loop
 returns c =
     let o = c .before .loop in
-    record { top = refl; first = o .inv .3; front = λ h l. o .inv .4 h (omega arith); back = λ i l. o .inv .5 i (omega arith); last = o .inv .6 }
+    record { top = refl; from = refl; first = o .inv .3; front = λ h l. o .inv .4 h (omega arith); back = λ i l. o .inv .5 i (omega arith); last = o .inv .6 }
 
 pub thin-spec : {M : Type 1} → statement M
 thin-spec =

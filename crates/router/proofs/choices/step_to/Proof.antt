@@ -25,8 +25,8 @@ in-maps c =
     let low = ready .front-below (x .c .front) (x .at .demand) (of .front-within) (c .pre .3) in
     (omega arith, omega arith, omega (arith, ready .aisle .small), omega (arith, low, ready .aisle .small))
 
-keeps-halves-requires : tie.Need-keeps-halves-requires
-keeps-halves-requires c κs = search needs
+passes-between-requires : tie.Need-passes-between-requires
+passes-between-requires c κs = let m = in-maps (c .before .before) in (omega arith, omega arith)
 
 action-step-requires : tie.Need-action-step-requires
 action-step-requires c κs = search needs
@@ -73,15 +73,15 @@ returns c =
     let after : Bool → ℕ =
     λ b. stateCode (stepOf (policyOf (x .x .policy)) (sampleAction (x .c .kind)) (bit (x .x .holds)) b (stateOf (x .at .state))) in
     let step = c .before .before .before .before .action-step .ensures in
-    let halves = c .before .before .before .before .before .keeps-halves .ensures .0 in
-    ap₂ made (step ∙ ap after halves)
+    let between = c .before .before .before .before .before .passes-between .ensures .0 in
+    ap₂ made (step ∙ ap after between)
     (c .wide2 .ensures .0 ∙ ap (λ k. getD (now (x .backs)) (x .c .back * 256 + k) 0) (c .before .before .wide .ensures .0))
 
 pub step-to-spec : {M : Type 1} → statement M
 step-to-spec =
     tie.close
     (tie.spec
-    keeps-halves-requires
+    passes-between-requires
     action-step-requires
     mul-wide
     add-wide
