@@ -22,7 +22,7 @@ extern "C" {
 #define DIZHONDU_REFUSED 65536
 
 /* A call fits a thread with this much stack. Measured on x86-64 over all jobs of tests/vectors and tests/cases, by what a call
-   changed of a filled stack below its caller's frame: 211,911 bytes by plan_sheet and 245,239 by plan_page, on every served job. The
+   changed of a filled stack below its caller's frame: 211,927 bytes by plan_sheet and 245,255 by plan_page, on every served job. The
    tests make each of their calls in a thread with just this much. */
 #define DIZHONDU_STACK 262144
 

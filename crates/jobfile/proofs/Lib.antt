@@ -1,4 +1,5 @@
 pub mod Left
 pub mod Ranges
-pub mod Sums
+pub mod Weighing
+pub mod Looking
 pub mod Verdicts

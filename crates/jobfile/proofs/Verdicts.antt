@@ -2,7 +2,7 @@
 use Prim.Native.Nat.{ℕ, _≤_}
 use mathlib.Core.Path.{_≡_, refl, sym, _∙_, ap, ap₂}
 use mathlib.Core.List.{List, [], _∷_}
-use mathlib.Core.Bool.{Bool, true, false, _&&_, not, true≢false}
+use mathlib.Core.Bool.{Bool, true, false, cond, _&&_, not, true≢false}
 use mathlib.Core.Option.{Option, none, some}
 use native.Mathlib.Omega.{arith}
 use lib.Dec.{leb, ltb}
@@ -17,16 +17,18 @@ use Rattle.rules.specs.Store.{layoutInBounds}
 use Rattle.rules.specs.Jobs.{Job}
 use Rattle.rules.specs.JobFile.{readJob}
 use Rattle.rules.specs.Refusals.{recordInBounds, stockInBounds, sameCell, listInBounds, sameArticle, weight, shortOfStock, firstRow, jobRows, jobRefusal, good, bad, checkJob, checkBytes}
+use Rattle.rules.specs.Looked.{looked, stockTested, lookedOn, lookedIn, handedOn}
 use Rattle.rules.proofs.Admission.{stock-within, list-within, admitted}
 use Rattle.rules.proofs.Numbers.{both-true}
 use Rattle.values.specs.declared.JobValue.{JobValue}
 use Rattle.values.specs.Values.{noLine, jobOf, Sound}
 use Rattle.reading.specs.declared.raw.RawJob.{RawJob}
 use Rattle.jobfile.specs.declared.Verdict.{Verdict}
+use Rattle.jobfile.specs.declared.Decision.{Decision}
 use Rattle.jobfile.specs.declared.ReadJob.{ReadJob}
 use Rattle.jobfile.specs.Ready.{StockReady, ListReady}
 use Rattle.reading.specs.Kept.{noRecord, jobValue, rawOf}
-use Rattle.jobfile.specs.Answer.{verdictOf, Decides, checkedAs, checkedOf, answerTo}
+use Rattle.jobfile.specs.Answer.{verdictOf, stoppedBy, Decides, checkedAs, checkedOf, answerTo}
 use Rattle.marks.proofs.Cells.{cells-bounded}
 use Rattle.reading.proofs.Storing.{padded-all}
 
@@ -133,6 +135,13 @@ module _ (raw : RawJob) (job : Job) (e : raw ≡ rawOf (some job)) where
         ap shortOfStock (sym (whole-job job (stock-kept s) (list-kept l)))
         ∙ sym (ap (λ (r : RawJob). shortOfStock (jobOf (r .job))) e) ∙ t
 
+  -- the records looked at are those of the job
+  pub looked-on : (n : ℕ) → stockTest (raw .job) ≡ true → listTest (raw .job) ≡ true → n ≡ looked (jobOf (raw .job)) → looked job ≡ n
+  unfolding rawOf
+  looked-on n s l t =
+      ap looked (sym (whole-job job (stock-kept s) (list-kept l)))
+      ∙ sym (ap (λ (r : RawJob). looked (jobOf (r .job))) e) ∙ sym t
+
 -- the refusal of the job that was read is that of the rows
 abbrev pub Rows : RawJob → (Job → List (Bool × Refusal)) → Type 0
 Rows raw rows = (job : Job) → raw ≡ rawOf (some job) → jobRefusal job ≡ firstRow (rows job)
@@ -175,15 +184,29 @@ module _ (raw : RawJob) (b : Bool) where
   unfolding jobRows
   row-short h s l t job e = h job e ∙ rw (short-on raw job e s l t)
 
--- the row that applies gives the verdict
-pub refused : (raw : RawJob) (x : Refusal) → ((job : Job) → raw ≡ rawOf (some job) → jobRefusal job ≡ some x) → Decides raw (Verdict.Refused x)
-unfolding Decides
-refused raw x h = λ job e. sym (ap verdictOf (h job e))
+-- the decision on a job goes by its refusal
+decision-by : (job : Job) (r : Option Refusal) → jobRefusal job ≡ r
+    → _≡_ {A = Decision} record { verdict = verdictOf (jobRefusal job); looked = handedOn (lookedOn job) }
+    record { verdict = verdictOf r; looked = handedOn (cond (stockTested r) (some (looked job)) none) }
+unfolding lookedOn
+decision-by job r e = ap (λ (q : Option Refusal). record { verdict = verdictOf q; looked = handedOn (cond (stockTested q) (some (looked job)) none) }) e
 
--- no row applies
-pub passed : (raw : RawJob) → ((job : Job) → raw ≡ rawOf (some job) → jobRefusal job ≡ none) → Decides raw Verdict.Admitted
+-- the row of a refusal before 8 applies
+pub stopped : (raw : RawJob) (x : Refusal) → stockTested (some x) ≡ false → ((job : Job) → raw ≡ rawOf (some job) → jobRefusal job ≡ some x)
+    → (d : Decision) → d ≡ stoppedBy x → Decides raw d
 unfolding Decides
-passed raw h = λ job e. sym (ap verdictOf (h job e))
+stopped raw x early h d s job e =
+    s ∙ sym (decision-by job (some x) (h job e) ∙ ap (λ (b : Bool). record { verdict = Verdict.Refused x; looked = handedOn (cond b (some (looked job)) none) }) early)
+
+-- none of them does: the stock test decides, and its number is handed on
+pub tested : (raw : RawJob) (r : Option Refusal) (n : ℕ) → stockTested r ≡ true → ((job : Job) → raw ≡ rawOf (some job) → jobRefusal job ≡ r)
+    → ((job : Job) → raw ≡ rawOf (some job) → looked job ≡ n) → Decides raw (record { verdict = verdictOf r; looked = n })
+unfolding Decides
+tested raw r n late h number job e =
+    sym
+    (decision-by job r (h job e)
+    ∙ ap (λ (b : Bool). record { verdict = verdictOf r; looked = handedOn (cond b (some (looked job)) none) }) late
+    ∙ ap (λ (k : ℕ). record { verdict = verdictOf r; looked = k }) (number job e))
 
 -- a job to which no refusal applies is kept whole, and admitted
 admitted-whole : (job : Job) → jobRefusal job ≡ none → (jobOf (jobValue job) ≡ job) × Sound (jobValue job)
@@ -222,16 +245,29 @@ sound (some job) q = go (jobRefusal job) refl q
     go none e q = admitted-whole job e .1
     go (some x) e q = not-admitted q
 
+-- the number that is handed on
+number-handed-on : (s : List ℕ) → answerTo (readJob s) .looked ≡ handedOn (lookedIn s)
+unfolding answerTo lookedIn
+number-handed-on s = go (readJob s)
+  where
+    go : (o : Option Job) → answerTo o .looked ≡ handedOn (elim o [ none ↦ none | some job ↦ lookedOn job ])
+    go none = refl
+    go (some job) = refl
+
 -- the answer to the bytes, and what follows of it
 pub answered : (s : List ℕ) (r : ReadJob) → r ≡ answerTo (readJob s)
-    → (checkedOf r ≡ checkBytes s) × ((r .verdict ≡ Verdict.Admitted → Sound (r .job)) × (r ≡ answerTo (readJob s)))
-answered s r e = (ap checkedOf e ∙ checked s, (λ q. rw e (sound (readJob s) (ap (λ (a : ReadJob). a .verdict) (sym e) ∙ q)), e))
+    → (checkedOf r ≡ checkBytes s) × ((r .verdict ≡ Verdict.Admitted → Sound (r .job)) × ((r ≡ answerTo (readJob s)) × (r .looked ≡ handedOn (lookedIn s))))
+answered s r e = (
+  ap checkedOf e ∙ checked s,
+  (λ q. rw e (sound (readJob s) (ap (λ (a : ReadJob). a .verdict) (sym e) ∙ q)), (e, ap (λ (a : ReadJob). a .looked) e ∙ number-handed-on s)),
+)
 
 module _ (raw : RawJob) where
   -- no job was read
-  pub no-job-read : (o : Option Job) → raw ≡ rawOf o → raw .ok ≡ false → _≡_ {A = ReadJob} record { verdict = Verdict.Refused NotAJobFile; job = raw .job } (answerTo o)
+  pub no-job-read : (o : Option Job) → raw ≡ rawOf o → raw .ok ≡ false
+      → _≡_ {A = ReadJob} record { verdict = Verdict.Refused NotAJobFile; job = raw .job; looked = 0 } (answerTo o)
   unfolding rawOf answerTo
-  no-job-read none e n = ap (λ (r : RawJob). record { verdict = Verdict.Refused NotAJobFile; job = r .job }) e
+  no-job-read none e n = ap (λ (r : RawJob). record { verdict = Verdict.Refused NotAJobFile; job = r .job; looked = 0 }) e
   no-job-read (some job) e n = absurd (true≢false (ap (λ (r : RawJob). r .ok) (sym e) ∙ n))
 
   -- a job was read
@@ -241,6 +277,7 @@ module _ (raw : RawJob) where
   job-there (some job) e y = (job, refl, e)
 
   -- the verdict on it
-  pub job-decided : (job : Job) → raw ≡ rawOf (some job) → (v : Verdict) → Decides raw v → _≡_ {A = ReadJob} record { verdict = v; job = raw .job } (answerTo (some job))
+  pub job-decided : (job : Job) → raw ≡ rawOf (some job) → (d : Decision) → Decides raw d
+      → _≡_ {A = ReadJob} record { verdict = d .verdict; job = raw .job; looked = d .looked } (answerTo (some job))
   unfolding rawOf answerTo Decides
-  job-decided job e v d = ap₂ (λ (r : RawJob) (u : Verdict). record { verdict = u; job = r .job }) e (d job e)
+  job-decided job e d by = ap₂ (λ (r : RawJob) (x : Decision). record { verdict = x .verdict; job = r .job; looked = x .looked }) e (by job e)

@@ -4,17 +4,20 @@
 -- lent work area: the reply, and what sheet and work area hold after it. The public contracts are equations with it, and with
 -- `pageAnswer` (rules/specs/PageAnswers) where a page is lent too.
 -- The words of the statements are in specs/: the causes of the table (Causes), what a sheet says (Contents), what calls give (Calls),
--- and of the requests #101 (EmptyLists), #102 (Uprights) and #103 (Pages). Request #104 has its words in rules/specs/Policies.
+-- and of the requests #101 (EmptyLists), #102 (Uprights), #103 (Pages) and #105 (StockTests). Request #104 has its words in
+-- rules/specs/Policies.
 use Prim.Native.Nat.{ℕ, _+_, _*_, _-_, _/_, _≤_, _<_}
 use mathlib.Core.Path.{_≡_, refl, sym, _∙_, ap, subst}
 use mathlib.Core.Logic.{_⊎_, _↔_}
 use mathlib.Core.List.{List, [], _∷_, _++_}
 use mathlib.Core.Bool.{true}
+use mathlib.Core.Option.{some}
 use lib.ListN.{length, take, drop}
 use Rattle.rules.specs.declared.Layout.{Layout}
 use Rattle.rules.specs.declared.Policy.{Policy}
 use Rattle.rules.specs.declared.Policy.the-variants.{Exact, Midpoint, Largest}
 use Rattle.rules.specs.declared.Posts.the-variants.{NoPosts, Every}
+use Rattle.rules.specs.declared.OrderLine.{OrderLine}
 use Rattle.rules.specs.declared.Pick.{Pick}
 use Rattle.rules.specs.declared.Refusal.{Refusal}
 use Rattle.rules.specs.declared.Refusal.the-variants.{WorkArea, ListBounds, ShortOfStock, SheetSpace, PageSpace}
@@ -28,12 +31,14 @@ use Rattle.rules.specs.Walks.{Walk, ClosedWalk, walkTreads}
 use Rattle.rules.specs.Picks.{picksOf}
 use Rattle.rules.specs.BestPlan.{emptyPlan}
 use Rattle.rules.specs.Refusals.{numberOf, workLimit, cleared, Admitted}
+use Rattle.rules.specs.Looked.{lookedFor, looked, lookedIn}
 use Rattle.rules.specs.Sheet.{sheetText}
 use Rattle.rules.specs.Answers.{answer, hostAnswer, sheetLimit, letterR, output}
 use Rattle.rules.specs.PageAnswers.{pageAnswer, hostPageAnswer, pageLimit, pageOutput}
 use Rattle.rules.specs.Policies.{inFrontHalf, inBackHalf, Follows, Allowed}
 use Rattle.rules.specs.Serving.{PlanServes}
 use Rattle.rules.specs.Examples.{_⨯_, alpha, AllHold, AllSame, cases, ownCases, fourBetween, largestCases, stopLists, workedJob, workedPage}
+use Rattle.rules.specs.Examples.{AllLooked, lookedCases, lookedTexts}
 use Rattle.rules.proofs.Cases as Cases
 use Rattle.closedwalks.proofs.Statements.{walk-reads, plan-determined}
 use Rattle.promises.specs.Causes.{JobFileOf, LineOutOfStock, OfJob, Cause, tableRow, FirstCause}
@@ -42,9 +47,11 @@ use Rattle.promises.specs.Calls.{RefusedCall, ServedCall, Shows, Obeys, 
 use Rattle.promises.specs.EmptyLists.{NothingToFetch, emptySheet, ShowsNothing}
 use Rattle.promises.specs.Uprights.{PostsOfNothing}
 use Rattle.promises.specs.Pages.{PageCause, FirstPageCause, RefusedPageCall, ServedPageCall, AlongTheWalk, ShowsPage, HostPageCall, PrintsPage, PrintsPageRefusal}
+use Rattle.promises.specs.StockTests.{InStock, LineShort, LeastHolding, AddedUp, LookedBounds}
 use Rattle.promises.proofs.EmptyLists
 use Rattle.promises.proofs.Uprights
 use Rattle.promises.proofs.LargestGap
+use Rattle.promises.proofs.StockTest
 use Rattle.promises.proofs.PageCalls
 use Rattle.promises.proofs.Clipboard
 use Rattle.promises.proofs.PageHost
@@ -341,3 +348,37 @@ largest-at-most-midpoint-met = LargestGap.met
 -- what the request says of aisles between is pinned by cases of its own, and which cells are stops by lists of them
 pub largest-cases-hold : AllHold largestCases × AllSame stopLists
 largest-cases-hold = (Cases.largest-cases-hold, Cases.stops-hold)
+
+-- Request #105: "the adding up for a line shall stop as soon as the sum reaches the line's quantity, and the whole test as soon as one line
+-- is found short. The test also answers how many records it looked at: for each line up to the first short one, the least number from the
+-- top of the S section that hold its quantity of its article, or all where it is short, added up."
+-- The number is `looked job` (rules/specs/Looked): the stock test answers it (`jobfile::stock::stock_test`), the job reader hands it on
+-- (`jobfile::read_job`), and the program `looked` prints it. `lookedFor job l` is the part of the line l.
+-- for a line that is not short: the least n such that the first n records hold its quantity
+pub looked-least : (job : Job) (l : OrderLine) → InStock job l → LeastHolding job l (lookedFor job l)
+looked-least = StockTest.least
+
+-- "or all where it is short"
+pub looked-short : (job : Job) (l : OrderLine) → LineShort job l → lookedFor job l ≡ length (job .stock)
+looked-short = StockTest.short
+
+-- "for each line up to the first short one .. added up"
+pub looked-added : (job : Job) → AddedUp job (looked job)
+looked-added = StockTest.added
+
+-- at most records times lines, and 0 exactly when there is no line or no record: of every job file for which there is a number
+pub looked-bounds : (bytes : List ℕ) (n : ℕ) → lookedIn bytes ≡ some n → OfJob bytes (λ job. (n ≡ looked job) × LookedBounds job n)
+looked-bounds = StockTest.bounds
+
+-- there is one exactly where no refusal before 8 stops the job, whatever sheet and work area that suffices are lent
+pub looked-made : (bytes sheet work : List ℕ) → workLimit ≤ length work
+    → ((n : ℕ) × (lookedIn bytes ≡ some n)) ↔ ((q : Refusal) → tableRow q < tableRow ShortOfStock → Cause q bytes sheet work → ⊥)
+looked-made = StockTest.made
+
+-- the program `looked` sees from the first 16,385 bytes that a job is too long
+pub looked-start : (bytes : List ℕ) → lookedIn (take 16385 bytes) ≡ lookedIn bytes
+looked-start = StockTest.start
+
+-- which records and lines count is pinned by cases of its own, and what the program prints by two texts
+pub looked-cases-hold : AllLooked lookedCases × AllSame lookedTexts
+looked-cases-hold = Cases.looked-cases-hold

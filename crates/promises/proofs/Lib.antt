@@ -11,6 +11,7 @@ pub mod Entering
 pub mod EmptyLists
 pub mod Uprights
 pub mod LargestGap
+pub mod StockTest
 pub mod PageCalls
 pub mod Clipboard
 pub mod PageHost

@@ -21,7 +21,7 @@ use Rattle.rules.specs.Sheet.{sheetText}
 use Rattle.rules.specs.Answers.{Answer, refused, served, decided, answer}
 use Rattle.rules.proofs.Lists.{any-true, place-member, sorted-by, sorted-from}
 use Rattle.rules.proofs.Reading.{job-file}
-use Rattle.rules.proofs.Admission.{layout-within, stock-within, list-within, same-cell, same-article, line-out-of-stock}
+use Rattle.rules.proofs.Admission.{OtherwiseAdmitted, admitted-apart, layout-within, stock-within, list-within, same-cell, same-article, line-out-of-stock}
 use Rattle.tours.proofs.Basics.{same-number}
 use Rattle.promises.specs.Causes.{JobFileOf, TwoAlike, here, later, SameCell, SameArticle, LineOutOfStock, Cause, OfJob, tableRow, FirstCause}
 
@@ -267,9 +267,9 @@ module _ (bytes sheet work : List ℕ) where
   row-fails : (job : Job) → readJob bytes ≡ some job → (q : Refusal) → (Cause q bytes sheet work → ⊥) → applies q (some job) sheet work ≡ false
   row-fails job e q n = untrue (applies q (some job) sheet work) (λ h. n (applies-said q bytes sheet work .0 (ap (λ o. applies q o sheet work) e ∙ h)))
 
-  -- a job to which no row above the last applies is admitted
-  pub above-admitted : ((q : Refusal) → tableRow q < tableRow SheetSpace → Cause q bytes sheet work → ⊥) → (job : Job) → readJob bytes ≡ some job → Admitted job
-  above-admitted n job e =
+  -- a job to which no row above that of the stock applies
+  pub above-stock : ((q : Refusal) → tableRow q < tableRow ShortOfStock → Cause q bytes sheet work → ⊥) → (job : Job) → readJob bytes ≡ some job → OtherwiseAdmitted job
+  above-stock n job e =
       record {
         layout = not-false (layoutInBounds (job .layout)) (fails LayoutBounds (omega arith));
         stock = not-false (stockInBounds job) (fails StockBounds (omega arith));
@@ -277,11 +277,33 @@ module _ (bytes sheet work : List ℕ) where
         list = not-false (listInBounds job) (fails ListBounds (omega arith));
         articles-once = fails ArticleTwice (omega arith);
         light = ltb-false 256 (weight (job .lines)) (fails TooHeavy (omega arith));
-        in-stock = fails ShortOfStock (omega arith);
       }
     where
-      fails : (q : Refusal) → tableRow q < tableRow SheetSpace → applies q (some job) sheet work ≡ false
+      fails : (q : Refusal) → tableRow q < tableRow ShortOfStock → applies q (some job) sheet work ≡ false
       fails q l = row-fails job e q (n q l)
+
+  -- and the other way round
+  pub stock-reached : (job : Job) → readJob bytes ≡ some job → OtherwiseAdmitted job → workLimit ≤ length work
+      → (q : Refusal) → tableRow q < tableRow ShortOfStock → Cause q bytes sheet work → ⊥
+  stock-reached job e o w r l c = true≢false (sym (applies-said r bytes sheet work .1 c) ∙ ap (λ x. applies r x sheet work) e ∙ fails r l)
+    where
+      fails : (q : Refusal) → tableRow q < tableRow ShortOfStock → applies q (some job) sheet work ≡ false
+      fails WorkArea l = le-ltb (length work) workLimit w
+      fails NotAJobFile l = refl
+      fails LayoutBounds l = ap not (o .layout)
+      fails StockBounds l = ap not (o .stock)
+      fails CellTwice l = o .cells-once
+      fails ListBounds l = ap not (o .list)
+      fails ArticleTwice l = o .articles-once
+      fails TooHeavy l = le-ltb 256 (weight (job .lines)) (o .light)
+      fails ShortOfStock l = absurd (omega arith)
+      fails SheetSpace l = absurd (omega arith)
+      fails PageSpace l = absurd (omega arith)
+
+  -- a job to which no row above the last applies is admitted
+  pub above-admitted : ((q : Refusal) → tableRow q < tableRow SheetSpace → Cause q bytes sheet work → ⊥) → (job : Job) → readJob bytes ≡ some job → Admitted job
+  above-admitted n job e =
+      admitted-apart job .1 (above-stock (λ q l. n q (omega arith)) job e, row-fails job e ShortOfStock (n ShortOfStock (omega arith)))
 
   -- the job of a call that no cause applies to is admitted, and the sheet has space
   pub served-admitted : NoCause → (job : Job) → readJob bytes ≡ some job → Admitted job × (length (sheetText job) ≤ length sheet)

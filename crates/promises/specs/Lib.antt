@@ -4,3 +4,4 @@ pub mod Calls
 pub mod EmptyLists
 pub mod Uprights
 pub mod Pages
+pub mod StockTests

@@ -177,14 +177,26 @@ is-short : (b : Bool) → (firstRow ((b, ShortOfStock) ∷ []) ≡ some ShortOfS
 is-short true = (λ e. refl, λ e. refl)
 is-short false = (λ e. (let z : _≡_ {A = ℕ} 0 1 = cc in absurd (omega arith)), λ e. absurd (false≢true e))
 
+-- a job is admitted exactly when no other refusal applies and no line exceeds all stock of its article
+pub admitted-apart : (job : Job) → Admitted job ↔ (OtherwiseAdmitted job × (shortOfStock job ≡ false))
+admitted-apart job = (
+  λ a. (
+    record { layout = a .layout; stock = a .stock; cells-once = a .cells-once; list = a .list; articles-once = a .articles-once; light = a .light },
+    a .in-stock,
+  ),
+  λ p. (
+      let o = p .0 in
+      record { layout = o .layout; stock = o .stock; cells-once = o .cells-once; list = o .list; articles-once = o .articles-once; light = o .light; in-stock = p .1 }
+      ),
+)
+
 -- a job that could be read has no refusal exactly when it is admitted
 pub admitted : (job : Job) → (jobRefusal job ≡ none) ↔ Admitted job
 admitted job =
     let q = stock-row job none (λ r h e. let z : _≡_ {A = ℕ} 0 1 = cc in omega arith) in
-    let last = not-short (shortOfStock job) in (
-      λ e. (let p = q .0 e in let o = p .0 in record { layout = o .layout; stock = o .stock; cells-once = o .cells-once; list = o .list; articles-once = o .articles-once; light = o .light; in-stock = last .0 p.1 }),
-      λ a. q .1 (record { layout = a .layout; stock = a .stock; cells-once = a .cells-once; list = a .list; articles-once = a .articles-once; light = a .light }, last .1 (a .in-stock)),
-    )
+    let last = not-short (shortOfStock job) in
+    let apart = admitted-apart job in
+    (λ e. (let p = q .0 e in apart .1 (p .0, last .0 p.1)), λ a. (let p = apart .0 a in q .1 (p .0, last .1 p.1)))
 
 -- a job is refused for its stock exactly when no other refusal applies and some line exceeds all the stock of its article
 pub refused-for-stock : (job : Job) → (jobRefusal job ≡ some ShortOfStock) ↔ (OtherwiseAdmitted job × ((l : OrderLine) × List·Memᴰ l (job .lines) × (allStock job (l .article) < l .quantity)))

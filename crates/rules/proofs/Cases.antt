@@ -24,9 +24,11 @@ use Rattle.rules.specs.Answers.{refused, served, answer, hostAnswer, out
 use Rattle.rules.specs.BestPlan.{actionsOf, passagesInOrder, single, prepend, shorterOf, emptyPlan, servingPlans, bestPlan}
 use Rattle.rules.specs.Examples.{stocked, _⨯_, alpha, beta, steps, roundTrip, cases, ownJob, oneEach, midwayFront, midwayBack, farBack, nearBack, bothEnds, bottomOrTop, topOrGap, gapOrOnce, frontOrBack, leftFirst, topTie, withOthers, gapByFront, gapByBack, posted, thirdCells, beforeMiddle, behindMiddle, wrongLayout, wrongStock, sharedCell, sharedArticle, bothBottom, bothOnce, eightLines, nineLines, frontOnly, awayFromDepot, ownCases, twoLines, counted, fromTheBack, pageFromTheBack, texts, overfull, RefusedWith, workedJob, workedSheet, workedPage}
 use Rattle.rules.specs.Examples.{betaWith, cellsBetween, fourBetween, besideUnlisted, listedInGap, oneAisle, betweenEnds, largestCases, stopLists}
+use Rattle.rules.specs.Examples.{restocked, lookedCases, lookedTexts, AllLooked}
 use Rattle.rules.specs.FirstWalk.{without, stepsOf, firstWalk}
 use Rattle.rules.specs.JobFile.{numeral, field, header, sectionText, jobText, layoutText, layoutSectionText, recordText, lineText, isDigit, isNumber, readField, readHeader, readPolicyAs, readPolicy, readLayout, readPostsLine, readPosts, readRecord, readLine, readSection, readLayoutSection, readSections, readJob}
 use Rattle.rules.specs.Jobs.{listed, holdsListed, cellHoldsListed}
+use Rattle.rules.specs.Looked.{withFirst, firstHold, lookedFor, looked, lookedOn, lookedIn}
 use Rattle.rules.specs.Machine.{partKeeps, keepsLargestGap, actionPossible, actionStep, passageStep, treadsNothing, accepts}
 use Rattle.rules.specs.Picks.{cellsOf, lackOf, lessOf, recordAt, taken, passedRecords, picksOf}
 use Rattle.rules.specs.Plans.{actionAt, passageAt, multiplicity, lengthOf, planLength, planPasses}
@@ -230,6 +232,17 @@ largest-cases-hold = all-hold largestCases largest-cases-computed
 pub stops-hold : AllSame stopLists
 unfolding stopLists listedInGap betaWith ownJob stocked _⨯_ listedCells cellHoldsListed listed backHeight
 stops-hold = refl ▸ refl ▸ refl ▸ refl ▸ tt
+
+-- the table of request #105, what its program prints, and the numbers that are handed on
+pub looked-cases-hold : AllLooked lookedCases × AllSame lookedTexts
+unfolding lookedCases lookedTexts restocked stocked _⨯_ alpha wrongLayout wrongStock sharedCell sharedArticle nineLines eightLines ownJob workedJob
+    withFirst firstHold lookedFor looked lookedOn lookedIn allStock shortOfStock recordInBounds stockInBounds sameCell lineInBounds listInBounds
+    sameArticle weight jobRows jobRefusal within layoutInBounds numeral field isDigit isNumber readField readHeader readPolicyAs readPolicy readLayout
+    readPosts readRecord readLine readSection readLayoutSection readSections readJob
+looked-cases-hold = (
+  refl ▸ refl ▸ refl ▸ refl ▸ refl ▸ refl ▸ refl ▸ refl ▸ refl ▸ refl ▸ refl ▸ refl ▸ refl ▸ refl ▸ refl ▸ refl ▸ refl ▸ refl ▸ tt,
+  refl ▸ refl ▸ refl ▸ refl ▸ refl ▸ tt,
+)
 
 -- the texts of words and lines, byte for byte
 pub texts-hold : AllSame texts

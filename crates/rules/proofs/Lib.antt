@@ -19,3 +19,4 @@ pub mod WrongTurnings
 pub mod PageAnswering
 pub mod WalkOrder
 pub mod FewPicks
+pub mod Looked

@@ -6,7 +6,7 @@ use mathlib.Core.List.{List, [], _∷_, _++_, map, List·Memᴰ, List·Memᴰ·h
 use mathlib.Core.Bool.{Bool, true, false, cond, _&&_, _||_, true≢false, false≢true, and-eq-true-iff}
 use native.Mathlib.Nat.{eq-or-lt-of-le, suc-mul}
 use native.Mathlib.Omega.{arith}
-use lib.ListN.{length, replicate}
+use lib.ListN.{length, getD, replicate}
 use Rattle.rules.specs.Lists.{from, sumOf, concatOf, nth, allOf, anyOf, anyTwo, select, Sorted}
 
 -- tests joined by "or"
@@ -122,6 +122,12 @@ module _ {A : Type 0} where
       whole : (ys : List A) → ((y : A) → List·Memᴰ y ys → t y ≡ true) → allOf t ys ≡ true
       whole [] h = refl
       whole (y ∷ ys) h = rw (h y (List·Memᴰ·head refl)) (whole ys (λ x m. h x (List·Memᴰ·tail m)))
+
+  -- so it holds of the one at a place
+  pub all-at : (t : A → Bool) (xs : List A) (k : ℕ) (d : A) → k < length xs → allOf t xs ≡ true → t (getD xs k d) ≡ true
+  all-at t [] k d h e = absurd (omega arith)
+  all-at t (x ∷ xs) zero d h e = and-eq-true-iff (t x) (allOf t xs) .0 e .0
+  all-at t (x ∷ xs) (suc k) d h e = all-at t xs k d (omega arith) (and-eq-true-iff (t x) (allOf t xs) .0 e .1)
 
   -- the test holds of no element
   pub any-false : (t : A → Bool) (xs : List A) → (anyOf t xs ≡ false) ↔ ((x : A) → List·Memᴰ x xs → t x ≡ false)

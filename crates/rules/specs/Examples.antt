@@ -23,6 +23,7 @@ use Rattle.rules.specs.Store.{withPosts}
 use Rattle.rules.specs.Jobs.{Job, jobWithPosts}
 use Rattle.rules.specs.JobFile.{policyWord, layoutText, layoutSectionText, recordText, lineText, jobText}
 use Rattle.rules.specs.Refusals.{weight, jobRefusal, numberOf, bad, checkBytes}
+use Rattle.rules.specs.Looked.{lookedOn, lookedIn, handedOn, lookedText}
 use Rattle.rules.specs.Plans.{Plan, planLength, planPasses}
 use Rattle.rules.specs.Policies.{fromFront, fromBack, stopsOn}
 use Rattle.rules.specs.Serving.{serves}
@@ -390,6 +391,38 @@ stopLists =
     ∷ (stopsOn (listedInGap Largest) 2 (fromBack 2), 3 ∷ 5 ∷ 6 ∷ [])
     ∷ []
 
+-- store α with other records
+unfoldable pub restocked : List StockRecord → List OrderLine → Job
+restocked stock lines = record { layout = alpha [] Exact .layout; policy = Exact; stock = stock; lines = lines }
+
+-- cases of request #105: jobs, and how many records the stock test looks at; each row against a misreading
+unfoldable pub lookedCases : List (Job × Option ℕ)
+lookedCases =
+    (alpha ((9 ⨯ 1) ∷ []) Exact, some 2)  -- the record of article 7 above that of article 9 is looked at too, and none below
+    ∷ (alpha ((9 ⨯ 5) ∷ []) Exact, some 2)  -- the quantity itself is enough
+    ∷ (restocked (stocked 1 1 9 2 ∷ stocked 2 1 9 2 ∷ stocked 2 3 9 5 ∷ []) ((9 ⨯ 3) ∷ []), some 2)  -- so is more than that, and of several records
+    ∷ (alpha ((7 ⨯ 2) ∷ []) Exact, some 3)  -- the last record may be needed
+    ∷ (alpha ((7 ⨯ 1) ∷ (9 ⨯ 1) ∷ []) Exact, some 3)  -- 1 and 2: added up over the lines, each from the top
+    ∷ (restocked (stocked 2 1 9 5 ∷ stocked 1 1 7 1 ∷ []) ((9 ⨯ 1) ∷ []), some 1)  -- the top of the S section, not of the store
+    ∷ (alpha ((9 ⨯ 6) ∷ []) Exact, some 3)  -- short: all records, those behind the last of its article too
+    ∷ (alpha ((8 ⨯ 1) ∷ []) Exact, some 3)  -- and all where none has its article
+    ∷ (alpha ((7 ⨯ 1) ∷ (9 ⨯ 6) ∷ (8 ⨯ 1) ∷ []) Exact, some 4)  -- 1 and 3: the first short line counts, and none behind it
+    ∷ (alpha ((9 ⨯ 5) ∷ (7 ⨯ 1) ∷ (8 ⨯ 1) ∷ []) Exact, some 6)  -- 2, 1 and 3: a line that takes all the stock is not short; the list's order
+    ∷ (alpha [] Exact, some 0)  -- no line
+    ∷ (restocked [] ((9 ⨯ 1) ∷ []), some 0)  -- no record
+    ∷ (wrongLayout Exact, none)  -- a refusal before 8 stops the job: 2
+    ∷ (wrongStock Exact, none)  -- 3
+    ∷ (sharedCell Exact, none)  -- 4
+    ∷ (alpha nineLines Exact, none)  -- 5
+    ∷ (sharedArticle Exact, none)  -- 6
+    ∷ (alpha ((8 ⨯ 255) ∷ (9 ⨯ 1) ∷ []) Exact, none)  -- 7, where a line is short too
+    ∷ []
+
+-- each job's stock test looks at so many records
+abbrev pub AllLooked : List (Job × Option ℕ) → Type 0
+AllLooked [] = Unit {0}
+AllLooked (x ∷ rest) = (lookedOn (x .0) ≡ x .1) × AllLooked rest
+
 -- an L section with posts
 unfoldable pub twoLines : List ℕ
 twoLines =
@@ -506,6 +539,16 @@ workedSheet =
     ∷ 66 ∷ 32 ∷ 49 ∷ 10  -- B 1
     ∷ 70 ∷ 32 ∷ 49 ∷ 10  -- F 1
     ∷ 76 ∷ 32 ∷ 49 ∷ 10  -- L 1
+    ∷ []
+
+-- what the program `looked` prints, and the numbers that are handed on
+unfoldable pub lookedTexts : List (List ℕ × List ℕ)
+lookedTexts =
+    (lookedText (lookedIn workedJob), 50 ∷ 10 ∷ [])  -- 2
+    ∷ (lookedText (lookedIn []), 45 ∷ 10 ∷ [])  -- -: no bytes are no job file
+    ∷ (lookedText (some 0), 48 ∷ 10 ∷ [])  -- 0
+    ∷ (lookedText (some 3072), 51 ∷ 48 ∷ 55 ∷ 50 ∷ 10 ∷ [])  -- 3072
+    ∷ (handedOn none ∷ handedOn (some 2) ∷ [], 0 ∷ 2 ∷ [])  -- 0 where there is no number
     ∷ []
 
 -- what a call on the worked job gives: the number that it returns, and the first number of the work area after it

@@ -3,6 +3,7 @@ pub mod Store
 pub mod Jobs
 pub mod JobFile
 pub mod Refusals
+pub mod Looked
 pub mod Plans
 pub mod Lengths
 pub mod Lawful

@@ -1,12 +1,17 @@
 -- `jobfile::verdict_on` meets its contract: the rows of the table in their order, each with the outcome of its test.
-use mathlib.Core.Bool.{true, false}
-use mathlib.Core.Path.{_≡_, sym, _∙_}
+use mathlib.Core.Bool.{Bool, true, false}
+use mathlib.Core.List.{[], _∷_}
+use mathlib.Core.Path.{_≡_, refl, sym, _∙_}
 use borrow.Author.Needs.{needs}
 use borrow.Author.Tests.{not-true, not-false}
 use Rattle.rules.specs.declared.Refusal.the-variants.{LayoutBounds, StockBounds, CellTwice, ListBounds, ArticleTwice, TooHeavy, ShortOfStock}
 use Rattle.rules.specs.Store.{layoutInBounds}
+use Rattle.rules.specs.Refusals.{firstRow}
+use Rattle.rules.specs.Looked.{stockTested}
 use Rattle.reading.specs.declared.raw.RawJob.{RawJob}
-use Rattle.jobfile.proofs.Verdicts.{stockTest, listTest, stock-ready, list-ready, Past, row-layout, row-stock, row-cells, row-list, row-articles, row-weight, row-short, refused, passed}
+use Rattle.jobfile.specs.Answer.{verdictOf, Decides}
+use Rattle.jobfile.proofs.Verdicts.{stockTest, listTest, stock-ready, list-ready, Past, row-layout, row-stock, row-cells, row-list, row-articles, row-weight, row-short}
+use Rattle.jobfile.proofs.Verdicts.{looked-on, stopped, tested}
 use Rattle.jobfile.proofs.verdict_on.Statement.{statement}
 use Rattle.jobfile.proofs.verdict_on.Tie as tie
 
@@ -67,93 +72,129 @@ past-weight c =
 layout-in-bounds-requires : tie.Need-layout-in-bounds-requires
 layout-in-bounds-requires c κs = search needs
 
+stopped-requires : tie.Need-stopped-requires
+stopped-requires c κs = search needs
+
 returns : tie.Need-returns
 returns c =
-    let raw = c .before .before .before .before .args .raw in
-    let r = c .before .layout-in-bounds in
-    refused raw LayoutBounds (row-layout raw false (sym (r .ensures) ∙ not-true (r .result) (c .if1 .taken)))
+    let raw = c .before .before .before .before .before .args .raw in
+    let r = c .before .before .layout-in-bounds in
+    let row = row-layout raw false (sym (r .ensures) ∙ not-true (r .result) (c .before .if1 .taken)) in
+    stopped raw LayoutBounds refl row (c .stopped .result) (c .stopped .ensures)
 
 stock-in-bounds-requires : tie.Need-stock-in-bounds-requires
 stock-in-bounds-requires c κs = search needs
 
+stopped-requires-2 : tie.Need-stopped-requires-2
+stopped-requires-2 c κs = search needs
+
 returns-2 : tie.Need-returns-2
 returns-2 c =
-    let at-stock = c .before .before in
+    let at-stock = c .before .before .before in
     let raw = raw-1 at-stock in
-    let r = c .before .stock-in-bounds in
-    refused raw StockBounds (row-stock raw false (past-layout at-stock) (sym (r .ensures) ∙ not-true (r .result) (c .if2 .taken)))
+    let r = c .before .before .stock-in-bounds in
+    let row = row-stock raw false (past-layout at-stock) (sym (r .ensures) ∙ not-true (r .result) (c .before .if2 .taken)) in
+    stopped raw StockBounds refl row (c .stopped2 .result) (c .stopped2 .ensures)
+
+stopped-requires-3 : tie.Need-stopped-requires-3
+stopped-requires-3 c κs = search needs
 
 returns-3 : tie.Need-returns-3
 returns-3 c =
-    let at-cells = c .before in
+    let at-cells = c .before .before in
     let raw = raw-2 at-cells in
-    refused raw CellTwice (row-cells raw true (past-stock at-cells) (layout-true (at-cells .before .before)) (stock-true at-cells) (c .if3 .taken))
+    let row = row-cells raw true (past-stock at-cells) (layout-true (at-cells .before .before)) (stock-true at-cells) (c .before .if3 .taken) in
+    stopped raw CellTwice refl row (c .stopped3 .result) (c .stopped3 .ensures)
 
 list-in-bounds-requires : tie.Need-list-in-bounds-requires
 list-in-bounds-requires c κs = search needs
 
+stopped-requires-4 : tie.Need-stopped-requires-4
+stopped-requires-4 c κs = search needs
+
 returns-4 : tie.Need-returns-4
 returns-4 c =
-    let at-list = c .before .before in
+    let at-list = c .before .before .before in
     let raw = raw-3 at-list in
-    let r = c .before .list-in-bounds in
-    refused raw ListBounds (row-list raw false (past-cells at-list) (sym (r .ensures) ∙ not-true (r .result) (c .if4 .taken)))
+    let r = c .before .before .list-in-bounds in
+    let row = row-list raw false (past-cells at-list) (sym (r .ensures) ∙ not-true (r .result) (c .before .if4 .taken)) in
+    stopped raw ListBounds refl row (c .stopped4 .result) (c .stopped4 .ensures)
 
 article-twice-requires : tie.Need-article-twice-requires
 article-twice-requires c κs = list-ready (raw-4 c .job) (list-true c)
 
+stopped-requires-5 : tie.Need-stopped-requires-5
+stopped-requires-5 c κs = search needs
+
 returns-5 : tie.Need-returns-5
 returns-5 c =
-    let at-articles = c .before .before in
+    let at-articles = c .before .before .before in
     let raw = raw-4 at-articles in
-    refused raw ArticleTwice (row-articles raw true (past-list at-articles) (list-true at-articles) (sym (c .before .article-twice .ensures) ∙ c .if5 .taken))
+    let row = row-articles raw true (past-list at-articles) (list-true at-articles) (sym (c .before .before .article-twice .ensures) ∙ c .before .if5 .taken) in
+    stopped raw ArticleTwice refl row (c .stopped5 .result) (c .stopped5 .ensures)
 
 too-heavy-requires : tie.Need-too-heavy-requires
 too-heavy-requires c κs = list-ready (raw-5 c .job) (list-true (c .before .before))
 
+stopped-requires-6 : tie.Need-stopped-requires-6
+stopped-requires-6 c κs = search needs
+
 returns-6 : tie.Need-returns-6
 returns-6 c =
-    let at-weight = c .before .before in
+    let at-weight = c .before .before .before in
     let raw = raw-5 at-weight in
-    refused raw TooHeavy (row-weight raw true (past-articles at-weight) (list-true (at-weight .before .before)) (sym (c .before .too-heavy .ensures) ∙ c .if6 .taken))
+    let row = row-weight raw true (past-articles at-weight) (list-true (at-weight .before .before)) (sym (c .before .before .too-heavy .ensures) ∙ c .before .if6 .taken) in
+    stopped raw TooHeavy refl row (c .stopped6 .result) (c .stopped6 .ensures)
 
-short-of-stock-requires : tie.Need-short-of-stock-requires
-short-of-stock-requires c κs =
+stock-test-requires : tie.Need-stock-test-requires
+stock-test-requires c κs =
     let at-list = c .before .before .before .before in
     let at-cells = at-list .before .before .before in
     (stock-ready (raw-6 c .job) (layout-true (at-cells .before .before)) (stock-true at-cells), list-ready (raw-6 c .job) (list-true at-list))
 
-returns-7 : tie.Need-returns-7
-returns-7 c =
-    let at-short = c .before .before in
-    let raw = raw-6 at-short in
-    let at-list = at-short .before .before .before .before in
+-- the stock test decides, with the number of its records
+by-stock : (c : tie.After-stock-test) (b : Bool) → c .stock-test .result .short ≡ b
+    → Decides (raw-6 (c .before)) (record { verdict = verdictOf (firstRow ((b, ShortOfStock) ∷ [])); looked = c .stock-test .result .looked })
+by-stock c b e =
+    let raw = raw-6 (c .before) in
+    let at-list = c .before .before .before .before .before in
     let at-cells = at-list .before .before .before in
-    refused raw ShortOfStock (row-short raw true (past-weight at-short) (stock-true at-cells) (list-true at-list) (sym (c .before .short-of-stock .ensures) ∙ c .if7 .taken))
+    let t = c .stock-test in
+    let row = row-short raw b (past-weight (c .before)) (stock-true at-cells) (list-true at-list) (sym (t .ensures .0) ∙ e) in
+    tested raw (firstRow ((b, ShortOfStock) ∷ [])) (t .result .looked) (late b) row
+    (λ job read. looked-on raw job read (t .result .looked) (stock-true at-cells) (list-true at-list) (t .ensures .1))
+  where
+    late : (b : Bool) → stockTested (firstRow ((b, ShortOfStock) ∷ [])) ≡ true
+    late true = refl
+    late false = refl
+
+returns-7 : tie.Need-returns-7
+returns-7 c = by-stock (c .before) true (c .if7 .taken)
 
 returns-8 : tie.Need-returns-8
-returns-8 c =
-    let at-short = c .before .before in
-    let raw = raw-6 at-short in
-    let at-list = at-short .before .before .before .before in
-    let at-cells = at-list .before .before .before in
-    passed raw (row-short raw false (past-weight at-short) (stock-true at-cells) (list-true at-list) (sym (c .before .short-of-stock .ensures) ∙ c .if7 .left))
+returns-8 c = by-stock (c .before) false (c .if7 .left)
 
 pub verdict-on-spec : {M : Type 1} → statement M
 verdict-on-spec =
     tie.close
     (tie.spec
     layout-in-bounds-requires
+    stopped-requires
     returns
     stock-in-bounds-requires
+    stopped-requires-2
     returns-2
+    stopped-requires-3
     returns-3
     list-in-bounds-requires
+    stopped-requires-4
     returns-4
     article-twice-requires
+    stopped-requires-5
     returns-5
     too-heavy-requires
+    stopped-requires-6
     returns-6
-    short-of-stock-requires
+    stock-test-requires
     returns-7
     returns-8)

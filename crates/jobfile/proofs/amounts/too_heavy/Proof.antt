@@ -5,7 +5,7 @@ use native.Mathlib.Omega.{arith}
 use lib.ListN.{length, length-map}
 use Rattle.values.specs.Values.{jobOf}
 use Rattle.jobfile.proofs.Ranges.{all-lines}
-use Rattle.jobfile.proofs.Sums.{WeightTo, weight-start, weight-light, weight-heavy, weight-more, quantity-small, product-small}
+use Rattle.jobfile.proofs.Weighing.{WeightTo, weight-start, weight-light, weight-heavy, weight-more, quantity-small, product-small}
 use Rattle.jobfile.proofs.amounts.too_heavy.Statement.{statement}
 use Rattle.jobfile.proofs.amounts.too_heavy.Tie as tie
 

@@ -1,0 +1,2 @@
+-- What the contracts of the program are stated with.
+pub mod Verdicts
