@@ -22,7 +22,7 @@ extern "C" {
 #define DIZHONDU_REFUSED 65536
 
 /* A call fits a thread with this much stack. Measured on x86-64 over all jobs of tests/vectors and tests/cases, by what a call
-   changed of a filled stack below its caller's frame: 211,927 bytes by plan_sheet and 245,255 by plan_page, on every served job. The
+   changed of a filled stack below its caller's frame: 212,272 bytes by plan_sheet and 248,800 by plan_page at most. The
    tests make each of their calls in a thread with just this much. */
 #define DIZHONDU_STACK 262144
 
@@ -30,16 +30,18 @@ extern "C" {
 
    Returns the sheet's byte count, at most sheet_space; the bytes behind it are left as they were. A job with an empty list
    (`D 0`) is served too: a tour of length 0, which treads nothing. A job may have posts between the cells: `L 2`, and after the
-   layout line the line `k u`, a post after every k cells (1 to 24), each u wide (0 to 10). The policy word is EXACT, RETURN,
-   TRAVERSAL, MIDPOINT, COMPOSITE or LARGEST. No tour is longer than 57,280.
+   layout line the line `k u`, a post after every k cells (1 to 24), each u wide (0 to 10). It may have opening hours: between the
+   sections S and D `M 1` with the minute of the day (0 to 1439), then `H n` (0 to 64) with lines aisle, from, to (from below to, to at
+   most 1440). An aisle with lines is open when from <= minute < to for one of them; a shut aisle is not entered, and its stock counts
+   for nothing. The policy word is EXACT, RETURN, TRAVERSAL, MIDPOINT, COMPOSITE or LARGEST. No tour is longer than 57,280.
    For a refused job it returns DIZHONDU_REFUSED plus the refusal's number, and every byte of the sheet is left as
    it was. The first cause of this list that applies gives the number:
 
      1  not a job file                          5  list count (above 8) or field out of bounds
      2  layout number (k, u too) out of bounds  6  an article on two lines
      3  stock count or field out of bounds      7  weight of the list above 256
-     4  a cell in two stock records             8  a line exceeds all stock of its article
-                                                9  sheet longer than its space
+     4  a cell in two stock records             8  a line exceeds all stock of its article in open aisles
+    12  minute, H count or field out of bounds  9  sheet longer than its space
 
    Both pointers must be valid and must not overlap, also where a length is 0. Nothing is kept between calls. The work area
    is on the stack: DIZHONDU_STACK bytes suffice. */

@@ -41,10 +41,10 @@ def stocks(quantity, parts):
     return [min(255, found[0] + max(0, quantity - sum(found)))] + found[1:]
 
 
-def text(layout, stock, orders):
-    """The job file whose sections have these lines of fields."""
+def text(layout, stock, orders, hours=()):
+    """The job file whose sections have these lines of fields; the hours are the sections M and H, or none."""
     lines = []
-    for letter, section in ("L", layout), ("S", stock), ("D", orders):
+    for letter, section in ("L", layout), ("S", stock), *hours, ("D", orders):
         lines += [(letter, len(section)), *section]
     return "".join(" ".join(map(str, fields)) + "\n" for fields in lines).encode()
 
@@ -76,9 +76,9 @@ def sizes():
     ])
 
 
-def some(count, aisles, cells, most_listed, others):
+def some(count, aisles, cells, most_listed, others, policies=POLICIES):
     for _ in range(count):
-        for policy in POLICIES:
+        for policy in policies:
             yield job(policy, between(*aisles), between(*cells), most_listed, between(*others), sizes())
 
 
@@ -152,6 +152,69 @@ def far_ends(policy):
     return text([(16, 24, 60, 30, 60, 400, 1, policy), (1, 10)], stock, [(7, 16)])
 
 
+def sections(job):
+    """The lines of fields of a job's sections L, S and D; all fields are numbers but the policy word."""
+    lines = [[int(word) if word.isdigit() else word for word in line.split()] for line in job.decode().splitlines()]
+    found = []
+    while lines:
+        count = lines[0][1]
+        found.append(lines[1 : 1 + count])
+        lines = lines[1 + count :]
+    return found
+
+
+def widened(job, more, depot_among_them=False, full=False):
+    """The job's sections in a store with more aisles among its own, where the list's articles lie too, and the numbers of those aisles."""
+    layout, stock, orders = sections(job)
+    (aisles, cells, *sizes, depot, policy), *posts = layout
+    own = sorted(shuffled(range(1, aisles + more + 1))[:aisles])
+    others = [aisle for aisle in range(1, aisles + more + 1) if aisle not in own]
+    stock = [(own[aisle - 1], *rest) for aisle, *rest in stock]
+    for aisle in others:
+        for cell in shuffled(range(1, cells + 1))[: cells if full else between(1, 8)]:
+            stock.append((aisle, cell, one_of(orders)[0] if orders else between(1, 30), between(1, 255)))
+    depot = one_of(others) if depot_among_them else own[depot - 1]
+    return [(aisles + more, cells, *sizes, depot, policy), *posts], shuffled(stock), orders, others
+
+
+def windows(minute, is_open):
+    """Windows that open an aisle at the minute, or do not: they start or end there, touch, overlap, or lie before and after."""
+    start, end = between(0, minute), between(minute + 1, 1440)
+    around = shuffled([(start, end), (minute, end), (start, minute + 1), (minute, minute + 1), (0, 1440)])[: between(1, 2)]
+    apart = [(start, minute), (minute + 1, end)] if one_of([True, False]) else [(0, start), (start, minute)]
+    found = [(low, high) for low, high in (around if is_open else []) + apart if low < high]
+    return found or [(0, minute) if minute else (1, 1440)]
+
+
+def with_hours(jobs, more, depot_among_them=False, all_open=False, full=False):
+    """The jobs in stores with so many more aisles, which are shut at the minute; some of their own aisles have windows, and are open."""
+    for job in jobs:
+        minute = one_of([0, 1439, between(1, 1438), between(1, 1438)])
+        layout, stock, orders, others = widened(job, between(*more), depot_among_them, full)
+        aisles = [aisle for aisle in range(1, layout[0][0] + 1) if aisle in others or all_open or one_of([True, False])]
+        lines = [(aisle, *window) for aisle in aisles for window in windows(minute, all_open or aisle not in others)]
+        while full and len(lines) < 64:
+            aisle = one_of(aisles)
+            lines += [(aisle, *window) for window in windows(minute, aisle not in others)][: 64 - len(lines)]
+        yield text(layout, stock, orders, [("M", [(minute,)]), ("H", shuffled(lines))])
+
+
+def at_any_minute(jobs):
+    """The jobs with a minute and no windows."""
+    for job in jobs:
+        yield text(*sections(job), [("M", [(between(0, 1439),)]), ("H", [])])
+
+
+def a_minute_later(jobs, more):
+    """Each job in a store with so many more aisles, in the last minute in which they are open, and in the first in which they are shut."""
+    for job in jobs:
+        layout, stock, orders, others = widened(job, between(*more), full=True)
+        minute = between(1, 1439)
+        lines = [(aisle, between(0, minute - 1), minute) for aisle in others]
+        for now in minute - 1, minute:
+            yield text(layout, stock, orders, [("M", [(now,)]), ("H", lines)])
+
+
 JOBS = [
     *some(30, (1, 4), (1, 5), 12, (0, 3)),
     *some(20, (3, 9), (3, 12), 14, (0, 12)),
@@ -178,6 +241,20 @@ JOBS = [
 ]
 # LARGEST (request #104): every job under MIDPOINT once more, and jobs of its own
 JOBS += [*map(largest, (job for job in JOBS if b" MIDPOINT\n" in job)), *many_stops(60)]
+# hours (request #106)
+SIX = [*POLICIES, "LARGEST"]
+JOBS += [
+    *with_hours(some(4, (1, 3), (1, 5), 10, (0, 3), SIX), (1, 2)),
+    *with_hours(some(2, (3, 7), (3, 12), 14, (0, 12), SIX), (1, 4)),
+    *with_hours(some(1, (8, 12), (12, 24), 16, (0, 20), SIX), (2, 4)),
+    *with_hours(with_posts(some(2, (2, 6), (2, 12), 12, (0, 12), SIX)), (1, 3)),
+    *with_hours(some(2, (1, 5), (2, 8), 10, (0, 6), SIX), (1, 3), depot_among_them=True),
+    *with_hours(some(1, (1, 6), (2, 8), 10, (0, 6), SIX), (1, 1), all_open=True),
+    *with_hours(some(1, (1, 9), (2, 12), 0, (1, 40), SIX), (1, 4)),
+    *with_hours((posted(job(policy, 12, 24, 18, 384, (60, 30, 60, 400)), 1, 10) for policy in SIX), (4, 4), full=True),
+    *at_any_minute(some(1, (1, 6), (2, 8), 10, (0, 6), SIX)),
+    *a_minute_later(some(3, (1, 4), (2, 8), 10, (0, 6), SIX), (1, 2)),
+]
 
 if __name__ == "__main__":
     print(b"".join(JOBS).decode(), end="")

@@ -11,8 +11,9 @@ enum { MOST_CELLS = 18, MOST_STEPS = 3000000 }; /* what the search over walks an
 /* The job. */
 static int m, C, f, p, b, w, d, lines, quantity[LINES];
 static int bay, post; /* posts (request #102): the cells between two, and the width of one */
+static int shut[AISLES + 1]; /* aisles that are shut at the minute (request #106) */
 static char policy[16];
-static int cells; /* cells that hold an article of the list */
+static int cells; /* cells that hold an article of the list and are open */
 static struct { int aisle, height, line, stock; } listed[RECORDS];
 
 /* The distance of a height from the front: 0 the front crossing, 1 to C the cells, C + 1 the back crossing.
@@ -30,6 +31,19 @@ static void fail(const char *why) {
     exit(2);
 }
 
+/* The sections M and H, where they stand: an aisle with windows is shut unless the minute lies in one of them. */
+static void read_hours(void) {
+    int minute, windows, aisle, from, to, open[AISLES + 1] = {0};
+    memset(shut, 0, sizeof shut);
+    if (scanf(" M 1 %d", &minute) != 1) return;
+    if (scanf(" H %d", &windows) != 1) fail("no H section");
+    while (windows-- > 0) {
+        if (scanf("%d %d %d", &aisle, &from, &to) != 3 || aisle < 1 || aisle > m) fail("no window");
+        if (from <= minute && minute < to) open[aisle] = 1;
+        shut[aisle] = !open[aisle];
+    }
+}
+
 static int read_job(void) {
     static int record[RECORDS][4];
     int count, records, article[LINES];
@@ -40,13 +54,14 @@ static int read_job(void) {
     for (int r = 0; r < records; r++)
         for (int k = 0; k < 4; k++)
             if (scanf("%d", &record[r][k]) != 1) fail("no stock record");
+    read_hours();
     if (scanf(" D %d", &lines) != 1 || lines > LINES) fail("no D section");
     for (int n = 0; n < lines; n++)
         if (scanf("%d %d", &article[n], &quantity[n]) != 2) fail("no list line");
     cells = 0;
     for (int r = 0; r < records; r++)
         for (int n = 0; n < lines; n++)
-            if (record[r][2] == article[n]) {
+            if (record[r][2] == article[n] && !shut[record[r][0]]) {
                 listed[cells].aisle = record[r][0];
                 listed[cells].height = record[r][1];
                 listed[cells].line = n;
@@ -60,10 +75,10 @@ static int read_job(void) {
 
 static int point(int aisle, int height) { return (aisle - 1) * (C + 2) + height; }
 
-/* The distance of the stretch between two points, or FAR. */
+/* The distance of the stretch between two points, or FAR; inside a shut aisle there is none to tread. */
 static int stretch(int x, int y) {
     int j = x / (C + 2), h = x % (C + 2), k = y / (C + 2), i = y % (C + 2);
-    if (j == k && abs(h - i) == 1) return abs(position(h) - position(i));
+    if (j == k && abs(h - i) == 1 && !shut[j + 1]) return abs(position(h) - position(i));
     if (abs(j - k) == 1 && h == i && (h == 0 || h == C + 1)) return w;
     return FAR;
 }
@@ -301,7 +316,7 @@ static void take(int j, int length, enum kind kind, int low, int high) {
    cell that it passes, or left out if it passes none; it then passes the same listed cells and is shorter. */
 static void choose_action(int j, int length) {
     take(j, length, VOID, 0, 0);
-    if (!holds(j) && !is("EXACT")) return;
+    if (shut[j] || (!holds(j) && !is("EXACT"))) return;
     for (int x = 0; x < cells; x++) {
         if (listed[x].aisle != j) continue;
         take(j, length, BOTTOM, listed[x].height, 0);

@@ -10,7 +10,7 @@ use Rattle.rules.specs.declared.Policy.the-variants.{Exact, Return, Traversal, 
 use Rattle.rules.specs.declared.Action.{Action}
 use Rattle.rules.specs.declared.Action.the-variants.{Void, Bottom, Top, Gap, Once, Twice}
 use Rattle.rules.specs.Policies.{actionNamed}
-use Rattle.rules.specs.Machine.{State, nothing, closed, atFront, atBack, odd, joined, split, ending, dead, row, midpointBy, mayEnter, isVoid}
+use Rattle.rules.specs.Machine.{State, nothing, closed, atFront, atBack, odd, joined, split, ending, dead, row, midpointBy, isVoid}
 use Rattle.machine.specs.Steps.{sampleAction, stepOf}
 use Rattle.machine.specs.Tables.{automatonOf}
 
@@ -47,22 +47,22 @@ midpoint-no Once s = inl refl
 midpoint-no Twice s = inl refl
 
 -- with the answer 'no' a step leads where it does with 'yes', or nowhere
-pub step-no : (policy : Policy) (a : Action) (holds : Bool) (s : State) → (stepOf policy a holds false s ≡ stepOf policy a holds true s) ⊎ (stepOf policy a holds false s ≡ dead)
+pub step-no : (policy : Policy) (a : Action) (may : Bool) (s : State) → (stepOf policy a may false s ≡ stepOf policy a may true s) ⊎ (stepOf policy a may false s ≡ dead)
 unfolding stepOf
-step-no policy a holds s = by-policy policy
+step-no policy a may s = by-policy policy
   where
     if-possible : (b : Bool) → (midpointBy false a s ≡ midpointBy true a s) ⊎ (midpointBy false a s ≡ dead)
         → (cond b (midpointBy false a s) dead ≡ cond b (midpointBy true a s) dead) ⊎ (cond b (midpointBy false a s) dead ≡ dead)
     if-possible true e = e
     if-possible false e = inl refl
 
-    by-policy : (p : Policy) → (stepOf p a holds false s ≡ stepOf p a holds true s) ⊎ (stepOf p a holds false s ≡ dead)
+    by-policy : (p : Policy) → (stepOf p a may false s ≡ stepOf p a may true s) ⊎ (stepOf p a may false s ≡ dead)
     by-policy Exact = inl refl
     by-policy Return = inl refl
     by-policy Traversal = inl refl
-    by-policy Midpoint = if-possible (actionNamed Midpoint a && (isVoid a || mayEnter Midpoint holds)) (midpoint-no a s)
+    by-policy Midpoint = if-possible (actionNamed Midpoint a && (isVoid a || may)) (midpoint-no a s)
     by-policy Composite = inl refl
-    by-policy Largest = if-possible (actionNamed Largest a && (isVoid a || mayEnter Largest holds)) (midpoint-no a s)
+    by-policy Largest = if-possible (actionNamed Largest a && (isVoid a || may)) (midpoint-no a s)
 
 -- kinds to which the answer does not matter
 midpoint-same : (kind : ℕ) → (kind ≡ 0) ⊎ (4 ≤ kind) → (s : State) → midpointBy false (sampleAction kind) s ≡ midpointBy true (sampleAction kind) s
@@ -77,18 +77,18 @@ midpoint-same (suc (suc (suc (suc zero)))) k s = refl
 midpoint-same (suc (suc (suc (suc (suc kind))))) k s = refl
 
 -- policies and kinds to which it does not
-pub step-same : (policy : Policy) (kind : ℕ) → (eqb (automatonOf policy) 2 ≡ false) ⊎ ((kind ≡ 0) ⊎ (4 ≤ kind)) → (holds : Bool) (s : State)
-    → stepOf policy (sampleAction kind) holds false s ≡ stepOf policy (sampleAction kind) holds true s
+pub step-same : (policy : Policy) (kind : ℕ) → (eqb (automatonOf policy) 2 ≡ false) ⊎ ((kind ≡ 0) ⊎ (4 ≤ kind)) → (may : Bool) (s : State)
+    → stepOf policy (sampleAction kind) may false s ≡ stepOf policy (sampleAction kind) may true s
 unfolding stepOf
-step-same Exact kind free holds s = refl
-step-same Return kind free holds s = refl
-step-same Traversal kind free holds s = refl
-step-same Midpoint kind (inl e) holds s = absurd (true≢false e)
-step-same Midpoint kind (inr k) holds s =
+step-same Exact kind free may s = refl
+step-same Return kind free may s = refl
+step-same Traversal kind free may s = refl
+step-same Midpoint kind (inl e) may s = absurd (true≢false e)
+step-same Midpoint kind (inr k) may s =
     let a = sampleAction kind in
-    ap (λ t. cond (actionNamed Midpoint a && (isVoid a || mayEnter Midpoint holds)) t dead) (midpoint-same kind k s)
-step-same Composite kind free holds s = refl
-step-same Largest kind (inl e) holds s = absurd (true≢false e)
-step-same Largest kind (inr k) holds s =
+    ap (λ t. cond (actionNamed Midpoint a && (isVoid a || may)) t dead) (midpoint-same kind k s)
+step-same Composite kind free may s = refl
+step-same Largest kind (inl e) may s = absurd (true≢false e)
+step-same Largest kind (inr k) may s =
     let a = sampleAction kind in
-    ap (λ t. cond (actionNamed Largest a && (isVoid a || mayEnter Largest holds)) t dead) (midpoint-same kind k s)
+    ap (λ t. cond (actionNamed Largest a && (isVoid a || may)) t dead) (midpoint-same kind k s)

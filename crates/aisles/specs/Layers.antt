@@ -30,7 +30,7 @@ use Rattle.aisles.specs.Turns.{frontTurn, backTurn, leastBack}
 pub record InRange (x : Aisle) : Type 0 where
   pub bounds : layoutInBounds (x .layout) ≡ true
   pub policy-below : x .policy < 6
-  pub holds-below : x .holds < 2
+  pub may-below : x .may < 2
   pub small : x .weight ≤ demands
   pub side-below : x .side < 3
   pub few : x .tried ≤ 5
@@ -39,12 +39,12 @@ pub record InRange (x : Aisle) : Type 0 where
 -- the number of the state after a kind of action, with the answer of the test for aisles between given
 unfoldable pub stepWith : Aisle → ℕ → Bool → ℕ → ℕ
 stepWith x kind between s =
-    stateCode (stepOf (policyOf (x .policy)) (sampleAction kind) (bit (x .holds)) between (stateOf s))
+    stateCode (stepOf (policyOf (x .policy)) (sampleAction kind) (bit (x .may)) between (stateOf s))
 
 -- the number of the state after a candidate
 unfoldable pub stepCode : Aisle → Candidate → ℕ → ℕ
 stepCode x c s =
-    stateCode (stepOf (policyOf (x .policy)) (sampleAction (c .kind)) (bit (x .holds)) (candidateBetween (x .between) c) (stateOf s))
+    stateCode (stepOf (policyOf (x .policy)) (sampleAction (c .kind)) (bit (x .may)) (candidateBetween (x .between) c) (stateOf s))
 
 -- the number of the demand after a candidate
 unfoldable pub leftCode : List ℕ → List ℕ → Candidate → ℕ → ℕ

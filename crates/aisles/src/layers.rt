@@ -29,12 +29,12 @@ ghost use lib.ListN.{getD, length};
 ghost use mathlib.Core.Bool.{true};
 ghost use mathlib.Core.Path.{_≡_};
 
-// What the table needs of an aisle: the layout, the policy, whether it holds a listed article (0 or 1), the weight, where it
-// lies (left of the depot 0, at it 1, right of it 2), how many passages are tried behind it, and the test for aisles between.
+// What the table needs of an aisle: the layout, the policy, whether it may be entered (0 or 1), the weight, where it lies
+// (left of the depot 0, at it 1, right of it 2), how many passages are tried behind it, and the test for aisles between.
 pub struct Aisle {
     pub layout: Layout,
     pub policy: usize,
-    pub holds: usize,
+    pub may: usize,
     pub weight: usize,
     pub side: usize,
     pub tried: usize,
@@ -63,11 +63,11 @@ fn steps_of(x: Aisle, kind: usize, between: usize) -> [usize; STATES]
     ensures { λ r. ⌜ ((s : ℕ) → s < states → getD r s 0 ≡ stepWith x kind (bit between) s) ⌝ }
 {
     let policy = x.policy;
-    let holds = x.holds;
+    let may = x.may;
     let mut out = [0usize; STATES];
     let mut s = 0;
     while s < STATES {
-        out[s] = action_step(policy, kind, holds, between, s);
+        out[s] = action_step(policy, kind, may, between, s);
         s += 1;
     }
     out

@@ -13,6 +13,7 @@ pub mod WalkReads
 pub mod Determined
 pub mod Counts
 pub mod Serving
+pub mod ShutAisles
 pub mod First
 pub mod Greedily
 pub mod Statements

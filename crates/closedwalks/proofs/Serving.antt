@@ -6,7 +6,7 @@ use mathlib.Core.List.{List, [], _∷_, List·Memᴰ, List·Memᴰ·head, List·
 use mathlib.Core.Bool.{Bool, true, false, cond, _&&_}
 use lib.Dec.{eqb}
 use Rattle.rules.specs.declared.StockRecord.{StockRecord}
-use Rattle.rules.specs.Jobs.{Job}
+use Rattle.rules.specs.Jobs.{Job, openStock}
 use Rattle.rules.specs.Serving.{supply, Serves}
 
 cond-le : (t u v : Bool) (q : ℕ) → (u ≡ true → v ≡ true) → cond (t && u) q 0 ≤ cond (t && v) q 0
@@ -24,6 +24,7 @@ supply-le f g [] a h = omega arith
 supply-le f g (r ∷ stock) a h =
     omega (arith, cond-le (eqb (r .article) a) (f (r .aisle) (r .cell)) (g (r .aisle) (r .cell)) (r .quantity) (h r (List·Memᴰ·head refl)), supply-le f g stock a (λ s m. h s (List·Memᴰ·tail m)))
 
-pub serves-too : (job : Job) (f g : ℕ → ℕ → Bool) → PassesToo f g (job .stock) → Serves job f → Serves job g
+-- so it does of the records that count
+pub serves-too : (job : Job) (f g : ℕ → ℕ → Bool) → PassesToo f g (openStock job) → Serves job f → Serves job g
 unfolding Serves
-serves-too job f g h s l m = omega (arith, s l m, supply-le f g (job .stock) (l .article) h)
+serves-too job f g h s l m = omega (arith, s l m, supply-le f g (openStock job) (l .article) h)

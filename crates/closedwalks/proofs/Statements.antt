@@ -1,18 +1,20 @@
 -- The laws of closed walks, in one place: Euler, the first walk, walks read as plans, steps and lengths.
 use Prim.Native.Nat.{ℕ, _≤_}
 use native.Mathlib.Omega.{arith}
-use mathlib.Core.Path.{_≡_}
+use mathlib.Core.Path.{_≡_, _∙_}
 use mathlib.Core.List.{List, [], List·Memᴰ}
-use mathlib.Core.Bool.{true}
+use mathlib.Core.Bool.{true, false}
 use lib.ListN.{length}
 use Rattle.rules.specs.declared.Layout.{Layout}
 use Rattle.rules.specs.declared.StockRecord.{StockRecord}
 use Rattle.rules.specs.declared.OrderLine.{OrderLine}
-use Rattle.rules.specs.Jobs.{Job}
-use Rattle.rules.specs.Store.{Point, Edge, InStore, depotPoint, layoutInBounds}
+use Rattle.rules.specs.Hours.{Hours, NoHours, isOpen}
+use Rattle.rules.specs.Jobs.{Job, openStock}
+use Rattle.rules.specs.Store.{Point, Edge, along, InStore, depotPoint, layoutInBounds}
 use Rattle.rules.specs.Plans.{Plan, WellFormed, multiplicity, planPasses, planLength}
 use Rattle.rules.specs.Lawful.{Lawful, LawfulFor}
-use Rattle.rules.specs.Walks.{Walk, ClosedWalk, walkTreads, walkPasses, walkLength, NotAfter}
+use Rattle.rules.specs.Walks.{Walk, ClosedWalk, walkTreads, walkPasses, walkLength, NotAfter, KeepsToOpen}
+use Rattle.rules.specs.Policies.{ShutVoid}
 use Rattle.rules.specs.FirstWalk.{WalkOf, firstWalk, stepsOf}
 use Rattle.rules.specs.Serving.{PlanServes, WalkServes}
 use Rattle.rules.proofs.EmptyList.{lawful-for-empty}
@@ -26,6 +28,7 @@ use Rattle.closedwalks.proofs.WalkReads as WalkReads
 use Rattle.closedwalks.proofs.Determined as Determined
 use Rattle.closedwalks.proofs.Counts as Counts
 use Rattle.closedwalks.proofs.Passing as Passing
+use Rattle.closedwalks.proofs.ShutAisles as ShutAisles
 use Rattle.closedwalks.proofs.Serving.{serves-too}
 
 module _ (z : Layout) (low : 1 ≤ z .depot) (high : z .depot ≤ z .aisles) where
@@ -48,11 +51,20 @@ module _ (z : Layout) (low : 1 ≤ z .depot) (high : z .depot ≤ z .aisles) whe
       → (plan : Plan) × Lawful z plan × ((e : Edge) → InStore z e → multiplicity plan e ≡ walkTreads z walk e)
   walk-reads = WalkReads.walk-reads z low high
 
-  -- for every closed walk with a step, however often it treads an edge, a lawful plan passes the same cells and is no longer
+  -- where the walk keeps to open aisles, the plan keeps out of shut ones
+  pub walk-reads-open : (hours : Hours) (walk : Walk) → ¬ (walk ≡ []) → ClosedWalk z walk → KeepsToOpen z hours walk → ((e : Edge) → InStore z e → walkTreads z walk e ≤ 2)
+      → (plan : Plan) × Lawful z plan × ShutVoid hours plan × ((e : Edge) → InStore z e → multiplicity plan e ≡ walkTreads z walk e)
+  unfolding KeepsToOpen
+  walk-reads-open hours walk some closed keeps few =
+      let t = walk-reads walk some closed few in
+      (t .0, t .1, ShutAisles.shut-void hours z (t .0) (t .1 .well-formed) (λ j k shut i. t .2 (along j k) i ∙ keeps j k shut i), t .2)
+
+  -- for every closed walk with a step, however often it treads an edge, a lawful plan passes the same cells, is no longer and treads no other edge
   pub walk-plan : (walk : Walk) → ¬ (walk ≡ []) → ClosedWalk z walk
       → (plan : Plan) × Lawful z plan
       × ((j c : ℕ) → walkPasses z walk j c ≡ true → 1 ≤ c → c ≤ z .cells → planPasses plan j c ≡ true)
       × (planLength z plan ≤ walkLength z walk)
+      × ((e : Edge) → InStore z e → walkTreads z walk e ≡ 0 → multiplicity plan e ≡ 0)
   walk-plan = WalkReads.walk-plan z low high
 
   -- a walk of a plan has as many steps as the plan has treads, and the plan's length
@@ -79,12 +91,28 @@ completed = Euler.completed
 pub plan-determined : (z : Layout) (plan other : Plan) → WellFormed z plan → WellFormed z other → ((e : Edge) → InStore z e → multiplicity plan e ≡ multiplicity other e) → plan ≡ other
 plan-determined = Determined.plan-determined
 
--- a closed walk that serves a job's list gives a lawful plan that serves it and is no longer
+-- a plan that treads no edge of a shut aisle is VOID there
+pub shut-void : (hours : Hours) (z : Layout) (plan : Plan) → WellFormed z plan
+    → ((j k : ℕ) → isOpen hours j ≡ false → InStore z (along j k) → multiplicity plan (along j k) ≡ 0) → ShutVoid hours plan
+shut-void = ShutAisles.shut-void
+
+-- the walks of a plan in which shut aisles are VOID keep to open ones, and without the sections every walk does
+pub walk-keeps : (hours : Hours) (z : Layout) (plan : Plan) (walk : Walk) → ShutVoid hours plan → WalkOf z plan walk → KeepsToOpen z hours walk
+walk-keeps = ShutAisles.walk-keeps
+
+pub plain-keeps : (z : Layout) (walk : Walk) → KeepsToOpen z NoHours walk
+plain-keeps = ShutAisles.plain-keeps
+
+-- a closed walk that serves a job's list in open aisles gives a lawful plan that keeps out of shut ones, serves it and is no longer
 pub walk-plan-serves : (job : Job) → 1 ≤ job .layout .depot → job .layout .depot ≤ job .layout .aisles
-    → ((r : StockRecord) → List·Memᴰ r (job .stock) → (1 ≤ r .cell) × (r .cell ≤ job .layout .cells))
-    → (walk : Walk) → ¬ (walk ≡ []) → ClosedWalk (job .layout) walk → WalkServes job walk
-    → (plan : Plan) × Lawful (job .layout) plan × PlanServes job plan × (planLength (job .layout) plan ≤ walkLength (job .layout) walk)
-unfolding PlanServes WalkServes
-walk-plan-serves job low high cells walk some closed serves =
-    let t = walk-plan (job .layout) low high walk some closed in
-    (t .0, t .1, serves-too job (walkPasses (job .layout) walk) (planPasses (t .0)) (λ r m h. t .2 (r .aisle) (r .cell) h (cells r m .0) (cells r m .1)) serves, t .3)
+    → ((r : StockRecord) → List·Memᴰ r (openStock job) → (1 ≤ r .cell) × (r .cell ≤ job .layout .cells))
+    → (walk : Walk) → ¬ (walk ≡ []) → ClosedWalk (job .layout) walk → KeepsToOpen (job .layout) (job .hours) walk → WalkServes job walk
+    → (plan : Plan) × Lawful (job .layout) plan × ShutVoid (job .hours) plan × PlanServes job plan
+    × (planLength (job .layout) plan ≤ walkLength (job .layout) walk)
+unfolding PlanServes WalkServes KeepsToOpen
+walk-plan-serves job low high cells walk some closed keeps serves =
+    let z = job .layout in
+    let t = walk-plan z low high walk some closed in
+    let shut = shut-void (job .hours) z (t .0) (t .1 .well-formed) (λ j k h i. t .4 (along j k) i (keeps j k h i)) in
+    let served = serves-too job (walkPasses z walk) (planPasses (t .0)) (λ r m h. t .2 (r .aisle) (r .cell) h (cells r m .0) (cells r m .1)) serves in
+    (t .0, t .1, shut, served, t .3)

@@ -144,15 +144,17 @@ module _ (z : Layout) where
         trodden-passes (actionAt plan j) c u
         (omega (arith, t .1, degree-cell z treads j c u v, eq (along j (c - 1)) (low, high, omega arith), eq (along j c) (low, high, v)))
 
-    -- whatever a closed walk treads, a lawful plan passes the same cells and is no longer
+    -- whatever a closed walk treads, a lawful plan passes the same cells, is no longer, and treads no other edge
     pub walk-plan : (plan : Plan) × Lawful z plan
         × ((j c : ℕ) → walkPasses z walk j c ≡ true → 1 ≤ c → c ≤ z .cells → planPasses plan j c ≡ true)
         × (planLength z plan ≤ walkLength z walk)
-    unfolding planLength lengthOf
+        × ((e : Edge) → InStore z e → walkTreads z walk e ≡ 0 → multiplicity plan e ≡ 0)
+    unfolding planLength lengthOf clamped walkTreads timesIn
     walk-plan =
         let r = reads z clamped clamped-readable (omega arith) in (
           r .0,
           r .1,
           clamped-passes (r .0) (r .2),
           omega (arith, clamped-length, sum-same z (λ e. multiplicity (r .0) e * distance z e) (λ e. clamped e * distance z e) (λ e i. rw (r .2 e i))),
+          λ e i none. omega (arith, r .2 e i),
         )

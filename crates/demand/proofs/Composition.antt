@@ -11,10 +11,10 @@ use borrow.Author.Tests.{eqb-true, eq-eqb}
 use Rattle.rules.specs.declared.StockRecord.{StockRecord}
 use Rattle.rules.specs.declared.OrderLine.{OrderLine}
 use Rattle.rules.specs.Lists.{sumOf, productOf, allOf}
-use Rattle.rules.specs.Jobs.{Job}
+use Rattle.rules.specs.Jobs.{Job, openStock}
 use Rattle.rules.specs.Refusals.{stockInBounds, weight}
 use Rattle.rules.proofs.Lists.{sum-agree, sum-plus}
-use Rattle.rules.proofs.Admission.{stock-within}
+use Rattle.rules.proofs.Admission.{stock-within, open-in-stock}
 use Rattle.optimum.specs.Demand.{gains, less, wholeDemand, met, radices, codeOf, demandOf, lessCode}
 use Rattle.optimum.proofs.Radix.{Positive, code-of-demand, less-code, radices-positive, count-weight}
 
@@ -24,7 +24,7 @@ stockWhere stock j p a =
     sumOf (λ (r : StockRecord). cond (eqb (r .article) a && (eqb (r .aisle) j && p (r .cell))) (r .quantity) 0) stock
 
 abbrev pub gainsWhere : Job → ℕ → (ℕ → Bool) → List ℕ
-gainsWhere job j p = map (λ (l : OrderLine). stockWhere (job .stock) j p (l .article)) (job .lines)
+gainsWhere job j p = map (λ (l : OrderLine). stockWhere (openStock job) j p (l .article)) (job .lines)
 
 -- two vectors of gains together
 abbrev pub plus : List ℕ → List ℕ → List ℕ
@@ -50,14 +50,14 @@ map-plus f g h e (l ∷ ls) = ap₂ (λ x xs. x ∷ xs) (e l) (map-plus f g h e 
 pub gains-parted : (job : Job) → stockInBounds job ≡ true → (j : ℕ) (p q r : ℕ → Bool)
     → ((c : ℕ) → 1 ≤ c → c ≤ job .layout .cells → Parted (p c) (q c) (r c)) → gainsWhere job j p ≡ plus (gainsWhere job j q) (gainsWhere job j r)
 gains-parted job ok j p q r e =
-    map-plus _ _ _ (λ l. sum-agree _ _ (job .stock) (at-record l) ∙ sum-plus _ _ (job .stock)) (job .lines)
+    map-plus _ _ _ (λ l. sum-agree _ _ (openStock job) (at-record l) ∙ sum-plus _ _ (openStock job)) (job .lines)
   where
     held : (ℕ → Bool) → OrderLine → StockRecord → ℕ
     held p l s = cond (eqb (s .article) (l .article) && (eqb (s .aisle) j && p (s .cell))) (s .quantity) 0
 
-    at-record : (l : OrderLine) (s : StockRecord) → List·Memᴰ s (job .stock) → held p l s ≡ held q l s + held r l s
+    at-record : (l : OrderLine) (s : StockRecord) → List·Memᴰ s (openStock job) → held p l s ≡ held q l s + held r l s
     at-record l s m =
-        let (low, high) = stock-within job .0 ok .records s m .cell in
+        let (low, high) = stock-within job .0 ok .records s (open-in-stock job s m) .cell in
         parted-under (eqb (s .article) (l .article)) (eqb (s .aisle) j) (p (s .cell)) (q (s .cell)) (r (s .cell)) (s .quantity) (e (s .cell) low high)
 
 -- what is lacking after two vectors of gains

@@ -16,11 +16,11 @@ use Rattle.rules.specs.declared.Action.the-variants.{Bottom, Top}
 use Rattle.rules.specs.declared.OrderLine.{OrderLine}
 use Rattle.rules.specs.declared.StockRecord.{StockRecord}
 use Rattle.rules.specs.Lists.{sumOf}
-use Rattle.rules.specs.Jobs.{Job}
+use Rattle.rules.specs.Jobs.{Job, openStock}
 use Rattle.rules.specs.Picks.{recordAt}
 use Rattle.rules.specs.Refusals.{stockInBounds, weight, Admitted}
 use Rattle.rules.proofs.Lists.{sum-agree}
-use Rattle.rules.proofs.Admission.{layout-within, list-within, stock-within}
+use Rattle.rules.proofs.Admission.{layout-within, list-within, stock-within, open-in-stock}
 use Rattle.optimum.specs.Demand.{supplyIn, gains, radices, lessCode}
 use Rattle.optimum.proofs.Radix.{less-code-below, radices-positive, gains-length, count-weight}
 use Rattle.values.specs.declared.Shelf.{Shelf}
@@ -60,16 +60,16 @@ back-parted i c n = go (ℕ-discrete c i)
 no-gains : (job : Job) (p : ℕ → Bool) (j : ℕ) → stockInBounds job ≡ true
     → ((c : ℕ) → 1 ≤ c → c ≤ job .layout .cells → p c ≡ false) → gainsWhere job j p ≡ replicate (length (job .lines)) 0
 no-gains job p j ok out =
-    none-gained _ (job .lines) (λ l k. sum-agree _ (λ r. 0) (job .stock) (λ s m. nothing l s m) ∙ sum-zero (job .stock))
+    none-gained _ (job .lines) (λ l k. sum-agree _ (λ r. 0) (openStock job) (λ s m. nothing l s m) ∙ sum-zero (openStock job))
   where
     sum-zero : (xs : List StockRecord) → sumOf (λ (r : StockRecord). 0) xs ≡ 0
     sum-zero [] = refl
     sum-zero (x ∷ xs) = omega (arith, sum-zero xs)
 
-    nothing : (l : OrderLine) (s : StockRecord) → List·Memᴰ s (job .stock)
+    nothing : (l : OrderLine) (s : StockRecord) → List·Memᴰ s (openStock job)
         → cond (eqb (s .article) (l .article) && (eqb (s .aisle) j && p (s .cell))) (s .quantity) 0 ≡ 0
     nothing l s m =
-        let w = stock-within job .0 ok .records s m .cell in
+        let w = stock-within job .0 ok .records s (open-in-stock job s m) .cell in
         rw (out (s .cell) (w .0) (w .1), and-false (eqb (s .aisle) j), and-false (eqb (s .article) (l .article))) refl
 
 -- what the record of a cell leaves of a demand
@@ -166,7 +166,7 @@ module _ {job : Job} {shelf : Shelf} {d : Digits} {cells j : ℕ} (asked : MapsA
       → lessLine d (lineAt shelf j c) (quantityAt shelf j c) v ≡ lessCode (radices job) (plus (gains job j x) (gainsWhere job j (λ k. eqb k c))) q
   cell-step x c q v low high e =
       let z = aisle-small in
-      let o = recordAt (job .stock) (record { aisle = j; height = c }) in
+      let o = recordAt (openStock job) (record { aisle = j; height = c }) in
       let here = gainsWhere job j (λ k. eqb k c) in
       let line = asked .shelf-of .line-at j c (z .2) (z .3) low (omega arith) in
       let quantity = asked .shelf-of .quantity-at j c (z .2) (z .3) low (omega arith) in

@@ -10,13 +10,14 @@ use lib.ListN.{length, getD, take}
 use borrow.Author.Tests.{eqb-true, eq-eqb}
 use Rattle.rules.specs.declared.StockRecord.{StockRecord}
 use Rattle.rules.specs.declared.OrderLine.{OrderLine}
-use Rattle.rules.specs.Lists.{anyOf, anyTwo, firstOf}
+use Rattle.rules.specs.Lists.{anyOf, anyTwo, select, firstOf}
 use Rattle.rules.specs.Store.{Point}
-use Rattle.rules.specs.Jobs.{Job}
+use Rattle.rules.specs.Hours.{isOpen}
+use Rattle.rules.specs.Jobs.{Job, openStock}
 use Rattle.rules.specs.Picks.{recordAt}
 use Rattle.rules.specs.Refusals.{sameCell, Admitted}
-use Rattle.rules.proofs.Lists.{any-false}
-use Rattle.rules.proofs.Admission.{same-cell, one-record-per-cell}
+use Rattle.rules.proofs.Lists.{any-false, member-select, no-two-alike, sorted-select}
+use Rattle.rules.proofs.Admission.{same-cell, one-record-per-cell, open-in-stock}
 use Rattle.demand.proofs.Composition.{stockWhere, gainsWhere}
 
 -- an or that is false is false on both sides
@@ -38,6 +39,14 @@ module _ {A : Type 0} where
   none-before alike d (x ∷ xs) (suc n) h e =
       let parts = or-false (anyOf (alike x) xs) (anyTwo alike xs) e in
       rw (any-false (alike x) xs .0 (parts .0) (getD xs n d) (at-member d xs n (omega arith))) (none-before alike d xs n (omega arith) (parts .1))
+
+  -- where no two are alike, or none is such, so it is among those of which another test holds
+  pub alike-select : (alike : A → A → Bool) (t : A → Bool) (xs : List A) → anyTwo alike xs ≡ false → anyTwo alike (select t xs) ≡ false
+  alike-select alike t xs e = no-two-alike alike (select t xs) .1 (sorted-select _ t xs (no-two-alike alike xs .0 e))
+
+  pub none-select : (such t : A → Bool) (xs : List A) → anyOf such xs ≡ false → anyOf such (select t xs) ≡ false
+  none-select such t xs e =
+      any-false such (select t xs) .1 (λ x m. any-false such xs .0 e x (member-select t xs .0 m .0))
 
   -- the first element of which a test holds: a member; none where the test holds of none; with one more, at the end
   pub first-member : (t : A → Bool) (xs : List A) (x : A) → firstOf t xs ≡ some x → List·Memᴰ x xs × (t x ≡ true)
@@ -79,17 +88,27 @@ is-at j c r e = let parts = and-eq-true-iff (eqb (r .aisle) j) (eqb (r .cell) c)
 pub at-itself : (r : StockRecord) → isAt (r .aisle) (r .cell) r ≡ true
 at-itself r = rw (eq-eqb (r .aisle) (r .aisle) refl, eq-eqb (r .cell) (r .cell) refl) refl
 
--- a record of a stock in which no two are of one cell is the record of its cell
-pub its-record : (job : Job) → Admitted job → (r : StockRecord) → List·Memᴰ r (job .stock) → recordAt (job .stock) (cellAt (r .aisle) (r .cell)) ≡ some r
+-- two records of the stock that counts are the same if they are of one cell
+pub one-open-record : (job : Job) → Admitted job → (r s : StockRecord) → List·Memᴰ r (openStock job) → List·Memᴰ s (openStock job)
+    → r .aisle ≡ s .aisle → r .cell ≡ s .cell → r ≡ s
+one-open-record job ok r s k m a c =
+    one-record-per-cell job (ok .cells-once) r s (open-in-stock job r k) (open-in-stock job s m) a c
+
+-- a record of the stock that counts is the record of its cell
+pub its-record : (job : Job) → Admitted job → (r : StockRecord) → List·Memᴰ r (openStock job)
+    → recordAt (openStock job) (cellAt (r .aisle) (r .cell)) ≡ some r
 unfolding recordAt
-its-record job ok r m = go (recordAt (job .stock) (cellAt (r .aisle) (r .cell))) refl
+its-record job ok r m = go (recordAt stock (cellAt (r .aisle) (r .cell))) refl
   where
-    go : (o : Option StockRecord) → recordAt (job .stock) (cellAt (r .aisle) (r .cell)) ≡ o → recordAt (job .stock) (cellAt (r .aisle) (r .cell)) ≡ some r
-    go none e = absurd (true≢false (sym (at-itself r) ∙ any-false (isAt (r .aisle) (r .cell)) (job .stock) .0 (first-none _ (job .stock) e) r m))
+    stock : List StockRecord
+    stock = openStock job
+
+    go : (o : Option StockRecord) → recordAt stock (cellAt (r .aisle) (r .cell)) ≡ o → recordAt stock (cellAt (r .aisle) (r .cell)) ≡ some r
+    go none e = absurd (true≢false (sym (at-itself r) ∙ any-false (isAt (r .aisle) (r .cell)) stock .0 (first-none _ stock e) r m))
     go (some s) e =
-        let (k, there) = first-member (isAt (r .aisle) (r .cell)) (job .stock) s e in
+        let (k, there) = first-member (isAt (r .aisle) (r .cell)) stock s e in
         let same = is-at (r .aisle) (r .cell) s there in
-        e ∙ ap some (one-record-per-cell job (ok .cells-once) s r k m (same .0) (same .1))
+        e ∙ ap some (one-open-record job ok s r k m (same .0) (same .1))
 
 -- what the record of a cell supplies of an article
 abbrev pub supplied : Option StockRecord → ℕ → ℕ
@@ -120,5 +139,8 @@ cell-supply (r ∷ rs) once j c a = go (isAt j c r) refl (cell-supply rs (parts 
     go false e rest = rw (rest, and-false (eqb (r .article) a)) (omega arith)
 
 -- what a cell supplies to each line
-pub cell-gains : (job : Job) → Admitted job → (j c : ℕ) → gainsWhere job j (λ k. eqb k c) ≡ map (λ (l : OrderLine). supplied (recordAt (job .stock) (cellAt j c)) (l .article)) (job .lines)
-cell-gains job ok j c = ap (λ (g : OrderLine → ℕ). map g (job .lines)) (fun-ext (λ l. cell-supply (job .stock) (ok .cells-once) j c (l .article)))
+pub cell-gains : (job : Job) → Admitted job → (j c : ℕ)
+    → gainsWhere job j (λ k. eqb k c) ≡ map (λ (l : OrderLine). supplied (recordAt (openStock job) (cellAt j c)) (l .article)) (job .lines)
+cell-gains job ok j c =
+    let once = alike-select sameCell (λ (r : StockRecord). isOpen (job .hours) (r .aisle)) (job .stock) (ok .cells-once) in
+    ap (λ (g : OrderLine → ℕ). map g (job .lines)) (fun-ext (λ l. cell-supply (openStock job) once j c (l .article)))

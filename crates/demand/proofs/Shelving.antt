@@ -5,7 +5,7 @@ use native.Mathlib.Numerals.{add-one}
 use native.Mathlib.Decide.{ℕ-discrete}
 use mathlib.Core.Path.{_≡_, refl, sym, _∙_, ap}
 use mathlib.Core.Logic.{_⊎_, inl, inr, ⊎-elim}
-use mathlib.Core.List.{List, [], _∷_, _++_, List·Memᴰ}
+use mathlib.Core.List.{List, [], _∷_, _++_, List·Memᴰ, append-nil}
 use mathlib.Core.Bool.{Bool, true, false, cond, _&&_, _||_}
 use mathlib.Core.Option.{Option, none, some}
 use lib.Dec.{ltb, leb, eqb}
@@ -14,21 +14,22 @@ use lib.Seq.{getD-set-same, getD-set-other, getD-take, take-all, take-suc, drop-
 use borrow.Author.Tests.{leb-true, leb-false, lt-ltb, eqb-true, eq-eqb, ne-eqb}
 use Rattle.rules.specs.declared.StockRecord.{StockRecord}
 use Rattle.rules.specs.declared.OrderLine.{OrderLine}
-use Rattle.rules.specs.Lists.{anyOf}
-use Rattle.rules.specs.Jobs.{Job, listed, holdsListed, cellHoldsListed}
+use Rattle.rules.specs.Lists.{anyOf, select}
+use Rattle.rules.specs.Hours.{Hours, isOpen}
+use Rattle.rules.specs.Jobs.{Job, openStock, listed, holdsListed, cellHoldsListed}
 use Rattle.rules.specs.Picks.{recordAt}
 use Rattle.rules.specs.Refusals.{sameCell, Admitted}
-use Rattle.rules.proofs.Lists.{any-false, any-true}
-use Rattle.rules.proofs.Admission.{stock-within, layout-within, one-record-per-cell}
+use Rattle.rules.proofs.Lists.{any-false, any-true, select-append}
+use Rattle.rules.proofs.Admission.{stock-within, layout-within, open-in-stock}
 use Rattle.machine.specs.Steps.{bit}
 use Rattle.values.specs.declared.JobValue.{JobValue}
 use Rattle.values.specs.declared.Shelf.{Shelf}
-use Rattle.values.specs.Values.{noLine, jobOf, Sound}
+use Rattle.values.specs.Values.{noLine, hoursOf, jobOf, Sound}
 use Rattle.values.specs.Shelves.{lineFrom, lineOf, quantityOf, cellNumber, ShelfOf}
 use Rattle.between.specs.Between.{listedAt, listedFlags}
 use Rattle.between.proofs.Heights.{filled-all}
 use Rattle.demand.proofs.Filling.{below, zero-at}
-use Rattle.demand.proofs.Records.{at-member, none-before, first-member, first-none, first-other, first-last, cellAt, isAt, is-at, at-itself, its-record}
+use Rattle.demand.proofs.Records.{at-member, none-before, none-select, first-member, first-none, first-other, first-last, cellAt, isAt, is-at, at-itself, one-open-record, its-record}
 
 -- the line of an article, as the code looks for it: at the next line, or behind it; on no line behind the last
 pub line-here : (lines : List OrderLine) (l a : ℕ) → l < length lines → getD lines l noLine .article ≡ a → lineFrom l (drop l lines) a ≡ l + 1
@@ -103,12 +104,20 @@ module _ (f : Option StockRecord → ℕ) (stock : List StockRecord) (r : StockR
           ∙ t j c j1 j16 c1 c24
           ∙ ap f (sym (first-other (isAt j c) stock r (elsewhere ne (isAt j c r) refl)))
 
--- the shelf of the first n records of a job
+-- of the first n records those of open aisles
+abbrev pub openTo : Job → ℕ → List StockRecord
+openTo job n = select (λ (r : StockRecord). isOpen (job .hours) (r .aisle)) (take n (job .stock))
+
+-- the shelf of these records
 pub record ShelvedTo (job : Job) (line quantity : List ℕ) (n : ℕ) : Type 0 where
   pub line-length : length line ≡ 384
   pub quantity-length : length quantity ≡ 384
-  pub lines : Shelved (lineOf (job .lines)) (take n (job .stock)) line
-  pub quantities : Shelved quantityOf (take n (job .stock)) quantity
+  pub lines : Shelved (lineOf (job .lines)) (openTo job n) line
+  pub quantities : Shelved quantityOf (openTo job n) quantity
+
+-- a flag for each aisle: whether it is open
+abbrev pub OpenFlags : Hours → List Bool → Type 0
+OpenFlags hours flags = (j : ℕ) → 1 ≤ j → j ≤ 16 → getD flags (j - 1) false ≡ isOpen hours j
 
 -- the shelf of no record, and that of all
 pub shelve-none : (job : Job) → ShelvedTo job (replicate 384 0) (replicate 384 0) 0
@@ -120,12 +129,13 @@ shelve-none job =
       quantities = shelved-none quantityOf refl;
     }
 
-pub shelve-all : (job : Job) (shelf : Shelf) (n : ℕ) → length (job .stock) ≤ n → ShelvedTo job (shelf .line) (shelf .quantity) n → ShelfOf job shelf
-shelve-all job shelf n all t =
+pub shelve-all : (job : Job) (shelf : Shelf) (n : ℕ) → length (job .stock) ≤ n → OpenFlags (job .hours) (shelf .open)
+    → ShelvedTo job (shelf .line) (shelf .quantity) n → ShelfOf job shelf
+shelve-all job shelf n all flags t =
     let whole = take-all n (job .stock) all in
-    record { line-at = rw whole at (t .lines); quantity-at = rw whole at (t .quantities) }
+    record { line-at = rw whole at (t .lines); quantity-at = rw whole at (t .quantities); open-at = flags }
 
--- the next record of a job's value on the shelf
+-- the next record of a job's value
 module _ (v : JobValue) (sound : Sound v) (whole : length (v .stock) ≡ 384) (n : ℕ) (h : n < v .records) where
   record-there : n < length (jobOf v .stock)
   unfolding jobOf
@@ -141,28 +151,55 @@ module _ (v : JobValue) (sound : Sound v) (whole : length (v .stock) ≡ 384) (n
       let w = stock-within (jobOf v) .0 (sound .admitted .stock) .records (getD (jobOf v .stock) n noRecord) (at-member noRecord (jobOf v .stock) n record-there) in
       rw (← record-read) (record { aisle = (w .aisle .0, omega arith); cell = (w .cell .0, omega arith) })
 
-  module _ (f : Option StockRecord → ℕ) (xs : List ℕ) (long : length xs ≡ 384) where
-    shelved-next : Shelved f (take n (jobOf v .stock)) xs
-        → let r = getD (v .stock) n noRecord in Shelved f (take (n + 1) (jobOf v .stock)) (set xs (cellNumber (r .aisle) (r .cell)) (f (some r)))
-    unfolding sameCell
-    shelved-next t =
-        let r = getD (v .stock) n noRecord in
-        let new : anyOf (isAt (r .aisle) (r .cell)) (take n (jobOf v .stock)) ≡ false =
-        rw (← record-read) (none-before sameCell noRecord (jobOf v .stock) n record-there (sound .admitted .cells-once)) in
-        rw (add-one n, take-suc (jobOf v .stock) n noRecord record-there, record-read) (shelved-more f (take n (jobOf v .stock)) r record-small new xs long t)
-
-  pub shelve-next : (line quantity : List ℕ) (at x : ℕ) → let r = getD (v .stock) n noRecord in
-      at ≡ cellNumber (r .aisle) (r .cell) → x ≡ lineFrom 0 (take (v .orders) (v .lines)) (r .article)
-      → ShelvedTo (jobOf v) line quantity n → ShelvedTo (jobOf v) (set line at x) (set quantity at (r .quantity)) (n + 1)
+  -- the flag of its aisle
+  pub record-flag : (flags : List Bool) → OpenFlags (hoursOf (v .hours)) flags
+      → let r = getD (v .stock) n noRecord in getD flags (r .aisle - 1) false ≡ isOpen (jobOf v .hours) (r .aisle)
   unfolding jobOf
-  shelve-next line quantity at x p e t =
-      let r = getD (v .stock) n noRecord in
+  record-flag flags f = let w = record-small .aisle in f (getD (v .stock) n noRecord .aisle) (w .0) (w .1)
+
+  -- it is one more of an open aisle, or it is of a shut one
+  open-more : let r = getD (v .stock) n noRecord in
+      openTo (jobOf v) (n + 1) ≡ openTo (jobOf v) n ++ cond (isOpen (jobOf v .hours) (r .aisle)) (r ∷ []) []
+  open-more =
+      rw (add-one n, take-suc (jobOf v .stock) n noRecord record-there, record-read)
+      (select-append (λ (r : StockRecord). isOpen (jobOf v .hours) (r .aisle)) (take n (jobOf v .stock)) (getD (v .stock) n noRecord ∷ []))
+
+  -- in a shut aisle it changes nothing
+  pub shelve-shut : (line quantity : List ℕ) → isOpen (jobOf v .hours) (getD (v .stock) n noRecord .aisle) ≡ false
+      → ShelvedTo (jobOf v) line quantity n → ShelvedTo (jobOf v) line quantity (n + 1)
+  shelve-shut line quantity shut t =
+      let same : openTo (jobOf v) (n + 1) ≡ openTo (jobOf v) n = open-more ∙ rw shut (append-nil (openTo (jobOf v) n)) in
       record {
-        line-length = length-set line at x ∙ t .line-length;
-        quantity-length = length-set quantity at (r .quantity) ∙ t .quantity-length;
-        lines = rw (p, e) (shelved-next (lineOf (jobOf v .lines)) line (t .line-length) (t .lines));
-        quantities = rw p (shelved-next quantityOf quantity (t .quantity-length) (t .quantities));
+        line-length = t .line-length;
+        quantity-length = t .quantity-length;
+        lines = rw same (t .lines);
+        quantities = rw same (t .quantities);
       }
+
+  -- in an open one it is put on the shelf
+  module _ (opened : isOpen (jobOf v .hours) (getD (v .stock) n noRecord .aisle) ≡ true) where
+    shelved-next : (f : Option StockRecord → ℕ) (xs : List ℕ) → length xs ≡ 384 → Shelved f (openTo (jobOf v) n) xs
+        → let r = getD (v .stock) n noRecord in Shelved f (openTo (jobOf v) (n + 1)) (set xs (cellNumber (r .aisle) (r .cell)) (f (some r)))
+    unfolding sameCell
+    shelved-next f xs long t =
+        let r = getD (v .stock) n noRecord in
+        let before : anyOf (isAt (r .aisle) (r .cell)) (take n (jobOf v .stock)) ≡ false =
+        rw (← record-read) (none-before sameCell noRecord (jobOf v .stock) n record-there (sound .admitted .cells-once)) in
+        let new = none-select (isAt (r .aisle) (r .cell)) (λ (s : StockRecord). isOpen (jobOf v .hours) (s .aisle)) (take n (jobOf v .stock)) before in
+        rw (open-more, opened) (shelved-more f (openTo (jobOf v) n) r record-small new xs long t)
+
+    pub shelve-next : (line quantity : List ℕ) (at x : ℕ) → let r = getD (v .stock) n noRecord in
+        at ≡ cellNumber (r .aisle) (r .cell) → x ≡ lineFrom 0 (take (v .orders) (v .lines)) (r .article)
+        → ShelvedTo (jobOf v) line quantity n → ShelvedTo (jobOf v) (set line at x) (set quantity at (r .quantity)) (n + 1)
+    unfolding jobOf
+    shelve-next line quantity at x p e t =
+        let r = getD (v .stock) n noRecord in
+        record {
+          line-length = length-set line at x ∙ t .line-length;
+          quantity-length = length-set quantity at (r .quantity) ∙ t .quantity-length;
+          lines = rw (p, e) (shelved-next (lineOf (jobOf v .lines)) line (t .line-length) (t .lines));
+          quantities = rw p (shelved-next quantityOf quantity (t .quantity-length) (t .quantities));
+        }
 
 -- the job has no more records than its value counts
 pub records-count : (v : JobValue) → length (jobOf v .stock) ≤ v .records
@@ -174,31 +211,31 @@ module _ {job : Job} {shelf : Shelf} (ok : Admitted job) (of : ShelfOf job shelf
   -- it does where one of its cells has a line
   pub holds-some : (c : ℕ) → 1 ≤ c → c ≤ 24 → 0 < getD (shelf .line) (cellNumber j c) 0 → holdsListed job j ≡ true
   unfolding holdsListed listed recordAt
-  holds-some c c1 c24 h = go (recordAt (job .stock) (cellAt j c)) refl
+  holds-some c c1 c24 h = go (recordAt (openStock job) (cellAt j c)) refl
     where
       positive : (n : ℕ) → 0 < n → bit n ≡ true
       positive zero h = absurd (omega arith)
       positive (suc n) h = refl
 
-      go : (o : Option StockRecord) → recordAt (job .stock) (cellAt j c) ≡ o → holdsListed job j ≡ true
+      go : (o : Option StockRecord) → recordAt (openStock job) (cellAt j c) ≡ o → holdsListed job j ≡ true
       go none e = absurd (omega (arith, of .line-at j c low high c1 c24 ∙ ap (lineOf (job .lines)) e))
       go (some r) e =
-          let (m, there) = first-member (isAt j c) (job .stock) r e in
+          let (m, there) = first-member (isAt j c) (openStock job) r e in
           let line : getD (shelf .line) (cellNumber j c) 0 ≡ lineFrom 0 (job .lines) (r .article) = of .line-at j c low high c1 c24 ∙ ap (lineOf (job .lines)) e in
           let has : listed job (r .article) ≡ true = sym (line-listed (job .lines) 0 (r .article)) ∙ positive (lineFrom 0 (job .lines) (r .article)) (omega (arith, line)) in
-          any-true _ (job .stock) .1 (r, m, rw (eq-eqb (r .aisle) j (is-at j c r there .0)) has)
+          any-true _ (openStock job) .1 (r, m, rw (eq-eqb (r .aisle) j (is-at j c r there .0)) has)
 
   -- it does not where none has
   pub holds-none : ((c : ℕ) → 1 ≤ c → c ≤ job .layout .cells → getD (shelf .line) (cellNumber j c) 0 ≡ 0) → holdsListed job j ≡ false
   unfolding holdsListed listed
-  holds-none none-there = any-false _ (job .stock) .1 (λ r m. go r m (eqb (r .aisle) j) refl)
+  holds-none none-there = any-false _ (openStock job) .1 (λ r m. go r m (eqb (r .aisle) j) refl)
     where
-      go : (r : StockRecord) → List·Memᴰ r (job .stock) → (b : Bool) → eqb (r .aisle) j ≡ b → (b && listed job (r .article)) ≡ false
+      go : (r : StockRecord) → List·Memᴰ r (openStock job) → (b : Bool) → eqb (r .aisle) j ≡ b → (b && listed job (r .article)) ≡ false
       go r m false e = refl
       go r m true e =
-          let w = stock-within job .0 (ok .stock) .records r m in
+          let w = stock-within job .0 (ok .stock) .records r (open-in-stock job r m) in
           let z = layout-within (job .layout) .0 (ok .layout) in
-          let own : recordAt (job .stock) (cellAt j (r .cell)) ≡ some r = rw (← eqb-true (r .aisle) j e) (its-record job ok r m) in
+          let own : recordAt (openStock job) (cellAt j (r .cell)) ≡ some r = rw (← eqb-true (r .aisle) j e) (its-record job ok r m) in
           let line : getD (shelf .line) (cellNumber j (r .cell)) 0 ≡ lineFrom 0 (job .lines) (r .article) =
           of .line-at j (r .cell) low high (w .cell .0) (omega arith) ∙ ap (lineOf (job .lines)) own in
           sym (line-listed (job .lines) 0 (r .article)) ∙ ap bit (sym line ∙ none-there (r .cell) (w .cell .0) (w .cell .1))
@@ -206,30 +243,30 @@ module _ {job : Job} {shelf : Shelf} (ok : Admitted job) (of : ShelfOf job shelf
   -- whether a cell holds one: whether it has a line
   pub cell-holds : (c : ℕ) → 1 ≤ c → c ≤ 24 → cellHoldsListed job j c ≡ bit (getD (shelf .line) (cellNumber j c) 0)
   unfolding cellHoldsListed listed recordAt
-  cell-holds c c1 c24 = go (recordAt (job .stock) (cellAt j c)) refl
+  cell-holds c c1 c24 = go (recordAt (openStock job) (cellAt j c)) refl
     where
       holdsOne : StockRecord → Bool
       holdsOne r = isAt j c r && listed job (r .article)
 
       -- records of other cells hold nothing here, and that of the cell holds a listed article or not
-      from-record : (r : StockRecord) → List·Memᴰ r (job .stock) → isAt j c r ≡ true → (b : Bool) → listed job (r .article) ≡ b → anyOf holdsOne (job .stock) ≡ b
-      from-record r m there true l = any-true holdsOne (job .stock) .1 (r, m, rw (there, l) refl)
-      from-record r m there false l = any-false holdsOne (job .stock) .1 (λ s k. other s k (isAt j c s) refl)
+      from-record : (r : StockRecord) → List·Memᴰ r (openStock job) → isAt j c r ≡ true → (b : Bool) → listed job (r .article) ≡ b → anyOf holdsOne (openStock job) ≡ b
+      from-record r m there true l = any-true holdsOne (openStock job) .1 (r, m, rw (there, l) refl)
+      from-record r m there false l = any-false holdsOne (openStock job) .1 (λ s k. other s k (isAt j c s) refl)
         where
-          other : (s : StockRecord) → List·Memᴰ s (job .stock) → (b : Bool) → isAt j c s ≡ b → (b && listed job (s .article)) ≡ false
+          other : (s : StockRecord) → List·Memᴰ s (openStock job) → (b : Bool) → isAt j c s ≡ b → (b && listed job (s .article)) ≡ false
           other s k false e = refl
           other s k true e =
               let here = is-at j c r there in
               let same = is-at j c s e in
-              rw (one-record-per-cell job (ok .cells-once) s r k m (same .0 ∙ sym (here .0)) (same .1 ∙ sym (here .1))) l
+              rw (one-open-record job ok s r k m (same .0 ∙ sym (here .0)) (same .1 ∙ sym (here .1))) l
 
-      go : (o : Option StockRecord) → recordAt (job .stock) (cellAt j c) ≡ o → cellHoldsListed job j c ≡ bit (getD (shelf .line) (cellNumber j c) 0)
+      go : (o : Option StockRecord) → recordAt (openStock job) (cellAt j c) ≡ o → cellHoldsListed job j c ≡ bit (getD (shelf .line) (cellNumber j c) 0)
       go none e =
-          let none-there = any-false (isAt j c) (job .stock) .0 (first-none (isAt j c) (job .stock) e) in
-          any-false holdsOne (job .stock) .1 (λ r m. rw (none-there r m) refl)
+          let none-there = any-false (isAt j c) (openStock job) .0 (first-none (isAt j c) (openStock job) e) in
+          any-false holdsOne (openStock job) .1 (λ r m. rw (none-there r m) refl)
           ∙ sym (ap bit (of .line-at j c low high c1 c24 ∙ ap (lineOf (job .lines)) e))
       go (some r) e =
-          let (m, there) = first-member (isAt j c) (job .stock) r e in
+          let (m, there) = first-member (isAt j c) (openStock job) r e in
           from-record r m there (listed job (r .article)) refl
           ∙ sym (ap bit (of .line-at j c low high c1 c24 ∙ ap (lineOf (job .lines)) e) ∙ line-listed (job .lines) 0 (r .article))
 
@@ -288,7 +325,7 @@ flags-are {job} {shelf} ok of j low high few flags c f e =
 
 -- the line of a cell is one of the lines, counted from 1, or 0
 pub lines-below : {job : Job} {shelf : Shelf} → ShelfOf job shelf → (j c : ℕ) → 1 ≤ j → j ≤ 16 → 1 ≤ c → c ≤ 24 → getD (shelf .line) (cellNumber j c) 0 ≤ length (job .lines)
-lines-below {job} {shelf} of j c j1 j16 c1 c24 = go (recordAt (job .stock) (cellAt j c)) (of .line-at j c j1 j16 c1 c24)
+lines-below {job} {shelf} of j c j1 j16 c1 c24 = go (recordAt (openStock job) (cellAt j c)) (of .line-at j c j1 j16 c1 c24)
   where
     go : (o : Option StockRecord) → getD (shelf .line) (cellNumber j c) 0 ≡ lineOf (job .lines) o → getD (shelf .line) (cellNumber j c) 0 ≤ length (job .lines)
     go none e = omega arith

@@ -1,5 +1,6 @@
-// What each cell of the store holds for the order lines.
+// What each cell of the store holds for the order lines, and which aisles are open.
 use between::HEIGHTS;
+use hours::open_aisles;
 use rules::OrderLine;
 use values::JobValue;
 use values::Shelf;
@@ -37,24 +38,29 @@ fn line_of(lines: [OrderLine; 8], orders: usize, article: usize) -> usize
     0
 }
 
-// The shelf of a job.
+// The shelf of a job: the records of its open aisles.
 pub fn shelve(job: JobValue) -> Shelf
     requires { ⌜ Sound job ⌝ }
     ensures { λ r. ⌜ ShelfOf (jobOf job) r ⌝ }
 {
+    let flags = open_aisles(job.hours);
     let mut line = [0; 384];
     let mut quantity = [0; 384];
     let mut n = 0;
     while n < job.records {
         let r = job.stock[n];
         let at = cell_number(r.aisle, r.cell);
-        line[at] = line_of(job.lines, job.orders, r.article);
-        quantity[at] = r.quantity;
+        let counts = flags[r.aisle - 1];
+        if counts {
+            line[at] = line_of(job.lines, job.orders, r.article);
+            quantity[at] = r.quantity;
+        }
         n += 1;
     }
     Shelf {
         line: line,
         quantity: quantity,
+        open: flags,
     }
 }
 

@@ -10,7 +10,7 @@ ghost use Rattle.rules.specs.PageAnswers.{hostPageAnswer, hostPageNumber};
 // The number of a refusal.
 fn number_of(cause: Refusal) -> u32
     ensures { λ r. ⌜ r ≡ numberOf cause ⌝ }
-    ensures { λ r. ⌜ r ≤ 11 ⌝ }
+    ensures { λ r. ⌜ r ≤ 12 ⌝ }
 {
     match cause {
         Refusal::WorkArea => 10,
@@ -18,6 +18,7 @@ fn number_of(cause: Refusal) -> u32
         Refusal::LayoutBounds => 2,
         Refusal::StockBounds => 3,
         Refusal::CellTwice => 4,
+        Refusal::HoursBounds => 12,
         Refusal::ListBounds => 5,
         Refusal::ArticleTwice => 6,
         Refusal::TooHeavy => 7,

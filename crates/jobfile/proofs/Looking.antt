@@ -1,7 +1,7 @@
 -- The two loops of the stock test: what is known behind the first k records of a line, and behind the first i lines.
 use Prim.Native.Nat.{ℕ, _+_, _*_, _≤_, _<_}
 use mathlib.Core.Path.{_≡_, refl, sym, _∙_, ap}
-use mathlib.Core.Bool.{Bool, true, false}
+use mathlib.Core.Bool.{Bool, true, false, cond, _&&_}
 use mathlib.Core.List.{List, _∷_}
 use native.Mathlib.Omega.{arith}
 use native.Mathlib.Decide.{decLt}
@@ -12,17 +12,25 @@ use borrow.Author.Tests.{lt-ltb, le-ltb}
 use Rattle.rules.specs.declared.StockRecord.{StockRecord}
 use Rattle.rules.specs.declared.OrderLine.{OrderLine}
 use Rattle.rules.specs.Lists.{anyOf, sumOf}
-use Rattle.rules.specs.Refusals.{recordInBounds, lineInBounds, allStock, shortOfStock}
+use Rattle.rules.specs.Hours.{isOpen}
+use Rattle.rules.specs.Refusals.{recordInBounds, lineInBounds, allStock, shortOfStock, RecordWithin}
 use Rattle.rules.specs.Looked.{withFirst, lookedFor, testedLines, looked}
-use Rattle.rules.proofs.Admission.{record-within, line-within}
+use Rattle.rules.proofs.Admission.{layout-within, record-within, line-within}
 use Rattle.rules.proofs.Lists.{all-at}
 use Rattle.rules.proofs.Looked.{held, none-held, held-more, held-grows, all-held, looked-at, looked-short, tested-on, tested-end}
 use Rattle.values.specs.declared.JobValue.{JobValue}
-use Rattle.values.specs.Values.{noLine, jobOf}
+use Rattle.values.specs.Values.{noLine, hoursOf, jobOf}
 use Rattle.reading.specs.Kept.{noRecord}
 use Rattle.jobfile.specs.Ready.{storeOnly, StockReady, ListReady}
 use Rattle.jobfile.proofs.Left.{left, left-all, left-more, left-none, AnyFrom, any-fails, any-holds, any-more}
 use Rattle.jobfile.proofs.Ranges.{Sized, stock-length, list-length, all-records, all-lines}
+
+-- what a record holds: its quantity where its article is the one and its aisle is open
+held-where : (is-open same : Bool) (q : ℕ) → cond is-open (cond same q 0) 0 ≡ cond (same && is-open) q 0
+held-where true true q = refl
+held-where true false q = refl
+held-where false true q = refl
+held-where false false q = refl
 
 -- behind k records of a line: the sum is what they hold of its article, and no fewer hold its quantity
 pub record LookedTo (v : JobValue) (article quantity sum k : ℕ) : Type 0 where
@@ -38,13 +46,18 @@ module _ (v : JobValue) (article quantity : ℕ) where
     abbrev row : StockRecord
     row = getD (v .stock) k noRecord
 
+    -- it counts: it is of the article, and of an open aisle
+    abbrev counts : Bool
+    counts = eqb (row .article) article && isOpen (hoursOf (v .hours)) (row .aisle)
+
     -- the record is looked at
-    looking-more : LookedTo v article quantity (sum + held article row) (k + 1)
+    looking-more : LookedTo v article quantity (sum + cond counts (row .quantity) 0) (k + 1)
     unfolding jobOf
     looking-more =
         let more = held-more (jobOf v) article k noRecord (omega (arith, size)) in
-        let here = ap (held article) (getD-take (v .records) (v .stock) k noRecord h) in
-        record { within = omega arith; same = omega (arith, more, here, r .same); fewer = fewer }
+        let here = ap (held (hoursOf (v .hours)) article) (getD-take (v .records) (v .stock) k noRecord h) in
+        let where-open = held-where (isOpen (hoursOf (v .hours)) (row .aisle)) (eqb (row .article) article) (row .quantity) in
+        record { within = omega arith; same = omega (arith, more, here, where-open, r .same); fewer = fewer }
       where
         fewer : (n : ℕ) → n < k + 1 → allStock (withFirst n (jobOf v)) article < quantity
         fewer n l = go (decLt n k)
@@ -53,11 +66,11 @@ module _ (v : JobValue) (article quantity : ℕ) where
             go (yes s) = r .fewer n s
             go (no s) = let same : n ≡ k = omega arith in rw same (omega (arith, r .same))
 
-    -- one of the article, and one of another
-    pub looking-hit : eqb (row .article) article ≡ true → LookedTo v article quantity (sum + row .quantity) (k + 1)
+    -- one that counts, and one that does not
+    pub looking-hit : counts ≡ true → LookedTo v article quantity (sum + row .quantity) (k + 1)
     looking-hit e = rw e at looking-more
 
-    pub looking-miss : eqb (row .article) article ≡ false → LookedTo v article quantity sum (k + 1)
+    pub looking-miss : counts ≡ false → LookedTo v article quantity sum (k + 1)
     looking-miss e = let more = rw e at looking-more in let none : sum + 0 ≡ sum = omega arith in rw none at more
 
 module _ (v : JobValue) (size : length (jobOf v .stock) ≡ v .records) (l : OrderLine) (sum k : ℕ) (r : LookedTo v (l .article) (l .quantity) sum k) where
@@ -143,11 +156,21 @@ module _ (v : JobValue) where
 
 -- a record of a stock within the bounds holds at most 255, and so much may a line ask for
 module _ (v : JobValue) (size : Sized v) where
-  pub row-small : (k : ℕ) → k < v .records → StockReady v → getD (v .stock) k noRecord .quantity ≤ 255
-  row-small k h ready =
+  row-within : (k : ℕ) → k < v .records → StockReady v → RecordWithin (v .layout) (getD (v .stock) k noRecord)
+  row-within k h ready =
       let at = all-at (recordInBounds (storeOnly (v .layout))) (take (v .records) (v .stock)) k noRecord (omega (arith, stock-length v size (ready .count))) (all-records v (ready .stock)) in
       let row = rw (getD-take (v .records) (v .stock) k noRecord h) at at in
-      record-within (storeOnly (v .layout)) (getD (v .stock) k noRecord) .0 row .quantity .1
+      record-within (storeOnly (v .layout)) (getD (v .stock) k noRecord) .0 row
+
+  pub row-small : (k : ℕ) → k < v .records → StockReady v → getD (v .stock) k noRecord .quantity ≤ 255
+  row-small k h ready = row-within k h ready .quantity .1
+
+  -- and its aisle is one of at most 16
+  pub row-aisle : (k : ℕ) → k < v .records → StockReady v → (1 ≤ getD (v .stock) k noRecord .aisle) × (getD (v .stock) k noRecord .aisle ≤ 16)
+  row-aisle k h ready =
+      let aisle = row-within k h ready .aisle in
+      let most = layout-within (v .layout) .0 (ready .layout) .aisles .1 in
+      (aisle .0, omega (arith, aisle .1, most))
 
   pub asked-small : (i : ℕ) → i < v .orders → ListReady v → getD (v .lines) i noLine .quantity ≤ 255
   asked-small i h ready =

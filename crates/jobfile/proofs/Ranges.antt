@@ -1,17 +1,18 @@
 -- The tests of the bounds on a job by value.
 use Prim.Native.Nat.{_≤_, _<_}
 use mathlib.Core.Path.{_≡_}
-use mathlib.Core.Bool.{true, false, _&&_}
+use mathlib.Core.Bool.{Bool, true, false, _&&_}
 use native.Mathlib.Omega.{arith}
 use lib.Dec.{leb}
 use lib.ListN.{length, take}
 use lib.Seq.{length-take-le}
 use borrow.Author.Tests.{le-leb, lt-leb}
 use Rattle.rules.specs.Lists.{allOf}
+use Rattle.rules.specs.Hours.{windowInBounds, hoursInBounds}
 use Rattle.rules.specs.Refusals.{recordInBounds, stockInBounds, lineInBounds, listInBounds}
 use Rattle.rules.proofs.Numbers.{both-true}
 use Rattle.values.specs.declared.JobValue.{JobValue}
-use Rattle.values.specs.Values.{jobOf}
+use Rattle.values.specs.Values.{hoursOf, jobOf}
 use Rattle.jobfile.specs.Ready.{storeOnly}
 
 -- the arrays of a job by value have the room that they are declared with
@@ -45,6 +46,34 @@ module _ (job : JobValue) (size : Sized job) where
   pub list-tested : job .orders ≤ 8 → leb (job .orders) 8 && listInBounds (jobOf job) ≡ allOf lineInBounds (take (job .orders) (job .lines))
   unfolding listInBounds jobOf
   list-tested h = rw (le-leb (job .orders) 8 h, listInBounds, list-length h, le-leb (job .orders) 8 h)
+
+-- the test of the hours, as it is made on a value
+abbrev pub hoursTest : JobValue → Bool
+hoursTest v = leb (v .hours .count) 64 && hoursInBounds (jobOf v .layout .aisles) (jobOf v .hours)
+
+module _ (job : JobValue) where
+  -- too many windows
+  pub hours-many : 64 < job .hours .count → hoursTest job ≡ false
+  hours-many h = rw (lt-leb (job .hours .count) 64 h)
+
+  module _ (h : job .hours .count ≤ 64) where
+    -- no hours
+    pub hours-none : job .hours .timed ≡ false → hoursTest job ≡ true
+    unfolding jobOf hoursOf
+    hours-none e = rw (le-leb (job .hours .count) 64 h, e)
+
+    -- the minute is out of bounds
+    pub hours-late : job .hours .timed ≡ true → 1439 < job .hours .minute → hoursTest job ≡ false
+    unfolding jobOf hoursOf
+    hours-late e l = rw (le-leb (job .hours .count) 64 h, e, lt-leb (job .hours .minute) 1439 l)
+
+    -- it is within them: the windows decide
+    pub hours-tested : length (job .hours .windows) ≡ 64 → job .hours .timed ≡ true → job .hours .minute ≤ 1439
+        → hoursTest job ≡ allOf (windowInBounds (job .layout .aisles)) (take (job .hours .count) (job .hours .windows))
+    unfolding jobOf hoursOf
+    hours-tested room e l =
+        let counted : length (take (job .hours .count) (job .hours .windows)) ≡ job .hours .count = length-take-le (job .hours .count) (job .hours .windows) (omega arith) in
+        rw (le-leb (job .hours .count) 64 h, e, le-leb (job .hours .minute) 1439 l, counted, le-leb (job .hours .count) 64 h)
 
 -- all records of a stock within the bounds are
 pub all-records : (job : JobValue) → stockInBounds (jobOf job) ≡ true → allOf (recordInBounds (storeOnly (job .layout))) (take (job .records) (job .stock)) ≡ true

@@ -6,33 +6,36 @@ use mathlib.Core.Bool.{Bool, true, false, cond, _&&_, not, true≢false}
 use mathlib.Core.Option.{Option, none, some}
 use native.Mathlib.Omega.{arith}
 use lib.Dec.{leb, ltb}
-use lib.ListN.{length, drop}
+use lib.ListN.{length, take, drop}
 use borrow.Author.Tests.{leb-true}
 use Rattle.rules.specs.declared.StockRecord.{StockRecord}
+use Rattle.rules.specs.declared.Window.{Window}
 use Rattle.rules.specs.declared.OrderLine.{OrderLine}
 use Rattle.rules.specs.declared.Refusal.{Refusal}
-use Rattle.rules.specs.declared.Refusal.the-variants.{NotAJobFile, LayoutBounds, StockBounds, CellTwice, ListBounds, ArticleTwice, TooHeavy, ShortOfStock}
-use Rattle.rules.specs.Lists.{anyTwo}
+use Rattle.rules.specs.declared.Refusal.the-variants.{NotAJobFile, LayoutBounds, StockBounds, CellTwice, HoursBounds, ListBounds, ArticleTwice, TooHeavy, ShortOfStock}
+use Rattle.rules.specs.Lists.{allOf, anyTwo}
 use Rattle.rules.specs.Store.{layoutInBounds}
+use Rattle.rules.specs.Hours.{Hours, NoHours, At, windowInBounds, hoursInBounds}
 use Rattle.rules.specs.Jobs.{Job}
 use Rattle.rules.specs.JobFile.{readJob}
 use Rattle.rules.specs.Refusals.{recordInBounds, stockInBounds, sameCell, listInBounds, sameArticle, weight, shortOfStock, firstRow, jobRows, jobRefusal, good, bad, checkJob, checkBytes}
 use Rattle.rules.specs.Looked.{looked, stockTested, lookedOn, lookedIn, handedOn}
-use Rattle.rules.proofs.Admission.{stock-within, list-within, admitted}
+use Rattle.rules.proofs.Admission.{stock-within, hours-within, list-within, admitted}
 use Rattle.rules.proofs.Numbers.{both-true}
 use Rattle.values.specs.declared.JobValue.{JobValue}
-use Rattle.values.specs.Values.{noLine, jobOf, Sound}
+use Rattle.values.specs.Values.{noLine, hoursOf, jobOf, Sound, noWindow}
 use Rattle.reading.specs.declared.raw.RawJob.{RawJob}
 use Rattle.jobfile.specs.declared.Verdict.{Verdict}
 use Rattle.jobfile.specs.declared.Decision.{Decision}
 use Rattle.jobfile.specs.declared.ReadJob.{ReadJob}
 use Rattle.jobfile.specs.Ready.{StockReady, ListReady}
-use Rattle.reading.specs.Kept.{noRecord, jobValue, rawOf}
+use Rattle.reading.specs.Kept.{noRecord, padded, hoursValue, jobValue, rawOf}
 use Rattle.jobfile.specs.Answer.{verdictOf, stoppedBy, Decides, checkedAs, checkedOf, answerTo}
 use Rattle.marks.proofs.Cells.{cells-bounded}
 use Rattle.reading.proofs.Storing.{padded-all}
+use Rattle.jobfile.proofs.Ranges.{hoursTest}
 
--- the tests of the bounds, as they are made on a value
+-- the tests of the stock and of the list, as they are made on a value
 abbrev pub stockTest : JobValue → Bool
 stockTest v = leb (v .records) 384 && stockInBounds (jobOf v)
 
@@ -45,16 +48,42 @@ stock-ready v z e =
     let t = both-true (leb (v .records) 384) (stockInBounds (jobOf v)) e in
     record { count = leb-true (v .records) 384 (t .0); layout = z; stock = t .1 }
 
+-- hours that have passed their tests
+pub hours-ready : (v : JobValue) → hoursTest v ≡ true → v .hours .count ≤ 64
+hours-ready v e = leb-true (v .hours .count) 64 (both-true (leb (v .hours .count) 64) (hoursInBounds (jobOf v .layout .aisles) (jobOf v .hours)) e .0)
+
 -- a list that has passed its tests
 pub list-ready : (v : JobValue) → listTest v ≡ true → ListReady v
 list-ready v e =
     let t = both-true (leb (v .orders) 8) (listInBounds (jobOf v)) e in
     record { count = leb-true (v .orders) 8 (t .0); list = t .1 }
 
+-- all windows of hours within the bounds are kept
+whole-hours : (m : ℕ) (hours : Hours) → hoursInBounds m hours ≡ true → (hoursOf (hoursValue hours) ≡ hours) × (hoursValue hours .count ≤ 64)
+unfolding hoursOf hoursValue
+whole-hours m NoHours e = (refl, omega arith)
+whole-hours m (At t windows) e =
+    let few = hours-within m (At t windows) .0 e .1 in
+    (ap (At t) (padded-all 64 noWindow windows few), few)
+
+-- the test of the hours on their value is that of the hours
+hours-same : (m : ℕ) (hours : Hours) → leb (hoursValue hours .count) 64 && hoursInBounds m (hoursOf (hoursValue hours)) ≡ hoursInBounds m hours
+unfolding hoursOf hoursValue
+hours-same m NoHours = refl
+hours-same m (At t windows) = go (leb (length windows) 64) refl
+  where
+    many : (b c : Bool) → false ≡ b && false && c
+    many true c = refl
+    many false c = refl
+
+    go : (b : Bool) → leb (length windows) 64 ≡ b → b && hoursInBounds m (hoursOf (hoursValue (At t windows))) ≡ hoursInBounds m (At t windows)
+    go true e = ap (λ (ws : List Window). hoursInBounds m (At t ws)) (padded-all 64 noWindow windows (leb-true (length windows) 64 e))
+    go false e = rw e (many (leb t 1439) (allOf (windowInBounds m) windows))
+
 module _ (job : Job) where
-  -- the job with other records and lines
-  abbrev among : List StockRecord → List OrderLine → Job
-  among records lines = record { layout = job .layout; policy = job .policy; stock = records; lines = lines }
+  -- the job with other records, hours and lines
+  abbrev among : List StockRecord → Hours → List OrderLine → Job
+  among records hours lines = record { layout = job .layout; policy = job .policy; stock = records; hours = hours; lines = lines }
 
   -- all records are kept
   whole-stock : length (job .stock) ≤ 384 → jobOf (jobValue job) .stock ≡ job .stock
@@ -67,9 +96,11 @@ module _ (job : Job) where
   whole-lines h = padded-all 8 noLine (job .lines) h
 
   -- the whole job is kept
-  whole-job : length (job .stock) ≤ 384 → length (job .lines) ≤ 8 → jobOf (jobValue job) ≡ job
+  whole-job : length (job .stock) ≤ 384 → hoursInBounds (job .layout .aisles) (job .hours) ≡ true → length (job .lines) ≤ 8 → jobOf (jobValue job) ≡ job
   unfolding jobOf jobValue
-  whole-job h l = ap₂ among (whole-stock h) (whole-lines l)
+  whole-job h w l =
+      ap (λ (records : List StockRecord). among records (hoursOf (hoursValue (job .hours))) (take (length (job .lines)) (padded 8 noLine (job .lines)))) (whole-stock h)
+      ∙ ap₂ (among (job .stock)) (whole-hours (job .layout .aisles) (job .hours) w .0) (whole-lines l)
 
   -- the test of the stock is that of the job
   stock-same : stockTest (jobValue job) ≡ stockInBounds job
@@ -77,7 +108,7 @@ module _ (job : Job) where
   stock-same = go (leb (length (job .stock)) 384) refl
     where
       go : (b : Bool) → leb (length (job .stock)) 384 ≡ b → b && stockInBounds (jobOf (jobValue job)) ≡ stockInBounds job
-      go true e = ap (λ (records : List StockRecord). stockInBounds (among records (job .lines))) (whole-stock (leb-true (length (job .stock)) 384 e))
+      go true e = ap (λ (records : List StockRecord). stockInBounds (among records (job .hours) (job .lines))) (whole-stock (leb-true (length (job .stock)) 384 e))
       go false e = rw (stockInBounds, e)
 
   -- the test of the list is that of the job
@@ -86,7 +117,7 @@ module _ (job : Job) where
   list-same = go (leb (length (job .lines)) 8) refl
     where
       go : (b : Bool) → leb (length (job .lines)) 8 ≡ b → b && listInBounds (jobOf (jobValue job)) ≡ listInBounds job
-      go true e = ap (λ (lines : List OrderLine). listInBounds (among (job .stock) lines)) (whole-lines (leb-true (length (job .lines)) 8 e))
+      go true e = ap (λ (lines : List OrderLine). listInBounds (among (job .stock) (job .hours) lines)) (whole-lines (leb-true (length (job .lines)) 8 e))
       go false e = rw (listInBounds, e)
 
 -- the outcomes of the tests on what was read are those of the tests on the job
@@ -98,6 +129,10 @@ module _ (raw : RawJob) (job : Job) (e : raw ≡ rawOf (some job)) {b : Bool} wh
   stock-on : stockTest (raw .job) ≡ b → stockInBounds job ≡ b
   unfolding rawOf
   stock-on t = sym (stock-same job) ∙ sym (ap (λ (r : RawJob). stockTest (r .job)) e) ∙ t
+
+  hours-on : hoursTest (raw .job) ≡ b → hoursInBounds (job .layout .aisles) (job .hours) ≡ b
+  unfolding rawOf jobOf jobValue
+  hours-on t = sym (hours-same (job .layout .aisles) (job .hours)) ∙ sym (ap (λ (r : RawJob). hoursTest (r .job)) e) ∙ t
 
   list-on : listTest (raw .job) ≡ b → listInBounds job ≡ b
   unfolding rawOf
@@ -129,17 +164,18 @@ module _ (raw : RawJob) (job : Job) (e : raw ≡ rawOf (some job)) where
         ap (λ (lines : List OrderLine). ltb 256 (weight lines)) (sym (whole-lines job (list-kept l)))
         ∙ sym (ap (λ (r : RawJob). ltb 256 (weight (jobOf (r .job) .lines))) e) ∙ t
 
-    short-on : stockTest (raw .job) ≡ true → listTest (raw .job) ≡ true → shortOfStock (jobOf (raw .job)) ≡ b → shortOfStock job ≡ b
+    short-on : stockTest (raw .job) ≡ true → hoursTest (raw .job) ≡ true → listTest (raw .job) ≡ true → shortOfStock (jobOf (raw .job)) ≡ b → shortOfStock job ≡ b
     unfolding rawOf
-    short-on s l t =
-        ap shortOfStock (sym (whole-job job (stock-kept s) (list-kept l)))
+    short-on s w l t =
+        ap shortOfStock (sym (whole-job job (stock-kept s) (hours-on raw job e w) (list-kept l)))
         ∙ sym (ap (λ (r : RawJob). shortOfStock (jobOf (r .job))) e) ∙ t
 
   -- the records looked at are those of the job
-  pub looked-on : (n : ℕ) → stockTest (raw .job) ≡ true → listTest (raw .job) ≡ true → n ≡ looked (jobOf (raw .job)) → looked job ≡ n
+  pub looked-on : (n : ℕ) → stockTest (raw .job) ≡ true → hoursTest (raw .job) ≡ true → listTest (raw .job) ≡ true
+      → n ≡ looked (jobOf (raw .job)) → looked job ≡ n
   unfolding rawOf
-  looked-on n s l t =
-      ap looked (sym (whole-job job (stock-kept s) (list-kept l)))
+  looked-on n s w l t =
+      ap looked (sym (whole-job job (stock-kept s) (hours-on raw job e w) (list-kept l)))
       ∙ sym (ap (λ (r : RawJob). looked (jobOf (r .job))) e) ∙ sym t
 
 -- the refusal of the job that was read is that of the rows
@@ -165,24 +201,28 @@ module _ (raw : RawJob) (b : Bool) where
   unfolding jobRows
   row-cells h l s t job e = h job e ∙ rw (cells-on raw job e l s t)
 
-  pub row-list : Past 3 raw → listTest (raw .job) ≡ b → Rows raw (λ (job : Job). (not b, ListBounds) ∷ drop 4 (jobRows job))
+  pub row-hours : Past 3 raw → hoursTest (raw .job) ≡ b → Rows raw (λ (job : Job). (not b, HoursBounds) ∷ drop 4 (jobRows job))
+  unfolding jobRows
+  row-hours h t job e = h job e ∙ rw (hours-on raw job e t)
+
+  pub row-list : Past 4 raw → listTest (raw .job) ≡ b → Rows raw (λ (job : Job). (not b, ListBounds) ∷ drop 5 (jobRows job))
   unfolding jobRows
   row-list h t job e = h job e ∙ rw (list-on raw job e t)
 
-  pub row-articles : Past 4 raw → listTest (raw .job) ≡ true → anyTwo sameArticle (jobOf (raw .job) .lines) ≡ b
-      → Rows raw (λ (job : Job). (b, ArticleTwice) ∷ drop 5 (jobRows job))
+  pub row-articles : Past 5 raw → listTest (raw .job) ≡ true → anyTwo sameArticle (jobOf (raw .job) .lines) ≡ b
+      → Rows raw (λ (job : Job). (b, ArticleTwice) ∷ drop 6 (jobRows job))
   unfolding jobRows
   row-articles h l t job e = h job e ∙ rw (articles-on raw job e l t)
 
-  pub row-weight : Past 5 raw → listTest (raw .job) ≡ true → ltb 256 (weight (jobOf (raw .job) .lines)) ≡ b
-      → Rows raw (λ (job : Job). (b, TooHeavy) ∷ drop 6 (jobRows job))
+  pub row-weight : Past 6 raw → listTest (raw .job) ≡ true → ltb 256 (weight (jobOf (raw .job) .lines)) ≡ b
+      → Rows raw (λ (job : Job). (b, TooHeavy) ∷ drop 7 (jobRows job))
   unfolding jobRows
   row-weight h l t job e = h job e ∙ rw (weight-on raw job e l t)
 
-  pub row-short : Past 6 raw → stockTest (raw .job) ≡ true → listTest (raw .job) ≡ true → shortOfStock (jobOf (raw .job)) ≡ b
-      → Rows raw (λ (job : Job). (b, ShortOfStock) ∷ [])
+  pub row-short : Past 7 raw → stockTest (raw .job) ≡ true → hoursTest (raw .job) ≡ true → listTest (raw .job) ≡ true
+      → shortOfStock (jobOf (raw .job)) ≡ b → Rows raw (λ (job : Job). (b, ShortOfStock) ∷ [])
   unfolding jobRows
-  row-short h s l t job e = h job e ∙ rw (short-on raw job e s l t)
+  row-short h s w l t job e = h job e ∙ rw (short-on raw job e s w l t)
 
 -- the decision on a job goes by its refusal
 decision-by : (job : Job) (r : Option Refusal) → jobRefusal job ≡ r
@@ -215,8 +255,9 @@ admitted-whole job e =
     let a = admitted job .0 e in
     let records = stock-within job .0 (a .stock) .count in
     let orders = list-within job .0 (a .list) .count in
-    let same = whole-job job records orders in
-    (same, record { record-count = records; order-count = orders; admitted = rw same a })
+    let windows = whole-hours (job .layout .aisles) (job .hours) (a .hours) .1 in
+    let same = whole-job job records (a .hours) orders in
+    (same, record { record-count = records; order-count = orders; window-count = windows; admitted = rw same a })
 
 -- what the answer comes to is what the bytes come to
 checked : (s : List ℕ) → checkedOf (answerTo (readJob s)) ≡ checkBytes s

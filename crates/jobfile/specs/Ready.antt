@@ -6,6 +6,7 @@ use mathlib.Core.Bool.{true}
 use Rattle.rules.specs.declared.Layout.{Layout}
 use Rattle.rules.specs.declared.Policy.the-variants.{Exact}
 use Rattle.rules.specs.Store.{layoutInBounds}
+use Rattle.rules.specs.Hours.{NoHours}
 use Rattle.rules.specs.Jobs.{Job}
 use Rattle.rules.specs.Refusals.{stockInBounds, listInBounds}
 use Rattle.values.specs.Values.{jobOf}
@@ -13,7 +14,7 @@ use Rattle.values.specs.declared.JobValue.{JobValue}
 
 -- a store with nothing in it
 abbrev pub storeOnly : Layout → Job
-storeOnly z = record { layout = z; policy = Exact; stock = []; lines = [] }
+storeOnly z = record { layout = z; policy = Exact; stock = []; hours = NoHours; lines = [] }
 
 -- the layout and the stock are within the bounds
 pub record StockReady (value : JobValue) : Type 0 where

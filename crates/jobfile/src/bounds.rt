@@ -1,14 +1,16 @@
-// The bounds of the store: the refusals 2, 3 and 5.
+// The bounds of the store: the refusals 2, 3, 12 and 5.
 use marks::is_within;
 use rules::Layout;
 use rules::OrderLine;
 use rules::Posts;
 use rules::StockRecord;
+use rules::Window;
 use values::JobValue;
 ghost use mathlib.Core.Path.{_≡_};
 ghost use mathlib.Core.Bool.{_&&_};
 ghost use lib.Dec.{leb};
 ghost use Rattle.rules.specs.Store.{layoutInBounds, postsInBounds};
+ghost use Rattle.rules.specs.Hours.{windowInBounds, hoursInBounds};
 ghost use Rattle.rules.specs.Refusals.{recordInBounds, stockInBounds, lineInBounds, listInBounds};
 ghost use Rattle.values.specs.Values.{jobOf};
 ghost use Rattle.jobfile.specs.Ready.{storeOnly};
@@ -61,6 +63,41 @@ pub fn stock_in_bounds(job: JobValue) -> bool
     while i < records {
         let row = job.stock[i];
         if !record_in_bounds(z, row) {
+            return false;
+        }
+        i += 1;
+    }
+    true
+}
+
+// The fields of a window in a store of m aisles.
+pub fn window_in_bounds(m: usize, w: Window) -> bool
+    ensures { λ r. ⌜ r ≡ windowInBounds m w ⌝ }
+{
+    is_within(1, m, w.aisle as usize) & (w.from < w.to) & (w.to <= 1440)
+}
+
+// The minute, and the number and the fields of the windows, where the job has hours.
+pub fn hours_in_bounds(job: JobValue) -> bool
+    ensures { λ r. ⌜ r ≡ leb (job .hours .count) 64 && hoursInBounds (jobOf job .layout .aisles) (jobOf job .hours) ⌝ }
+{
+    let z = job.layout;
+    let m = z.aisles;
+    let hours = job.hours;
+    let count = hours.count;
+    if 64 < count {
+        return false;
+    }
+    if !hours.timed {
+        return true;
+    }
+    if 1439 < hours.minute {
+        return false;
+    }
+    let mut i = 0;
+    while i < count {
+        let w = hours.windows[i];
+        if !window_in_bounds(m, w) {
             return false;
         }
         i += 1;

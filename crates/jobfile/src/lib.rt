@@ -20,8 +20,8 @@ pub enum Verdict {
     Refused(Refusal),
 }
 
-// The answer to job bytes: the verdict, and the job with its first 384 records and its first 8 lines, refused or not. Where
-// there is no job file, the job is blank. And how many records the stock test looked at (#105), 0 where it was not made.
+// The answer to job bytes: the verdict, and the job with its first 384 records, its first 64 windows and its first 8 lines, refused
+// or not. Where there is no job file, the job is blank. And how many records the stock test looked at (#105), 0 where it was not made.
 pub struct ReadJob {
     pub verdict: Verdict,
     pub job: JobValue,
@@ -60,7 +60,12 @@ fn verdict_on(raw: RawJob) -> Decision
     if raw.twice {
         return stopped(Refusal::CellTwice);
     }
-    if !bounds::list_in_bounds(job) {
+    let timely = bounds::hours_in_bounds(job);
+    let listed = bounds::list_in_bounds(job);
+    if !timely {
+        return stopped(Refusal::HoursBounds);
+    }
+    if !listed {
         return stopped(Refusal::ListBounds);
     }
     if twice::article_twice(job) {
@@ -79,8 +84,8 @@ fn verdict_on(raw: RawJob) -> Decision
     Decision { verdict, looked }
 }
 
-// The bytes of a job file: the job by value if no refusal applies to it, or else the first refusal of 1 to 8; and how many records the
-// stock test looked at, 0 where a refusal before 8 stops the job.
+// The bytes of a job file: the job by value if no refusal applies to it, or else the first refusal of 1 to 8 and 12; and how many records
+// the stock test looked at, 0 where a refusal before 8 stops the job.
 pub fn read_job(bytes: &[u8]) -> ReadJob
     ensures { λ r. ⌜ checkedOf r ≡ checkBytes (now (bytes .entry)) ⌝ }
     ensures { λ r. ⌜ (r .verdict ≡ Verdict.Admitted → Sound (r .job)) ⌝ }

@@ -1,6 +1,8 @@
 // The stock test: refusal 8, and how many records it looks at (#105, "Enough is enough").
+use hours::open_aisles;
 use values::JobValue;
 ghost use mathlib.Core.Path.{_≡_};
+ghost use Prim.Native.Nat.{_≤_};
 ghost use Rattle.rules.specs.Refusals.{shortOfStock};
 ghost use Rattle.rules.specs.Looked.{looked};
 ghost use Rattle.values.specs.Values.{jobOf};
@@ -13,15 +15,18 @@ pub struct StockTest {
 }
 
 // The stock test. The adding up for a line stops as soon as the sum reaches the line's quantity, and the whole test as soon as one
-// line is found short.
+// line is found short. Records of shut aisles hold nothing (#106), and are looked at as the others.
 pub fn stock_test(job: JobValue) -> StockTest
     requires { ⌜ StockReady job ⌝ }
     requires { ⌜ ListReady job ⌝ }
+    requires { ⌜ job .hours .count ≤ 64 ⌝ }
     ensures { λ r. ⌜ r .short ≡ shortOfStock (jobOf job) ⌝ }
     ensures { λ r. ⌜ r .looked ≡ looked (jobOf job) ⌝ }
 {
     let count = job.orders;
     let records = job.records;
+    let hours = job.hours;
+    let open = open_aisles(hours);
     let mut short = false;
     let mut looked: usize = 0;
     let mut i = 0;
@@ -39,7 +44,8 @@ pub fn stock_test(job: JobValue) -> StockTest
             }
             let row = job.stock[k];
             let same = row.article == article;
-            if same {
+            let is_open = open[row.aisle - 1];
+            if same & is_open {
                 sum += row.quantity;
             }
             k += 1;

@@ -26,6 +26,7 @@ fn is_tested(verdict: Verdict) -> bool
             Refusal::LayoutBounds => false,
             Refusal::StockBounds => false,
             Refusal::CellTwice => false,
+            Refusal::HoursBounds => false,
             Refusal::ListBounds => false,
             Refusal::ArticleTwice => false,
             Refusal::TooHeavy => false,

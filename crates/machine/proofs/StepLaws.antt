@@ -8,7 +8,7 @@ use Rattle.rules.specs.declared.Policy.the-variants.{Exact, Return, Traversal, 
 use Rattle.rules.specs.declared.Action.{Action}
 use Rattle.rules.specs.declared.Action.the-variants.{Void, Bottom, Top, Gap, Once, Twice}
 use Rattle.rules.specs.Policies.{actionNamed}
-use Rattle.rules.specs.Machine.{State, nothing, closed, atFront, atBack, odd, joined, split, ending, dead, policyStep, mayEnter, isVoid}
+use Rattle.rules.specs.Machine.{State, nothing, closed, atFront, atBack, odd, joined, split, ending, dead, policyStep, isVoid}
 use Rattle.machine.specs.States.{stateCode, stateOf}
 use Rattle.machine.specs.Steps.{policyOf, policyCode, kindCode, sampleAction, stepOf}
 
@@ -41,31 +41,31 @@ policy-code-below Composite = omega arith
 policy-code-below Largest = omega arith
 
 -- the machine looks at the kind of an action and at the answers of the two tests
-pub by-kind : (policy : Policy) (between : Action → Bool) (a : Action) (holds : Bool) (s : State)
-    → stepOf policy (sampleAction (kindCode a)) holds (between a) s
-    ≡ cond (actionNamed policy a && (isVoid a || mayEnter policy holds)) (policyStep policy between a s) dead
+pub by-kind : (policy : Policy) (between : Action → Bool) (a : Action) (may : Bool) (s : State)
+    → stepOf policy (sampleAction (kindCode a)) may (between a) s
+    ≡ cond (actionNamed policy a && (isVoid a || may)) (policyStep policy between a s) dead
 unfolding stepOf
-by-kind policy between Void holds s = refl
-by-kind Exact between (Bottom i) holds s = refl
-by-kind Return between (Bottom i) holds s = refl
-by-kind Traversal between (Bottom i) holds s = refl
-by-kind Midpoint between (Bottom i) holds s = refl
-by-kind Composite between (Bottom i) holds s = refl
-by-kind Largest between (Bottom i) holds s = refl
-by-kind Exact between (Top i) holds s = refl
-by-kind Return between (Top i) holds s = refl
-by-kind Traversal between (Top i) holds s = refl
-by-kind Midpoint between (Top i) holds s = refl
-by-kind Composite between (Top i) holds s = refl
-by-kind Largest between (Top i) holds s = refl
-by-kind Exact between (Gap h i) holds s = refl
-by-kind Return between (Gap h i) holds s = refl
-by-kind Traversal between (Gap h i) holds s = refl
-by-kind Midpoint between (Gap h i) holds s = refl
-by-kind Composite between (Gap h i) holds s = refl
-by-kind Largest between (Gap h i) holds s = refl
-by-kind policy between Once holds s = refl
-by-kind policy between Twice holds s = refl
+by-kind policy between Void may s = refl
+by-kind Exact between (Bottom i) may s = refl
+by-kind Return between (Bottom i) may s = refl
+by-kind Traversal between (Bottom i) may s = refl
+by-kind Midpoint between (Bottom i) may s = refl
+by-kind Composite between (Bottom i) may s = refl
+by-kind Largest between (Bottom i) may s = refl
+by-kind Exact between (Top i) may s = refl
+by-kind Return between (Top i) may s = refl
+by-kind Traversal between (Top i) may s = refl
+by-kind Midpoint between (Top i) may s = refl
+by-kind Composite between (Top i) may s = refl
+by-kind Largest between (Top i) may s = refl
+by-kind Exact between (Gap h i) may s = refl
+by-kind Return between (Gap h i) may s = refl
+by-kind Traversal between (Gap h i) may s = refl
+by-kind Midpoint between (Gap h i) may s = refl
+by-kind Composite between (Gap h i) may s = refl
+by-kind Largest between (Gap h i) may s = refl
+by-kind policy between Once may s = refl
+by-kind policy between Twice may s = refl
 
 -- numbers of states are at most 8
 pub state-small : (s : State) → stateCode s ≤ 8

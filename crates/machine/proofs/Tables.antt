@@ -75,8 +75,8 @@ passage-entry = row-entry passageMark 5
 
 -- what the marks of a policy's row say of an action, tested over all policies and kinds
 pub possible-by-marks : (p k h : ℕ) → p < 6 → k < 6 → h < 2
-    → (not (eqb (policyMark (policyOf p) k) 45) && (eqb k 0 || (eqb h 1 || eqb (policyMark (policyOf p) 15) 43)))
-    ≡ (actionNamed (policyOf p) (sampleAction k) && (isVoid (sampleAction k) || mayEnter (policyOf p) (bit h)))
+    → (not (eqb (policyMark (policyOf p) k) 45) && (eqb k 0 || eqb h 1))
+    ≡ (actionNamed (policyOf p) (sampleAction k) && (isVoid (sampleAction k) || bit h))
 unfolding policyMark
 possible-by-marks p k h p< k< h< =
     let i = p * 12 + k * 2 + h in
@@ -85,8 +85,8 @@ possible-by-marks p k h p< k< h< =
     let h-is : i % 2 ≡ h = omega arith in
     rw (p-is, k-is, h-is) at
     (same-entry false
-    (λ i. not (eqb (policyMark (policyOf (i / 12)) (i / 2 % 6)) 45) && (eqb (i / 2 % 6) 0 || (eqb (i % 2) 1 || eqb (policyMark (policyOf (i / 12)) 15) 43)))
-    (λ i. actionNamed (policyOf (i / 12)) (sampleAction (i / 2 % 6)) && (isVoid (sampleAction (i / 2 % 6)) || mayEnter (policyOf (i / 12)) (bit (i % 2))))
+    (λ i. not (eqb (policyMark (policyOf (i / 12)) (i / 2 % 6)) 45) && (eqb (i / 2 % 6) 0 || eqb (i % 2) 1))
+    (λ i. actionNamed (policyOf (i / 12)) (sampleAction (i / 2 % 6)) && (isVoid (sampleAction (i / 2 % 6)) || bit (i % 2)))
     72 refl i (omega arith))
 
 -- and of a passage, over all policies and passages
@@ -123,6 +123,16 @@ automaton-of Traversal = (omega arith, λ b a s. refl)
 automaton-of Midpoint = (omega arith, λ b a s. refl)
 automaton-of Composite = (omega arith, λ b a s. refl)
 automaton-of Largest = (omega arith, λ b a s. refl)
+
+-- the mark of a policy that may enter any open aisle
+pub anywhere-mark : (policy : Policy) → eqb (policyMark policy 15) 43 ≡ mayEnter policy false
+unfolding policyMark
+anywhere-mark Exact = refl
+anywhere-mark Return = refl
+anywhere-mark Traversal = refl
+anywhere-mark Midpoint = refl
+anywhere-mark Composite = refl
+anywhere-mark Largest = refl
 
 -- the digit of the automaton that asks the test for aisles between
 pub between-mark : (policy : Policy) → eqb (policyMark policy 13) 50 ≡ eqb (automatonOf policy) 2

@@ -9,7 +9,7 @@ use Rattle.rules.specs.declared.Passage.{Passage}
 use Rattle.rules.specs.declared.Passage.the-variants.{P00, P02, P11, P20, P22}
 use Rattle.rules.specs.Plans.{kindOf, kindRank}
 use Rattle.rules.specs.Policies.{actionNamed, passageNamed}
-use Rattle.rules.specs.Machine.{State, dead, policyBy, crossStep, mayEnter, isVoid}
+use Rattle.rules.specs.Machine.{State, dead, policyBy, crossStep, isVoid}
 
 -- the policies by number, in document 01's order, then LARGEST
 abbrev pub policyOf : ℕ → Policy
@@ -55,10 +55,9 @@ abbrev pub bit : ℕ → Bool
 bit zero = false
 bit (suc n) = true
 
--- the state after an action, with the answers of 'holds a listed article' and of the test for aisles between
+-- the state after an action, with the answers of 'the aisle may be entered' and of the test for aisles between
 unfoldable pub stepOf : Policy → Action → Bool → Bool → State → State
-stepOf policy a holds between s =
-    cond (actionNamed policy a && (isVoid a || mayEnter policy holds)) (policyBy policy between a s) dead
+stepOf policy a may between s = cond (actionNamed policy a && (isVoid a || may)) (policyBy policy between a s) dead
 
 -- the state after the passage behind an aisle left of the depot (0), at it (1) or right of it (2)
 unfoldable pub crossOf : Policy → Passage → ℕ → State → State

@@ -42,7 +42,7 @@ asksGap Largest = true
 abbrev pub testMark : Policy → ℕ
 testMark policy = cond (eqb (automatonOf policy) 2) (cond (asksGap policy) 103 104) 45
 
--- a policy's row: its kinds, a space, its passages, a space, its automaton, a space, '+' or '-' for aisles that hold no listed article,
+-- a policy's row: its kinds, a space, its passages, a space, its automaton, a space, '+' or '-' for open aisles that hold no listed article,
 -- a space, its test for aisles between
 unfoldable pub policyMark : Policy → ℕ → ℕ
 policyMark policy c =

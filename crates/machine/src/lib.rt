@@ -7,7 +7,7 @@
 // Passages: 0 00, 1 02, 2 11, 3 20, 4 22.
 // Sides, of the aisle before a passage: 0 left of the depot, 1 at it, 2 right of it.
 ghost use mathlib.Core.Path.{_≡_};
-ghost use mathlib.Core.Bool.{_&&_, _||_};
+ghost use mathlib.Core.Bool.{false, _&&_, _||_};
 ghost use Prim.Native.Nat.{_+_, _*_, _≤_, _<_};
 ghost use lib.Dec.{eqb};
 ghost use Rattle.rules.specs.Policies.{actionNamed, passageNamed};
@@ -30,7 +30,7 @@ const ANYWHERE: usize = 15;
 
 const TEST: usize = 17;
 
-// A row for each policy: its kinds and its passages, '-' where it lacks one; its automaton; '+' if it may enter any aisle,
+// A row for each policy: its kinds and its passages, '-' where it lacks one; its automaton; '+' if it may enter any open aisle,
 // '-' if only those that hold a listed article; its test for aisles between: 'h' the halves, 'g' the largest gap, '-' none.
 const POLICIES: [u8; 108] = *b"\
     012345 01234 0 + -\
@@ -90,14 +90,21 @@ fn number(digit: u8) -> usize
     (digit - b'0') as usize
 }
 
-// The policy has the action, and may enter the aisle with it.
-fn possible(policy: usize, kind: usize, holds: usize) -> bool
-    requires { ⌜ (policy < 6) × (kind < 6) × (holds < 2) ⌝ }
-    ensures { λ r. ⌜ r ≡ (actionNamed (policyOf policy) (sampleAction kind) && (isVoid (sampleAction kind) || mayEnter (policyOf policy) (bit holds))) ⌝ }
+// The policy has the action, and the action enters no aisle that may not be entered.
+fn possible(policy: usize, kind: usize, may: usize) -> bool
+    requires { ⌜ (policy < 6) × (kind < 6) × (may < 2) ⌝ }
+    ensures { λ r. ⌜ r ≡ (actionNamed (policyOf policy) (sampleAction kind) && (isVoid (sampleAction kind) || bit may)) ⌝ }
 {
     let named = policy_mark(policy, kind) != b'-';
-    let anywhere = policy_mark(policy, ANYWHERE) == b'+';
-    named & ((kind == 0) | ((holds == 1) | anywhere))
+    named & ((kind == 0) | (may == 1))
+}
+
+// Whether the policy lets any open aisle be entered, also one that holds no listed article.
+pub fn enters_any(policy: usize) -> bool
+    requires { ⌜ policy < 6 ⌝ }
+    ensures { λ r. ⌜ r ≡ mayEnter (policyOf policy) false ⌝ }
+{
+    policy_mark(policy, ANYWHERE) == b'+'
 }
 
 // The policy has the passage.
@@ -144,12 +151,12 @@ fn next_state(automaton: usize, kind: usize, between: usize, state: usize) -> us
     decide(mark, between)
 }
 
-// The state after an action; whether the aisle holds a listed article, and whether the action passes the test for aisles between.
-pub fn action_step(policy: usize, kind: usize, holds: usize, between: usize, state: usize) -> usize
-    requires { ⌜ (policy < 6) × (kind < 6) × (holds < 2) × (between < 2) × (state < 9) ⌝ }
-    ensures { λ r. ⌜ r ≡ stateCode (stepOf (policyOf policy) (sampleAction kind) (bit holds) (bit between) (stateOf state)) ⌝ }
+// The state after an action; whether the aisle may be entered, and whether the action passes the test for aisles between.
+pub fn action_step(policy: usize, kind: usize, may: usize, between: usize, state: usize) -> usize
+    requires { ⌜ (policy < 6) × (kind < 6) × (may < 2) × (between < 2) × (state < 9) ⌝ }
+    ensures { λ r. ⌜ r ≡ stateCode (stepOf (policyOf policy) (sampleAction kind) (bit may) (bit between) (stateOf state)) ⌝ }
 {
-    if possible(policy, kind, holds) {
+    if possible(policy, kind, may) {
         let automaton = number(policy_mark(policy, AUTOMATON));
         return next_state(automaton, kind, between, state);
     }

@@ -11,7 +11,7 @@ use Rattle.rules.specs.declared.Action.the-variants.{Void}
 use Rattle.rules.specs.declared.StockRecord.{StockRecord}
 use Rattle.rules.specs.declared.OrderLine.{OrderLine}
 use Rattle.rules.specs.Lists.{allOf, nth}
-use Rattle.rules.specs.Jobs.{Job}
+use Rattle.rules.specs.Jobs.{Job, openStock}
 use Rattle.rules.specs.Plans.{Plan, actionAt, passesCell, planPasses}
 use Rattle.rules.specs.Serving.{supply, serves}
 use Rattle.optimum.specs.Demand.{supplyIn, gains, less, wholeDemand, met}
@@ -35,7 +35,8 @@ map-agree f g e [] = refl
 map-agree f g e (l ∷ ls) = ap₂ (λ x xs. x ∷ xs) (e l) (map-agree f g e ls)
 
 -- what is lacking behind the aisles: the whole demand less all that they supply
-after-all : (job : Job) (xs : List Action) (j : ℕ) (f : OrderLine → ℕ) → demandAfter job j (map f (job .lines)) xs ≡ map (λ l. f l - suppliedFrom (job .stock) j xs (l .article)) (job .lines)
+after-all : (job : Job) (xs : List Action) (j : ℕ) (f : OrderLine → ℕ)
+    → demandAfter job j (map f (job .lines)) xs ≡ map (λ l. f l - suppliedFrom (openStock job) j xs (l .article)) (job .lines)
 unfolding gains
 after-all job [] j f = map-agree _ _ (λ l. omega arith) (job .lines)
 after-all job (x ∷ xs) j f =
@@ -113,4 +114,4 @@ unfolding wholeDemand serves
 serves-met job plan =
     ap met (after-all job (plan .actions) 1 (λ l. l .quantity))
     ∙ met-lines (λ l. l .quantity) _ (job .lines)
-    ∙ all-agree _ _ (λ l. ap (leb (l .quantity)) (supplied plan (job .stock) (l .article))) (job .lines)
+    ∙ all-agree _ _ (λ l. ap (leb (l .quantity)) (supplied plan (openStock job) (l .article))) (job .lines)

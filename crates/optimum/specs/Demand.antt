@@ -7,7 +7,7 @@ use Rattle.rules.specs.declared.Action.{Action}
 use Rattle.rules.specs.declared.StockRecord.{StockRecord}
 use Rattle.rules.specs.declared.OrderLine.{OrderLine}
 use Rattle.rules.specs.Lists.{sumOf, allOf}
-use Rattle.rules.specs.Jobs.{Job}
+use Rattle.rules.specs.Jobs.{Job, openStock}
 use Rattle.rules.specs.Plans.{passesCell}
 
 -- the stock of an article in the cells of aisle j that an action passes
@@ -15,9 +15,9 @@ unfoldable pub supplyIn : List StockRecord → ℕ → Action → ℕ → ℕ
 supplyIn stock j x a =
     sumOf (λ (r : StockRecord). cond (eqb (r .article) a && (eqb (r .aisle) j && passesCell x (r .cell))) (r .quantity) 0) stock
 
--- what an action of aisle j supplies to each line
+-- what an action of aisle j supplies to each line, of the stock that counts
 unfoldable pub gains : Job → ℕ → Action → List ℕ
-gains job j x = map (λ (l : OrderLine). supplyIn (job .stock) j x (l .article)) (job .lines)
+gains job j x = map (λ (l : OrderLine). supplyIn (openStock job) j x (l .article)) (job .lines)
 
 -- what is lacking after gains: a truncated subtraction for each line
 abbrev pub less : List ℕ → List ℕ → List ℕ

@@ -15,7 +15,7 @@ use Rattle.rules.specs.declared.StockRecord.{StockRecord}
 use Rattle.rules.specs.declared.OrderLine.{OrderLine}
 use Rattle.rules.specs.Lists.{from, concatOf, firstOf}
 use Rattle.rules.specs.Store.{Point}
-use Rattle.rules.specs.Jobs.{Job}
+use Rattle.rules.specs.Jobs.{Job, openStock}
 use Rattle.rules.specs.Picks.{cellsOf, recordAt, found, picksFrom}
 use Rattle.rules.proofs.Numbers.{both-true}
 use Rattle.values.specs.Shelves.{lineOf, quantityOf}
@@ -118,7 +118,7 @@ module _ {job : Job} {lacking : List OrderLine} (s : Lacking job lacking) where
   nothing-taken true (some r) rest e = rw (taken-by-number s r ∙ e, less-zero (r .article) lacking)
 
   -- a cell from which some is taken for line k
-  pub some-taken : (passed : Bool) (o : Option StockRecord) (j c k t : ℕ) (rest : List StockRecord) → recordAt (job .stock) (cellAt j c) ≡ o
+  pub some-taken : (passed : Bool) (o : Option StockRecord) (j c k t : ℕ) (rest : List StockRecord) → recordAt (openStock job) (cellAt j c) ≡ o
       → lineOf (job .lines) o ≡ suc k → takenAt job lacking passed o ≡ t → 0 < t
       → picksFrom lacking (found passed o ++ rest)
       ≡ pickOf j c (getD lacking k noLine) t ∷ picksFrom (set lacking k (lessLine t (getD lacking k noLine))) rest
@@ -126,5 +126,5 @@ module _ {job : Job} {lacking : List OrderLine} (s : Lacking job lacking) where
   some-taken false (some r) j c k t rest e n f l = absurd (omega arith)
   some-taken true (some r) j c k t rest e n f l =
       let line = on-line s (r .article) k n in
-      let there = record-there (job .stock) j c r e in
+      let there = record-there (openStock job) j c r e in
       rw (taken-by-number s r ∙ f, lt-ltb 0 t l, line .less t, line .article, there .0, there .1)

@@ -15,7 +15,7 @@ use Rattle.rules.specs.declared.Action.{Action}
 use Rattle.rules.specs.declared.Action.the-variants.{Void}
 use Rattle.rules.specs.declared.Passage.the-variants.{P00}
 use Rattle.rules.specs.Lists.{nth}
-use Rattle.rules.specs.Jobs.{Job}
+use Rattle.rules.specs.Jobs.{Job, openStock}
 use Rattle.rules.specs.Plans.{actionAt, passesCell, planPasses}
 use Rattle.rules.specs.Picks.{recordAt}
 use Rattle.rules.proofs.Admission.{layout-within, list-within, articles-once}
@@ -86,7 +86,7 @@ module _ {job : Job} {lines : List OrderLine} {cells : ℕ} {shelf : Shelf} {pla
 
   module _ (j c : ℕ) (l : j < plan .aisles) (m : c < cells) where
     abbrev recordHere : Option StockRecord
-    recordHere = recordAt (job .stock) (cellAt (suc j) (suc c))
+    recordHere = recordAt (openStock job) (cellAt (suc j) (suc c))
 
     place : (suc j - 1) * 24 + (suc c - 1) ≡ j * 24 + c
     place = omega arith
@@ -169,6 +169,6 @@ module _ {lines : List OrderLine} {cells : ℕ} {shelf : Shelf} {plan : PlanValu
           most = omega arith;
           visited =
               λ job a.
-              let is-line : lineOf (job .lines) (recordAt (job .stock) (cellAt (suc j) (suc c))) ≡ suc k = omega (arith, line-here a j c l m) in
+              let is-line : lineOf (job .lines) (recordAt (openStock job) (cellAt (suc j) (suc c))) ≡ suc k = omega (arith, line-here a j c l m) in
               simp add-one (visited-some (w .visited job a) (omega (arith, a .its-aisles)) (omega (arith, a .its-cells)) k t is-line (taken-here a j c l m lacking ∙ sym e) g (omega (arith, w .size)));
         }

@@ -12,7 +12,7 @@ use Rattle.rules.specs.declared.StockRecord.{StockRecord}
 use Rattle.rules.specs.declared.Pick.{Pick}
 use Rattle.rules.specs.Lists.{concatOf}
 use Rattle.rules.specs.Store.{Point}
-use Rattle.rules.specs.Jobs.{Job}
+use Rattle.rules.specs.Jobs.{Job, openStock}
 use Rattle.rules.specs.Plans.{Plan, planPasses}
 use Rattle.rules.specs.Picks.{recordAt, found, picksFrom, passedRecords, picksOf}
 use Rattle.values.specs.Shelves.{lineOf}
@@ -23,7 +23,7 @@ use Rattle.picks.proofs.Cells.{cellAt, cellsFrom, cells-first, cells-ne
 
 -- the record of a cell as a list, if the plan passes the cell and it has one
 abbrev givenBy : Job → Plan → Point → List StockRecord
-givenBy job plan x = found (planPasses plan (x .aisle) (x .height)) (recordAt (job .stock) x)
+givenBy job plan x = found (planPasses plan (x .aisle) (x .height)) (recordAt (openStock job) x)
 
 -- the lines that count
 abbrev pub counted : Job → List OrderLine → List OrderLine
@@ -56,7 +56,7 @@ module _ {job : Job} {plan : Plan} {lacking : List OrderLine} {list : List Pick}
     module _ (m : c < job .layout .cells) where
       -- the record of the cell, and what it has
       abbrev here : Option StockRecord
-      here = recordAt (job .stock) (cellAt (suc j) (suc c))
+      here = recordAt (openStock job) (cellAt (suc j) (suc c))
 
       abbrev passed : Bool
       passed = planPasses plan (suc j) (suc c)

@@ -17,7 +17,7 @@ use Rattle.rules.specs.Refusals.{Admitted}
 use Rattle.rules.specs.Page.{pageLine, pickCell, alongWalk, FirstStep, pageOf, pageText}
 use Rattle.rules.specs.PageAnswers.{pageLimit}
 use Rattle.rules.proofs.Lists.{sorted-imply}
-use Rattle.rules.proofs.Admission.{layout-within, stock-within}
+use Rattle.rules.proofs.Admission.{layout-within, stock-within, open-in-stock}
 use Rattle.rules.proofs.Taken.{pick-taken, picks-ordered}
 use Rattle.rules.proofs.WalkOrder.{passed-first, along-rearranged, perm-member, perm-length}
 use Rattle.rules.proofs.FewPicks.{few-picks}
@@ -49,7 +49,7 @@ module _ (job : Job) (a : Admitted job) where
   pub pick-within : (x : Pick) → List·Memᴰ x picks → CellWithin (job .layout) x
   pick-within x m =
       let (r, t) = pick-taken job (bestPlan job) x m in
-      let w = stock-within job .0 (a .stock) .records r (t .in-stock) in
+      let w = stock-within job .0 (a .stock) .records r (open-in-stock job r (t .in-stock)) in
       record { aisle = (omega (arith, t .aisle, w .aisle), omega (arith, t .aisle, w .aisle)); cell = (omega (arith, t .cell, w .cell), omega (arith, t .cell, w .cell)) }
 
   -- the walk reaches it
@@ -58,7 +58,7 @@ module _ (job : Job) (a : Admitted job) where
   pick-reached x m =
       let depot = layout-within (job .layout) .0 (a .layout) .depot in
       let (r, t) = pick-taken job (bestPlan job) x m in
-      let w = stock-within job .0 (a .stock) .records r (t .in-stock) in
+      let w = stock-within job .0 (a .stock) .records r (open-in-stock job r (t .in-stock)) in
       let same = walk-passes (job .layout) (depot .0) (depot .1) (bestPlan job) walk page-walk (r .aisle) (r .cell) (w .aisle .0) (w .aisle .1) (w .cell .0) (w .cell .1) in
       let (n, f) = passed-first (job .layout) walk (r .aisle) (r .cell) (same ∙ t .passed) in
       (n, subst (λ p. FirstStep (job .layout) walk p n) (λ i. record { aisle = sym (t .aisle) i; height = sym (t .cell) i }) f)
@@ -75,7 +75,7 @@ module _ (job : Job) (a : Admitted job) where
   pick-fits : (x : Pick) → List·Memᴰ x picks → (x .aisle < 100) × (x .cell < 100) × (x .quantity < 1000) × (x .article < 100000)
   pick-fits x m =
       let (r, t) = pick-taken job (bestPlan job) x m in
-      let w = stock-within job .0 (a .stock) .records r (t .in-stock) in
+      let w = stock-within job .0 (a .stock) .records r (open-in-stock job r (t .in-stock)) in
       let z = layout-within (job .layout) .0 (a .layout) in
       (omega (arith, t .aisle, w .aisle, z .aisles), omega (arith, t .cell, w .cell, z .cells), omega (arith, t .no-more, w .quantity), omega (arith, t .article, w .article))
 

@@ -8,7 +8,7 @@ use lib.Dec.{ltb}
 use lib.ListN.{length}
 use borrow.Author.Tests.{ltb-true, ltb-false}
 use Rattle.rules.specs.declared.Refusal.{Refusal}
-use Rattle.rules.specs.declared.Refusal.the-variants.{WorkArea, NotAJobFile, LayoutBounds, StockBounds, CellTwice, ListBounds, ArticleTwice, TooHeavy, ShortOfStock, SheetSpace, PageSpace}
+use Rattle.rules.specs.declared.Refusal.the-variants.{WorkArea, NotAJobFile, LayoutBounds, StockBounds, CellTwice, HoursBounds, ListBounds, ArticleTwice, TooHeavy, ShortOfStock, SheetSpace, PageSpace}
 use Rattle.rules.specs.declared.Reply.{Reply}
 use Rattle.rules.specs.declared.Reply.the-variants.{Served, Refused}
 use Rattle.rules.specs.Jobs.{Job}
@@ -59,13 +59,14 @@ counts-within bytes sheet page work = go (ltb (length work) workLimit) refl
     go true t = rw (page-refused bytes sheet page work WorkArea (answer-area bytes sheet work (ltb-true (length work) workLimit t))) (refused-within sheet page work WorkArea)
     go false t = checked (ltb-false (length work) workLimit t) (checkBytes bytes) refl
 
--- a refusal's number is at most 11
-number-small : (r : Refusal) → numberOf r ≤ 11
+-- a refusal's number is at most 12
+number-small : (r : Refusal) → numberOf r ≤ 12
 number-small WorkArea = omega arith
 number-small NotAJobFile = omega arith
 number-small LayoutBounds = omega arith
 number-small StockBounds = omega arith
 number-small CellTwice = omega arith
+number-small HoursBounds = omega arith
 number-small ListBounds = omega arith
 number-small ArticleTwice = omega arith
 number-small TooHeavy = omega arith

@@ -11,7 +11,7 @@ use Rattle.rules.specs.Jobs.{Job}
 use Rattle.rules.specs.Sheet.{sheetText}
 use Rattle.rules.specs.Answers.{Answer, refused, served}
 
--- a job to which no refusal of 1 to 8 applies: refused where its sheet is longer than its space, or else served
+-- a job to which no refusal of 1 to 8 and 12 applies: refused where its sheet is longer than its space, or else served
 unfoldable pub written : Job → List ℕ → List ℕ → Answer
 written job sheet work =
     elim (ltb (length sheet) (length (sheetText job))) [ true ↦ refused SheetSpace sheet work | false ↦ served job sheet work ]

@@ -35,7 +35,7 @@ fn finish(job: JobValue, shelf: Shelf, routed: Routed, sheet: &mut [u8]) -> Repl
     Reply::Served(n)
 }
 
-// Serves a job to which no refusal of 1 to 8 applies, and leaves the work area all zero. What each cell holds for the list is noted
+// Serves a job to which no refusal of 1 to 8 and 12 applies, and leaves the work area all zero. What each cell holds for the list is noted
 // once, for the route and for the picks.
 fn serve(job: JobValue, sheet: &mut [u8], work: &mut [u16]) -> Reply
     requires { ⌜ Sound job × (32768 ≤ length (now work)) ⌝ }
@@ -47,7 +47,7 @@ fn serve(job: JobValue, sheet: &mut [u8], work: &mut [u16]) -> Reply
     finish(job, shelf, routed, sheet)
 }
 
-// The library call: refused with 10 where the work area is too small, then with the first of 1 to 9 that applies, or served.
+// The library call: refused with 10 where the work area is too small, then with the first of 1 to 9 and 12 that applies, or served.
 pub fn plan(job: &[u8], sheet: &mut [u8], work: &mut [u16]) -> Reply
     ensures { λ r. ⌜ Answered (answer (now (job .entry)) (now (sheet .entry)) (now (work .entry))) r (now (sheet .exit)) (now (work .exit)) ⌝ }
 {

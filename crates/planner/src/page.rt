@@ -59,7 +59,7 @@ fn finish(
     }
 }
 
-// Serves a job to which no refusal of 1 to 8 applies, and leaves the work area all zero.
+// Serves a job to which no refusal of 1 to 8 and 12 applies, and leaves the work area all zero.
 fn serve(job: JobValue, sheet: &mut [u8], page: &mut [u8], work: &mut [u16]) -> PageReply
     requires { ⌜ Sound job × (32768 ≤ length (now work)) ⌝ }
     ensures { λ r. ⌜ ((others : List ℕ) → PageReplied (pageWritten (jobOf job) (now (sheet .entry)) (now (page .entry)) others) r (now (sheet .exit)) (now (page .exit))) ⌝ }
@@ -70,7 +70,7 @@ fn serve(job: JobValue, sheet: &mut [u8], page: &mut [u8], work: &mut [u16]) -> 
     finish(job, shelf, routed, sheet, page)
 }
 
-// The page call: refused with 10 where the work area is too small, then with the first of 1 to 9 and 11 that applies, or served.
+// The page call: refused with 10 where the work area is too small, then with the first of 1 to 9, 11 and 12 that applies, or served.
 pub fn plan_page(job: &[u8], sheet: &mut [u8], page: &mut [u8], work: &mut [u16]) -> PageReply
     ensures { λ r. ⌜ PageAnswered (pageAnswer (now (job .entry)) (now (sheet .entry)) (now (page .entry)) (now (work .entry))) r (now (sheet .exit)) (now (page .exit)) (now (work .exit)) ⌝ }
 {

@@ -4,8 +4,8 @@
 -- lent work area: the reply, and what sheet and work area hold after it. The public contracts are equations with it, and with
 -- `pageAnswer` (rules/specs/PageAnswers) where a page is lent too.
 -- The words of the statements are in specs/: the causes of the table (Causes), what a sheet says (Contents), what calls give (Calls),
--- and of the requests #101 (EmptyLists), #102 (Uprights), #103 (Pages) and #105 (StockTests). Request #104 has its words in
--- rules/specs/Policies.
+-- and of the requests #101 (EmptyLists), #102 (Uprights), #103 (Pages), #105 (StockTests) and #106 (OpeningHours). Request #104 has its
+-- words in rules/specs/Policies.
 use Prim.Native.Nat.{ℕ, _+_, _*_, _-_, _/_, _≤_, _<_}
 use mathlib.Core.Path.{_≡_, refl, sym, _∙_, ap, subst}
 use mathlib.Core.Logic.{_⊎_, _↔_}
@@ -23,11 +23,12 @@ use Rattle.rules.specs.declared.Refusal.{Refusal}
 use Rattle.rules.specs.declared.Refusal.the-variants.{WorkArea, ListBounds, ShortOfStock, SheetSpace, PageSpace}
 use Rattle.rules.specs.declared.Reply.the-variants.{Served, Refused}
 use Rattle.rules.specs.Store.{WithoutPosts, aisleLength, position, Edge, InStore, layoutInBounds}
-use Rattle.rules.specs.Jobs.{Job, jobWithPosts, jobUnder}
+use Rattle.rules.specs.Hours.{Hours, NoHours}
+use Rattle.rules.specs.Jobs.{Job, jobWithPosts, jobUnder, jobWithHours}
 use Rattle.rules.specs.JobFile.{lineFeed, header, field, jobText, jobFileLimit}
 use Rattle.rules.specs.Plans.{Plan}
 use Rattle.rules.specs.Lawful.{Lawful}
-use Rattle.rules.specs.Walks.{Walk, ClosedWalk, walkTreads}
+use Rattle.rules.specs.Walks.{Walk, ClosedWalk, KeepsToOpen, walkTreads}
 use Rattle.rules.specs.Picks.{picksOf}
 use Rattle.rules.specs.BestPlan.{emptyPlan}
 use Rattle.rules.specs.Refusals.{numberOf, workLimit, cleared, Admitted}
@@ -35,23 +36,25 @@ use Rattle.rules.specs.Looked.{lookedFor, looked, lookedIn}
 use Rattle.rules.specs.Sheet.{sheetText}
 use Rattle.rules.specs.Answers.{answer, hostAnswer, sheetLimit, letterR, output}
 use Rattle.rules.specs.PageAnswers.{pageAnswer, hostPageAnswer, pageLimit, pageOutput}
-use Rattle.rules.specs.Policies.{inFrontHalf, inBackHalf, Follows, Allowed}
+use Rattle.rules.specs.Policies.{inFrontHalf, inBackHalf, Follows, ShutVoid, Allowed}
 use Rattle.rules.specs.Serving.{PlanServes}
 use Rattle.rules.specs.Examples.{_⨯_, alpha, AllHold, AllSame, cases, ownCases, fourBetween, largestCases, stopLists, workedJob, workedPage}
-use Rattle.rules.specs.Examples.{AllLooked, lookedCases, lookedTexts}
+use Rattle.rules.specs.Examples.{AllLooked, lookedCases, lookedTexts, sevenAt, hoursCases, hoursLooked, hoursTexts}
 use Rattle.rules.proofs.Cases as Cases
-use Rattle.closedwalks.proofs.Statements.{walk-reads, plan-determined}
+use Rattle.closedwalks.proofs.Statements.{walk-reads-open, plain-keeps, plan-determined}
 use Rattle.promises.specs.Causes.{JobFileOf, LineOutOfStock, OfJob, Cause, tableRow, FirstCause}
 use Rattle.promises.specs.Contents.{Content}
 use Rattle.promises.specs.Calls.{RefusedCall, ServedCall, Shows, Obeys, Shortest, TreadsAs, hostWork, hostGets, HostCall, PrintsSheet, PrintsRefusal}
 use Rattle.promises.specs.EmptyLists.{NothingToFetch, emptySheet, ShowsNothing}
 use Rattle.promises.specs.Uprights.{PostsOfNothing}
 use Rattle.promises.specs.Pages.{PageCause, FirstPageCause, RefusedPageCall, ServedPageCall, AlongTheWalk, ShowsPage, HostPageCall, PrintsPage, PrintsPageRefusal}
+use Rattle.promises.specs.OpeningHours.{SameAnswers, AllOpen, shutGone, PassesToHours}
 use Rattle.promises.specs.StockTests.{InStock, LineShort, LeastHolding, AddedUp, LookedBounds}
 use Rattle.promises.proofs.EmptyLists
 use Rattle.promises.proofs.Uprights
 use Rattle.promises.proofs.LargestGap
 use Rattle.promises.proofs.StockTest
+use Rattle.promises.proofs.OpeningHours
 use Rattle.promises.proofs.PageCalls
 use Rattle.promises.proofs.Clipboard
 use Rattle.promises.proofs.PageHost
@@ -110,20 +113,26 @@ pub picks-determined : (job : Job) → Admitted job → (c : Content) → Obeys 
 picks-determined = PickRule.picks-determined
 
 -- "Conversely, every non-empty closed walk from the depot that treads no stretch more than twice reads as one plan, and a lawful one."
-pub demand-2-conversely : (z : Layout) → 1 ≤ z .depot → z .depot ≤ z .aisles
-    → (walk : Walk) → (walk ≡ [] → ⊥) → ClosedWalk z walk → ((e : Edge) → InStore z e → walkTreads z walk e ≤ 2)
-    → (plan : Plan) × TreadsAs z walk plan × Lawful z plan × ((other : Plan) → TreadsAs z walk other → other ≡ plan)
-demand-2-conversely z low high walk some-step closed twice =
-    let t = walk-reads z low high walk some-step closed twice in (
+-- Request #106: "those that demand 2 reads as lawful plans, are those that tread no stretch of a shut aisle". Shut aisles are VOID in the plan
+pub demand-2-conversely : (z : Layout) (hours : Hours) → 1 ≤ z .depot → z .depot ≤ z .aisles
+    → (walk : Walk) → (walk ≡ [] → ⊥) → ClosedWalk z walk → KeepsToOpen z hours walk → ((e : Edge) → InStore z e → walkTreads z walk e ≤ 2)
+    → (plan : Plan) × TreadsAs z walk plan × Lawful z plan × ShutVoid hours plan × ((other : Plan) → TreadsAs z walk other → other ≡ plan)
+demand-2-conversely z hours low high walk some-step closed keeps twice =
+    let t = walk-reads-open z low high hours walk some-step closed keeps twice in (
       t .0,
-      record { well-formed = t .1 .well-formed; treads = t .2 },
+      record { well-formed = t .1 .well-formed; treads = t .3 },
       t .1,
-      λ other o. plan-determined z other (t .0) (o .well-formed) (t .1 .well-formed) (λ e i. o .treads e i ∙ sym (t .2 e i)),
+      t .2,
+      λ other o. plan-determined z other (t .0) (o .well-formed) (t .1 .well-formed) (λ e i. o .treads e i ∙ sym (t .3 e i)),
     )
+
+-- without the sections no aisle is shut, so every walk is one of these
+pub no-hours-no-shut : (z : Layout) (walk : Walk) → KeepsToOpen z NoHours walk
+no-hours-no-shut = plain-keeps
 
 pub record Demand3 (bytes sheet work : List ℕ) : Type 0 where
   pub shortest : (job : Job) (c : Content) → Shows bytes sheet work job c → Shortest job c
-  -- refused for stock: no row above applies, and some line exceeds all the stock of its article
+  -- refused for stock: no row above applies, and some line exceeds all the stock of its article in open aisles
   pub stock : (answer bytes sheet work .reply ≡ Refused ShortOfStock)
       ↔ (((q : Refusal) → tableRow q < tableRow ShortOfStock → Cause q bytes sheet work → ⊥) × OfJob bytes LineOutOfStock)
 
@@ -131,7 +140,8 @@ pub record Demand3 (bytes sheet work : List ℕ) : Type 0 where
 -- the length printed there, and every plan that the policy allows and that passes enough stock too has at least that length. Under
 -- EXACT, so has every closed walk from the depot that passes enough stock for every line, whatever steps it takes and however often
 -- it treads a stretch. And a job is refused for stock exactly when it passes every test before that one and some line exceeds all
--- the stock of its article."
+-- the stock of its article." Request #106: "The walks we compare with .. are those that tread no stretch of a shut aisle"; "8 counts open
+-- aisles only"
 pub demand-3 : (bytes sheet work : List ℕ) → Demand3 bytes sheet work
 demand-3 bytes sheet work =
     record {
@@ -224,11 +234,12 @@ empty-list-shows = EmptyLists.empty-shown
 
 -- "For such a list the plan that treads nothing is lawful too": every policy allows it beside the plans that it allowed, and no other
 pub empty-adds-one : (job : Job) (plan : Plan) → job .lines ≡ [] → 1 ≤ job .layout .aisles
-    → Allowed job plan ↔ ((Lawful (job .layout) plan × Follows (job .policy) job plan) ⊎ (plan ≡ emptyPlan (job .layout)))
+    → Allowed job plan ↔ ((Lawful (job .layout) plan × Follows (job .policy) job plan × ShutVoid (job .hours) plan) ⊎ (plan ≡ emptyPlan (job .layout)))
 empty-adds-one = EmptyLists.empty-adds-one
 
--- lists with lines keep exactly the plans that they had
-pub lines-keep-plans : (job : Job) (plan : Plan) → (job .lines ≡ [] → ⊥) → Allowed job plan ↔ (Lawful (job .layout) plan × Follows (job .policy) job plan)
+-- lists with lines keep exactly the plans that they had; of both, #106 leaves out those that enter a shut aisle
+pub lines-keep-plans : (job : Job) (plan : Plan) → (job .lines ≡ [] → ⊥)
+    → Allowed job plan ↔ (Lawful (job .layout) plan × Follows (job .policy) job plan × ShutVoid (job .hours) plan)
 lines-keep-plans = EmptyLists.lines-keep-plans
 
 -- Request #102: "Cell i then lies f + (i − 1)·p + u·((i − 1) divided by k, rounded down) from the front, and L grows to match."
@@ -382,3 +393,40 @@ looked-start = StockTest.start
 -- which records and lines count is pinned by cases of its own, and what the program prints by two texts
 pub looked-cases-hold : AllLooked lookedCases × AllSame lookedTexts
 looked-cases-hold = Cases.looked-cases-hold
+
+-- Request #106: "An aisle without lines is open", "windows may touch or overlap": a job to which 12 does not apply and whose aisles are all
+-- open has the answer of the job without the sections
+pub all-open : (job : Job) (timed plain : List ℕ) → AllOpen job timed plain → SameAnswers timed plain
+all-open = OpeningHours.all-open
+
+-- and #105's number of that job
+pub all-open-looked : (job : Job) (timed plain : List ℕ) → AllOpen job timed plain → lookedIn timed ≡ lookedIn plain
+all-open-looked = OpeningHours.all-open-looked
+
+-- there are such files, under every policy: the window of aisle 1 begins at the minute
+pub all-open-met : (policy : Policy)
+    → let job = sevenAt 5 ((5, 6) ∷ []) policy in
+    AllOpen job (jobText job) (jobText (jobWithHours NoHours job))
+all-open-met = OpeningHours.open-files
+
+-- "Its stock counts for nothing, in the stock test as in the articles an aisle holds": where none of 1 to 4 and 12 applies, the answer is that
+-- of the job with the same sections and without the records of its shut aisles
+pub shut-is-gone : (job : Job) (bytes others : List ℕ) → PassesToHours job bytes → JobFileOf others (shutGone job) → SameAnswers bytes others
+shut-is-gone job bytes others p = OpeningHours.shut-is-gone job bytes p others
+
+-- under every policy but EXACT, which may enter an aisle that holds nothing, also that of the job without these records and without the sections
+pub shut-is-gone-plain : (job : Job) (bytes plain : List ℕ) → PassesToHours job bytes → (job .policy ≡ Exact → ⊥)
+    → JobFileOf plain (jobWithHours NoHours (shutGone job)) → SameAnswers bytes plain
+shut-is-gone-plain job bytes plain p other = OpeningHours.shut-is-gone-plain job bytes p other plain
+
+-- there are such files, under every policy: the window of aisle 1, where one of the records is, ends at the minute
+pub shut-is-gone-met : (policy : Policy)
+    → let job = sevenAt 6 ((5, 6) ∷ []) policy in
+    PassesToHours job (jobText job) × JobFileOf (jobText (shutGone job)) (shutGone job)
+    × JobFileOf (jobText (jobWithHours NoHours (shutGone job))) (jobWithHours NoHours (shutGone job))
+shut-is-gone-met = OpeningHours.gone-files
+
+-- when an aisle is open, what a shut one may not be, when 12 applies and what counts before it, and how the sections are written is pinned by
+-- cases of its own, texts and numbers of records looked at
+pub hours-cases-hold : AllHold hoursCases × AllLooked hoursLooked × AllSame hoursTexts
+hours-cases-hold = Cases.hours-cases-hold

@@ -13,7 +13,7 @@ use Rattle.rules.specs.declared.Passage.the-variants.{P00}
 use Rattle.rules.specs.declared.Policy.{Policy}
 use Rattle.rules.specs.declared.Policy.the-variants.{Exact, Return, Traversal, Midpoint, Composite, Largest}
 use Rattle.rules.specs.declared.Refusal.{Refusal}
-use Rattle.rules.specs.declared.Refusal.the-variants.{WorkArea, NotAJobFile, LayoutBounds, StockBounds, CellTwice, ListBounds, ArticleTwice, TooHeavy, ShortOfStock, SheetSpace, PageSpace}
+use Rattle.rules.specs.declared.Refusal.the-variants.{WorkArea, NotAJobFile, LayoutBounds, StockBounds, CellTwice, HoursBounds, ListBounds, ArticleTwice, TooHeavy, ShortOfStock, SheetSpace, PageSpace}
 use Rattle.rules.specs.declared.Reply.the-variants.{Served}
 use Rattle.rules.specs.Store.{layoutInBounds}
 use Rattle.rules.specs.Jobs.{Job}
@@ -21,7 +21,7 @@ use Rattle.rules.specs.JobFile.{numeral, field, header, layoutText, layoutSecti
 use Rattle.rules.specs.JobFile.{isDigit, isNumber, readField, readHeader, readPolicyAs, readPolicy, readLayout, readPosts, readRecord, readLine, readSection, readLayoutSection, readSections, readJob}
 use Rattle.rules.specs.Plans.{Plan, planLength}
 use Rattle.rules.specs.Lawful.{Lawful, LawfulFor}
-use Rattle.rules.specs.Policies.{Follows, Allowed}
+use Rattle.rules.specs.Policies.{Follows, ShutVoid, Allowed}
 use Rattle.rules.specs.FirstWalk.{firstWalk}
 use Rattle.rules.specs.BestPlan.{emptyPlan, bestPlan}
 use Rattle.rules.specs.Refusals.{weight, workLimit, cleared}
@@ -41,28 +41,29 @@ use Rattle.promises.specs.EmptyLists.{NothingToFetch, emptySheet, ShowsN
 use Rattle.promises.proofs.Table.{job-file-read, NoCause, served-for, served-admitted, admitted-served}
 use Rattle.promises.proofs.Shown.{best-obeys, shown-best}
 
--- a list with lines: the lawful plans that follow the policy, as ever
+-- a list with lines: the lawful plans that follow the policy and keep out of shut aisles, as ever
 pub lines-keep-plans : (job : Job) (plan : Plan) → (job .lines ≡ [] → ⊥)
-    → Allowed job plan ↔ (Lawful (job .layout) plan × Follows (job .policy) job plan)
+    → Allowed job plan ↔ (Lawful (job .layout) plan × Follows (job .policy) job plan × ShutVoid (job .hours) plan)
 lines-keep-plans job plan some-line = (
-  λ a. (lawful-with-lines (job .layout) (job .lines) plan some-line (a .lawful), a .follows),
-  λ l. record { lawful = lawful-for (job .layout) (job .lines) plan (l .0); follows = l .1 },
+  λ a. (lawful-with-lines (job .layout) (job .lines) plan some-line (a .lawful), a .follows, a .shut),
+  λ l. record { lawful = lawful-for (job .layout) (job .lines) plan (l .0); follows = l .1; shut = l .2 },
 )
 
 -- an empty list: these, and the plan that treads nothing
 pub empty-adds-one : (job : Job) (plan : Plan) → job .lines ≡ [] → 1 ≤ job .layout .aisles
-    → Allowed job plan ↔ ((Lawful (job .layout) plan × Follows (job .policy) job plan) ⊎ (plan ≡ emptyPlan (job .layout)))
+    → Allowed job plan ↔ ((Lawful (job .layout) plan × Follows (job .policy) job plan × ShutVoid (job .hours) plan) ⊎ (plan ≡ emptyPlan (job .layout)))
 empty-adds-one job plan no-line some-aisle = (
-  λ a. split (a .follows) (subst (λ lines. LawfulFor (job .layout) lines plan) no-line (a .lawful)),
+  λ a. split (a .follows, a .shut) (subst (λ lines. LawfulFor (job .layout) lines plan) no-line (a .lawful)),
   allowed,
 )
   where
-    split : Follows (job .policy) job plan → LawfulFor (job .layout) [] plan → (Lawful (job .layout) plan × Follows (job .policy) job plan) ⊎ (plan ≡ emptyPlan (job .layout))
-    split f (inl law) = inl (law, f)
+    split : Follows (job .policy) job plan × ShutVoid (job .hours) plan → LawfulFor (job .layout) [] plan
+        → (Lawful (job .layout) plan × Follows (job .policy) job plan × ShutVoid (job .hours) plan) ⊎ (plan ≡ emptyPlan (job .layout))
+    split f (inl law) = inl (law, f .0, f .1)
     split f (inr idle) = inr (one-empty-plan (job .layout) plan idle)
 
-    allowed : (Lawful (job .layout) plan × Follows (job .policy) job plan) ⊎ (plan ≡ emptyPlan (job .layout)) → Allowed job plan
-    allowed (inl l) = record { lawful = lawful-for (job .layout) (job .lines) plan (l .0); follows = l .1 }
+    allowed : (Lawful (job .layout) plan × Follows (job .policy) job plan × ShutVoid (job .hours) plan) ⊎ (plan ≡ emptyPlan (job .layout)) → Allowed job plan
+    allowed (inl l) = record { lawful = lawful-for (job .layout) (job .lines) plan (l .0); follows = l .1; shut = l .2 }
     allowed (inr e) = subst (Allowed job) (sym e) (empty-allowed job no-line some-aisle)
 
 -- no two lines of an empty list are alike
@@ -90,6 +91,7 @@ module _ (bytes sheet work : List ℕ) (job : Job) (file : JobFileOf bytes job) 
   no-list-cause LayoutBounds low high c = absurd (omega arith)
   no-list-cause StockBounds low high c = absurd (omega arith)
   no-list-cause CellTwice low high c = absurd (omega arith)
+  no-list-cause HoursBounds low high c = absurd (omega arith)
   no-list-cause ListBounds low high (other, f, out) =
       out (record { count = rw (none-in other f) (omega arith); lines = λ l m. absurd (none-listed other f l m) })
   no-list-cause ArticleTwice low high (other, f, twice) = none-alike twice (none-in other f)

@@ -6,7 +6,7 @@ use mathlib.Core.Logic.{_↔_}
 use mathlib.Core.List.{List, [], _∷_}
 use lib.ListN.{length, length-replicate}
 use Rattle.rules.specs.declared.Refusal.{Refusal}
-use Rattle.rules.specs.declared.Refusal.the-variants.{WorkArea, NotAJobFile, LayoutBounds, StockBounds, CellTwice, ListBounds, ArticleTwice, TooHeavy, ShortOfStock, SheetSpace, PageSpace}
+use Rattle.rules.specs.declared.Refusal.the-variants.{WorkArea, NotAJobFile, LayoutBounds, StockBounds, CellTwice, HoursBounds, ListBounds, ArticleTwice, TooHeavy, ShortOfStock, SheetSpace, PageSpace}
 use Rattle.rules.specs.declared.Reply.{Reply}
 use Rattle.rules.specs.declared.Reply.the-variants.{Served, Refused}
 use Rattle.rules.specs.Lists.{nth}
@@ -21,7 +21,7 @@ use Rattle.promises.proofs.Shown.{refused-call, served-call}
 
 -- a refusal's number tells the refusal
 abbrev byNumber : List Refusal
-byNumber = NotAJobFile ∷ LayoutBounds ∷ StockBounds ∷ CellTwice ∷ ListBounds ∷ ArticleTwice ∷ TooHeavy ∷ ShortOfStock ∷ SheetSpace ∷ WorkArea ∷ PageSpace ∷ []
+byNumber = NotAJobFile ∷ LayoutBounds ∷ StockBounds ∷ CellTwice ∷ ListBounds ∷ ArticleTwice ∷ TooHeavy ∷ ShortOfStock ∷ SheetSpace ∷ WorkArea ∷ PageSpace ∷ HoursBounds ∷ []
 
 numbered : (r : Refusal) → nth byNumber (numberOf r) WorkArea ≡ r
 numbered WorkArea = refl
@@ -29,6 +29,7 @@ numbered NotAJobFile = refl
 numbered LayoutBounds = refl
 numbered StockBounds = refl
 numbered CellTwice = refl
+numbered HoursBounds = refl
 numbered ListBounds = refl
 numbered ArticleTwice = refl
 numbered TooHeavy = refl

@@ -12,6 +12,7 @@ pub mod EmptyLists
 pub mod Uprights
 pub mod LargestGap
 pub mod StockTest
+pub mod OpeningHours
 pub mod PageCalls
 pub mod Clipboard
 pub mod PageHost

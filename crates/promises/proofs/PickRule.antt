@@ -10,12 +10,12 @@ use lib.Dec.{ltb, eqb}
 use Rattle.rules.specs.declared.StockRecord.{StockRecord}
 use Rattle.rules.specs.declared.OrderLine.{OrderLine}
 use Rattle.rules.specs.declared.Pick.{Pick}
-use Rattle.rules.specs.Jobs.{Job}
+use Rattle.rules.specs.Jobs.{Job, openStock}
 use Rattle.rules.specs.Plans.{Plan, planPasses}
 use Rattle.rules.specs.Refusals.{Admitted}
 use Rattle.rules.specs.Picks.{lackOf, lessOf, taken, addPick, picksFrom, passedRecords, picksOf, CellBefore, PickBefore}
 use Rattle.rules.specs.Lists.{Sorted}
-use Rattle.rules.proofs.Admission.{list-within, articles-once, one-record-per-cell}
+use Rattle.rules.proofs.Admission.{open-in-stock, list-within, articles-once, one-record-per-cell}
 use Rattle.promises.specs.Contents.{Content, pickedBy, cellBefore, pickedFrom, pickedBefore}
 use Rattle.promises.specs.Calls.{Obeys}
 use Rattle.promises.proofs.Table.{untrue}
@@ -242,7 +242,7 @@ module _ (job : Job) (a : Admitted job) where
   apart = articles-once job .0 (a .articles-once)
 
   -- from each passed cell the picks of a plan take what its line still lacks, as far as stock goes
-  pub picks-rule : (plan : Plan) (r : StockRecord) → List·Memᴰ r (job .stock) → planPasses plan (r .aisle) (r .cell) ≡ true
+  pub picks-rule : (plan : Plan) (r : StockRecord) → List·Memᴰ r (openStock job) → planPasses plan (r .aisle) (r .cell) ≡ true
       → (l : OrderLine) → List·Memᴰ l (job .lines) → l .article ≡ r .article
       → pickedFrom (picksOf job plan) (r .aisle) (r .cell) ≡ min (l .quantity - pickedBefore (picksOf job plan) (r .article) (r .aisle) (r .cell)) (r .quantity)
   unfolding picksOf
@@ -264,11 +264,12 @@ module _ (job : Job) (a : Admitted job) where
           (r, passed-member job (c .plan) a r (t .in-stock) (t .passed), record { aisle = t .aisle; cell = t .cell; article = t .article; some = t .some; no-more = t .no-more })
 
       -- nothing is picked at a record whose article no line lacks
-      unlisted : (r : StockRecord) → List·Memᴰ r (job .stock) → lackOf (job .lines) (r .article) ≡ 0 → pickedFrom (c .picks) (r .aisle) (r .cell) ≡ 0
+      unlisted : (r : StockRecord) → List·Memᴰ r (openStock job) → lackOf (job .lines) (r .article) ≡ 0 → pickedFrom (c .picks) (r .aisle) (r .cell) ≡ 0
       unlisted r m e = here-none r (c .picks) (λ x k at. (
           let (q, t) = o .picks-taken x k in
           let (l, h, same) = o .picks-listed x k in
-          let one = one-record-per-cell job (a .cells-once) q r (t .in-stock) m (sym (t .aisle) ∙ at .0) (sym (t .cell) ∙ at .1) in
+          let taken = open-in-stock job q (t .in-stock) in
+          let one = one-record-per-cell job (a .cells-once) q r taken (open-in-stock job r m) (sym (t .aisle) ∙ at .0) (sym (t .cell) ∙ at .1) in
           let lack = ap (lackOf (job .lines)) (ap (λ (s : StockRecord). s .article) (sym one) ∙ sym (t .article) ∙ same) ∙ lack-line (job .lines) apart l h in
           omega (arith, list-within job .0 (a .list) .lines l h .quantity .0)
           ))

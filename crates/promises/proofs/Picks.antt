@@ -13,13 +13,13 @@ use Rattle.rules.specs.declared.OrderLine.{OrderLine}
 use Rattle.rules.specs.declared.Pick.{Pick}
 use Rattle.rules.specs.Lists.{from, sumOf, Sorted}
 use Rattle.rules.specs.Store.{Point}
-use Rattle.rules.specs.Jobs.{Job}
+use Rattle.rules.specs.Jobs.{Job, openStock}
 use Rattle.rules.specs.Plans.{Plan, planPasses}
 use Rattle.rules.specs.Serving.{supply, Serves, PlanServes}
 use Rattle.rules.specs.Refusals.{Admitted, RecordWithin}
 use Rattle.rules.specs.Picks.{cellsOf, lackOf, lessOf, recordAt, taken, addPick, picksFrom, found, passedRecords, picksOf}
 use Rattle.rules.proofs.Lists.{sum-agree, sum-plus, sum-map, sum-concat, sorted-map, sum-none}
-use Rattle.rules.proofs.Admission.{stock-within, cells-once, articles-once}
+use Rattle.rules.proofs.Admission.{stock-within, open-in-stock, open-once, articles-once}
 use Rattle.closedwalks.proofs.Sums.{sum-from}
 use Rattle.promises.specs.Contents.{pickedBy, picked}
 
@@ -181,13 +181,16 @@ module _ (z : Layout) (passes : ℕ → ℕ → Bool) (f : StockRecord → ℕ) 
 
 module _ (job : Job) (a : Admitted job) (plan : Plan) where
   -- the stock of an article in the passed records is the supply
-  passed-supply : (b : ℕ) → stockIn (passedRecords job plan) b ≡ supply (planPasses plan) (job .stock) b
+  passed-supply : (b : ℕ) → stockIn (passedRecords job plan) b ≡ supply (planPasses plan) (openStock job) b
   unfolding passedRecords supply
   passed-supply b =
       sum-concat (λ (r : StockRecord). cond (eqb (r .article) b) (r .quantity) 0) _ (cellsOf (job .layout))
-      ∙ passed-sum (job .layout) (planPasses plan) (λ r. cond (eqb (r .article) b) (r .quantity) 0) (job .stock) (stock-within job .0 (a .stock) .records) (cells-once job .0 (a .cells-once))
-      ∙ sum-agree _ _ (job .stock) (λ r m. both (planPasses plan (r .aisle) (r .cell)) (eqb (r .article) b) (r .quantity))
+      ∙ passed-sum (job .layout) (planPasses plan) (λ r. cond (eqb (r .article) b) (r .quantity) 0) (openStock job) in-store (open-once job (a .cells-once))
+      ∙ sum-agree _ _ (openStock job) (λ r m. both (planPasses plan (r .aisle) (r .cell)) (eqb (r .article) b) (r .quantity))
     where
+      in-store : (r : StockRecord) → List·Memᴰ r (openStock job) → RecordWithin (job .layout) r
+      in-store r m = stock-within job .0 (a .stock) .records r (open-in-stock job r m)
+
       both : (x y : Bool) (n : ℕ) → cond x (cond y n 0) 0 ≡ cond (y && x) n 0
       both true true n = refl
       both true false n = refl

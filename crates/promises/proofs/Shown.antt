@@ -7,7 +7,7 @@ use mathlib.Core.Option.{some}
 use lib.ListN.{length, take, drop, length-append, length-drop}
 use lib.Seq.{take-at, take-append-seam, drop-append-seam}
 use Rattle.rules.specs.declared.Refusal.{Refusal}
-use Rattle.rules.specs.declared.Refusal.the-variants.{WorkArea, NotAJobFile, LayoutBounds, StockBounds, CellTwice, ListBounds, ArticleTwice, TooHeavy, ShortOfStock, SheetSpace, PageSpace}
+use Rattle.rules.specs.declared.Refusal.the-variants.{WorkArea, NotAJobFile, LayoutBounds, StockBounds, CellTwice, HoursBounds, ListBounds, ArticleTwice, TooHeavy, ShortOfStock, SheetSpace, PageSpace}
 use Rattle.rules.specs.declared.Reply.the-variants.{Served, Refused}
 use Rattle.rules.specs.Jobs.{Job}
 use Rattle.rules.specs.JobFile.{readJob}
@@ -17,7 +17,7 @@ use Rattle.rules.specs.Refusals.{Admitted, cleared, workAfter}
 use Rattle.rules.specs.Sheet.{sheetOf, sheetText}
 use Rattle.rules.specs.Answers.{answer}
 use Rattle.rules.proofs.Admission.{layout-within}
-use Rattle.closedwalks.proofs.Statements.{first-walk}
+use Rattle.closedwalks.proofs.Statements.{first-walk, walk-keeps}
 use Rattle.optimum.proofs.Best.{best-plan}
 use Rattle.promises.specs.Causes.{OfJob, Cause}
 use Rattle.promises.specs.Contents.{Content, contentText, contentOf}
@@ -49,6 +49,7 @@ best-obeys job a =
       picks-upwards = picks-ordered job (bestPlan job);
       picks-rule = picks-rule job a (bestPlan job);
       walk-of-plan = w .0;
+      walk-keeps = walk-keeps (job .hours) (job .layout) (bestPlan job) _ (b .allowed .shut) (w .0);
       walk-first = w .1;
     }
 
@@ -72,6 +73,7 @@ kept NotAJobFile work n k = refl
 kept LayoutBounds work n k = refl
 kept StockBounds work n k = refl
 kept CellTwice work n k = refl
+kept HoursBounds work n k = refl
 kept ListBounds work n k = refl
 kept ArticleTwice work n k = refl
 kept TooHeavy work n k = refl

@@ -10,10 +10,11 @@ use borrow.Author.Tests.{ltb-true, lt-ltb, le-ltb, ltb-false, not-false}
 use lib.Dec.{ltb}
 use lib.ListN.{length, drop}
 use Rattle.rules.specs.declared.Refusal.{Refusal}
-use Rattle.rules.specs.declared.Refusal.the-variants.{WorkArea, NotAJobFile, LayoutBounds, StockBounds, CellTwice, ListBounds, ArticleTwice, TooHeavy, ShortOfStock, SheetSpace, PageSpace}
+use Rattle.rules.specs.declared.Refusal.the-variants.{WorkArea, NotAJobFile, LayoutBounds, StockBounds, CellTwice, HoursBounds, ListBounds, ArticleTwice, TooHeavy, ShortOfStock, SheetSpace, PageSpace}
 use Rattle.rules.specs.declared.Reply.the-variants.{Served, Refused}
 use Rattle.rules.specs.Lists.{anyOf, anyTwo, nth, Sorted}
 use Rattle.rules.specs.Store.{layoutInBounds}
+use Rattle.rules.specs.Hours.{hoursInBounds}
 use Rattle.rules.specs.Jobs.{Job}
 use Rattle.rules.specs.JobFile.{readJob}
 use Rattle.rules.specs.Refusals.{stockInBounds, sameCell, listInBounds, sameArticle, weight, shortOfStock, workLimit, isNone, ofJob, table, firstRow, cleared, workAfter, Admitted}
@@ -21,7 +22,7 @@ use Rattle.rules.specs.Sheet.{sheetText}
 use Rattle.rules.specs.Answers.{Answer, refused, served, decided, answer}
 use Rattle.rules.proofs.Lists.{any-true, place-member, sorted-by, sorted-from}
 use Rattle.rules.proofs.Reading.{job-file}
-use Rattle.rules.proofs.Admission.{OtherwiseAdmitted, admitted-apart, layout-within, stock-within, list-within, same-cell, same-article, line-out-of-stock}
+use Rattle.rules.proofs.Admission.{OtherwiseAdmitted, admitted-apart, layout-within, stock-within, hours-within, list-within, same-cell, same-article, line-out-of-stock}
 use Rattle.tours.proofs.Basics.{same-number}
 use Rattle.promises.specs.Causes.{JobFileOf, TwoAlike, here, later, SameCell, SameArticle, LineOutOfStock, Cause, OfJob, tableRow, FirstCause}
 
@@ -46,7 +47,7 @@ not-said : {P : Type 0} (b : Bool) → (b ≡ true) ↔ P → (not b ≡ true) �
 not-said true t = (λ e. absurd (false≢true e), λ n. absurd (n (t .0 refl)))
 not-said false t = (λ e p. false≢true (t .1 p), λ n. refl)
 
-two-said : {A : Type 0} (alike : A → A → Bool) (Alike : A → A → Type 0) → ((x y : A) → (alike x y ≡ true) ↔ Alike x y) → (xs : List A) → (anyTwo alike xs ≡ true) ↔ TwoAlike Alike xs
+pub two-said : {A : Type 0} (alike : A → A → Bool) (Alike : A → A → Type 0) → ((x y : A) → (alike x y ≡ true) ↔ Alike x y) → (xs : List A) → (anyTwo alike xs ≡ true) ↔ TwoAlike Alike xs
 two-said {A} alike Alike says xs = (found xs, told)
   where
     found : (ys : List A) → anyTwo alike ys ≡ true → TwoAlike Alike ys
@@ -90,6 +91,7 @@ applies NotAJobFile o sheet work = isNone o
 applies LayoutBounds o sheet work = ofJob o (λ job. not (layoutInBounds (job .layout)))
 applies StockBounds o sheet work = ofJob o (λ job. not (stockInBounds job))
 applies CellTwice o sheet work = ofJob o (λ job. anyTwo sameCell (job .stock))
+applies HoursBounds o sheet work = ofJob o (λ job. not (hoursInBounds (job .layout .aisles) (job .hours)))
 applies ListBounds o sheet work = ofJob o (λ job. not (listInBounds job))
 applies ArticleTwice o sheet work = ofJob o (λ job. anyTwo sameArticle (job .lines))
 applies TooHeavy o sheet work = ofJob o (λ job. ltb 256 (weight (job .lines)))
@@ -105,6 +107,8 @@ applies-said LayoutBounds bytes sheet work =
     of-job-said bytes _ _ (λ job. not-said (layoutInBounds (job .layout)) (layout-within (job .layout)))
 applies-said StockBounds bytes sheet work = of-job-said bytes _ _ (λ job. not-said (stockInBounds job) (stock-within job))
 applies-said CellTwice bytes sheet work = of-job-said bytes _ _ (λ job. two-said sameCell SameCell same-cell (job .stock))
+applies-said HoursBounds bytes sheet work =
+    of-job-said bytes _ _ (λ job. not-said (hoursInBounds (job .layout .aisles) (job .hours)) (hours-within (job .layout .aisles) (job .hours)))
 applies-said ListBounds bytes sheet work = of-job-said bytes _ _ (λ job. not-said (listInBounds job) (list-within job))
 applies-said ArticleTwice bytes sheet work = of-job-said bytes _ _ (λ job. two-said sameArticle SameArticle same-article (job .lines))
 applies-said TooHeavy bytes sheet work = of-job-said bytes _ _ (λ job. less-said 256 (weight (job .lines)))
@@ -115,7 +119,7 @@ applies-said PageSpace bytes sheet work = (λ e. absurd (false≢true e), λ c. 
 -- the rows of the table: the first, and those that speak of the job file
 abbrev fileRows : List Refusal
 fileRows =
-    NotAJobFile ∷ LayoutBounds ∷ StockBounds ∷ CellTwice ∷ ListBounds ∷ ArticleTwice ∷ TooHeavy ∷ ShortOfStock ∷ SheetSpace ∷ []
+    NotAJobFile ∷ LayoutBounds ∷ StockBounds ∷ CellTwice ∷ HoursBounds ∷ ListBounds ∷ ArticleTwice ∷ TooHeavy ∷ ShortOfStock ∷ SheetSpace ∷ []
 
 abbrev tableRows : List Refusal
 tableRows = WorkArea ∷ fileRows
@@ -125,12 +129,13 @@ abbrev pub allRows : List Refusal
 allRows = tableRows ++ (PageSpace ∷ [])
 
 -- every refusal stands in its row
-pub row-of : (r : Refusal) → (tableRow r < 11) × (nth allRows (suc (tableRow r)) WorkArea ≡ r)
+pub row-of : (r : Refusal) → (tableRow r < 12) × (nth allRows (suc (tableRow r)) WorkArea ≡ r)
 row-of WorkArea = (omega arith, refl)
 row-of NotAJobFile = (omega arith, refl)
 row-of LayoutBounds = (omega arith, refl)
 row-of StockBounds = (omega arith, refl)
 row-of CellTwice = (omega arith, refl)
+row-of HoursBounds = (omega arith, refl)
 row-of ListBounds = (omega arith, refl)
 row-of ArticleTwice = (omega arith, refl)
 row-of TooHeavy = (omega arith, refl)
@@ -210,7 +215,7 @@ module _ (bytes sheet work : List ℕ) where
   CausedBy (some r) = FirstCause r bytes sheet work
 
   caused-by : CausedBy firstCause
-  caused-by = go firstCause (first-of (λ r. applies r (readJob bytes) sheet work) tableRows (sorted-by tableRow _<_ tableRows (sorted-from 0 10)))
+  caused-by = go firstCause (first-of (λ r. applies r (readJob bytes) sheet work) tableRows (sorted-by tableRow _<_ tableRows (sorted-from 0 11)))
     where
       absent : (q : Refusal) → (List·Memᴰ q tableRows → applies q (readJob bytes) sheet work ≡ false) → Cause q bytes sheet work → ⊥
       absent q e c = true≢false (sym (applies-said q bytes sheet work .1 c) ∙ e (in-table q bytes sheet work c))
@@ -274,6 +279,7 @@ module _ (bytes sheet work : List ℕ) where
         layout = not-false (layoutInBounds (job .layout)) (fails LayoutBounds (omega arith));
         stock = not-false (stockInBounds job) (fails StockBounds (omega arith));
         cells-once = fails CellTwice (omega arith);
+        hours = not-false (hoursInBounds (job .layout .aisles) (job .hours)) (fails HoursBounds (omega arith));
         list = not-false (listInBounds job) (fails ListBounds (omega arith));
         articles-once = fails ArticleTwice (omega arith);
         light = ltb-false 256 (weight (job .lines)) (fails TooHeavy (omega arith));
@@ -293,6 +299,7 @@ module _ (bytes sheet work : List ℕ) where
       fails LayoutBounds l = ap not (o .layout)
       fails StockBounds l = ap not (o .stock)
       fails CellTwice l = o .cells-once
+      fails HoursBounds l = ap not (o .hours)
       fails ListBounds l = ap not (o .list)
       fails ArticleTwice l = o .articles-once
       fails TooHeavy l = le-ltb 256 (weight (job .lines)) (o .light)
@@ -319,6 +326,7 @@ module _ (bytes sheet work : List ℕ) where
       fails LayoutBounds = ap not (a .layout)
       fails StockBounds = ap not (a .stock)
       fails CellTwice = a .cells-once
+      fails HoursBounds = ap not (a .hours)
       fails ListBounds = ap not (a .list)
       fails ArticleTwice = a .articles-once
       fails TooHeavy = le-ltb 256 (weight (job .lines)) (a .light)

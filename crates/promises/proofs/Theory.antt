@@ -46,11 +46,16 @@ best-plan-is-best job a plan = (best-plan-only job a plan, λ e. subst (IsBest j
 
 module _ (z : Layout) (low : 1 ≤ z .depot) (high : z .depot ≤ z .aisles) where
   -- a closed walk that treads no edge more than twice reads as a plan, which is lawful; a plan is determined by its multiplicities
-  pub walk-is-a-plan : (walk : Walk) → ¬ (walk ≡ []) → ClosedWalk z walk → ((e : Edge) → InStore z e → walkTreads z walk e ≤ 2) → (plan : Plan) × Lawful z plan × ((e : Edge) → InStore z e → multiplicity plan e ≡ walkTreads z walk e)
+  pub walk-is-a-plan : (walk : Walk) → ¬ (walk ≡ []) → ClosedWalk z walk → ((e : Edge) → InStore z e → walkTreads z walk e ≤ 2)
+      → (plan : Plan) × Lawful z plan × ((e : Edge) → InStore z e → multiplicity plan e ≡ walkTreads z walk e)
   walk-is-a-plan = Statements.walk-reads z low high
 
-  -- no closed walk is shorter than its plan, however often it treads an edge
-  pub walk-is-no-shorter : (walk : Walk) → ¬ (walk ≡ []) → ClosedWalk z walk → (plan : Plan) × Lawful z plan × ((j c : ℕ) → walkPasses z walk j c ≡ true → 1 ≤ c → c ≤ z .cells → planPasses plan j c ≡ true) × (planLength z plan ≤ walkLength z walk)
+  -- no closed walk is shorter than its plan, however often it treads an edge; and the plan treads no edge that the walk does not
+  pub walk-is-no-shorter : (walk : Walk) → ¬ (walk ≡ []) → ClosedWalk z walk
+      → (plan : Plan) × Lawful z plan
+      × ((j c : ℕ) → walkPasses z walk j c ≡ true → 1 ≤ c → c ≤ z .cells → planPasses plan j c ≡ true)
+      × (planLength z plan ≤ walkLength z walk)
+      × ((e : Edge) → InStore z e → walkTreads z walk e ≡ 0 → multiplicity plan e ≡ 0)
   walk-is-no-shorter = Statements.walk-plan z low high
 
   -- a plan that is lawful for a list can be walked

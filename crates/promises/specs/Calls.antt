@@ -14,12 +14,12 @@ use Rattle.rules.specs.declared.Refusal.{Refusal}
 use Rattle.rules.specs.declared.Refusal.the-variants.{WorkArea, SheetSpace}
 use Rattle.rules.specs.declared.Reply.the-variants.{Served}
 use Rattle.rules.specs.Store.{Edge, InStore}
-use Rattle.rules.specs.Jobs.{Job}
+use Rattle.rules.specs.Jobs.{Job, openStock}
 use Rattle.rules.specs.JobFile.{lineFeed, header, field}
 use Rattle.rules.specs.Plans.{Plan, WellFormed, multiplicity, lengthOf, planLength, planPasses}
 use Rattle.rules.specs.Policies.{Allowed}
 use Rattle.rules.specs.Serving.{PlanServes, WalkServes}
-use Rattle.rules.specs.Walks.{Walk, ClosedWalk, NotAfter, walkTreads, walkLength}
+use Rattle.rules.specs.Walks.{Walk, ClosedWalk, KeepsToOpen, NotAfter, walkTreads, walkLength}
 use Rattle.rules.specs.Picks.{TakenFrom, PickBefore}
 use Rattle.rules.specs.FirstWalk.{WalkOf}
 use Rattle.rules.specs.BestPlan.{PlanBefore}
@@ -57,8 +57,8 @@ pub record Shows (bytes sheet work : List ℕ) (job : Job) (c : Content) : Type 
 
 -- the policy is the job's and allows the plan; the length is the sum over the edges; the picks add up to each line's quantity,
 -- nothing else is picked, and all of it from passed cells, upwards; from each passed cell is taken what its line still lacks after
--- the cells before it, as far as stock goes; the walk is closed, from the depot, treads each edge as the plan says,
--- and no other such walk comes before it in the alphabet
+-- the cells before it, as far as stock goes; the walk is closed, from the depot, treads each edge as the plan says and none of a shut
+-- aisle, and no other such walk comes before it in the alphabet
 pub record Obeys (job : Job) (c : Content) : Type 0 where
   pub policy : c .policy ≡ job .policy
   pub allowed : Allowed job (c .plan)
@@ -67,22 +67,25 @@ pub record Obeys (job : Job) (c : Content) : Type 0 where
   pub picks-listed : (x : Pick) → List·Memᴰ x (c .picks) → (l : OrderLine) × List·Memᴰ l (job .lines) × (x .article ≡ l .article)
   pub picks-taken : (x : Pick) → List·Memᴰ x (c .picks) → (r : StockRecord) × TakenFrom job (c .plan) x r
   pub picks-upwards : Sorted PickBefore (c .picks)
-  pub picks-rule : (r : StockRecord) → List·Memᴰ r (job .stock) → planPasses (c .plan) (r .aisle) (r .cell) ≡ true
+  pub picks-rule : (r : StockRecord) → List·Memᴰ r (openStock job) → planPasses (c .plan) (r .aisle) (r .cell) ≡ true
       → (l : OrderLine) → List·Memᴰ l (job .lines) → l .article ≡ r .article
       → pickedFrom (c .picks) (r .aisle) (r .cell) ≡ min (l .quantity - pickedBefore (c .picks) (r .article) (r .aisle) (r .cell)) (r .quantity)
   pub walk-of-plan : WalkOf (job .layout) (c .plan) (c .walk)
+  pub walk-keeps : KeepsToOpen (job .layout) (job .hours) (c .walk)
   pub walk-first : (walk : Walk) → WalkOf (job .layout) (c .plan) walk → NotAfter (c .walk) walk
 
 -- the plan is allowed and serves the list, the length is its own, and no plan that is allowed and serves the list is shorter;
 -- one that is no longer is the plan itself or comes behind it in the order of plans;
--- under EXACT no closed walk that serves the list is shorter, whatever its steps, the one of no steps included
+-- under EXACT no closed walk that serves the list and treads no edge of a shut aisle is shorter, whatever its steps, the one of no
+-- steps included
 pub record Shortest (job : Job) (c : Content) : Type 0 where
   pub allowed : Allowed job (c .plan)
   pub serves : PlanServes job (c .plan)
   pub its-length : c .length ≡ planLength (job .layout) (c .plan)
   pub least : (plan : Plan) → Allowed job plan → PlanServes job plan → c .length ≤ planLength (job .layout) plan
   pub tie : (plan : Plan) → Allowed job plan → PlanServes job plan → planLength (job .layout) plan ≤ c .length → (plan ≡ c .plan) ⊎ PlanBefore (job .layout .cells) (c .plan) plan
-  pub least-walk : job .policy ≡ Exact → (walk : Walk) → ClosedWalk (job .layout) walk → WalkServes job walk → c .length ≤ walkLength (job .layout) walk
+  pub least-walk : job .policy ≡ Exact → (walk : Walk) → ClosedWalk (job .layout) walk → KeepsToOpen (job .layout) (job .hours) walk → WalkServes job walk
+      → c .length ≤ walkLength (job .layout) walk
 
 -- a plan of the store that treads each edge as often as the walk
 pub record TreadsAs (z : Layout) (walk : Walk) (plan : Plan) : Type 0 where

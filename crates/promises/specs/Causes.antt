@@ -1,4 +1,4 @@
--- Document 01's table of refusals: the cause of each row as a statement about the job file and the lent space.
+-- Document 01's table of refusals, with request #106's row: the cause of each row as a statement about the job file and the lent space.
 use Prim.Native.Nat.{ℕ, _≤_, _<_}
 use mathlib.Core.Path.{_≡_}
 use mathlib.Core.List.{List, _∷_, List·Memᴰ}
@@ -6,7 +6,8 @@ use lib.ListN.{length}
 use Rattle.rules.specs.declared.StockRecord.{StockRecord}
 use Rattle.rules.specs.declared.OrderLine.{OrderLine}
 use Rattle.rules.specs.declared.Refusal.{Refusal}
-use Rattle.rules.specs.declared.Refusal.the-variants.{WorkArea, NotAJobFile, LayoutBounds, StockBounds, CellTwice, ListBounds, ArticleTwice, TooHeavy, ShortOfStock, SheetSpace, PageSpace}
+use Rattle.rules.specs.declared.Refusal.the-variants.{WorkArea, NotAJobFile, LayoutBounds, StockBounds, CellTwice, HoursBounds, ListBounds, ArticleTwice, TooHeavy, ShortOfStock, SheetSpace, PageSpace}
+use Rattle.rules.specs.Hours.{HoursWithin}
 use Rattle.rules.specs.Jobs.{Job}
 use Rattle.rules.specs.JobFile.{Writable, jobText, jobFileLimit}
 use Rattle.rules.specs.Refusals.{weight, weightLimit, allStock, StockWithin, ListWithin, workLimit}
@@ -30,7 +31,7 @@ SameCell r s = (r .aisle ≡ s .aisle) × (r .cell ≡ s .cell)
 unfoldable pub SameArticle : OrderLine → OrderLine → Type 0
 SameArticle k l = k .article ≡ l .article
 
--- some line exceeds all the stock of its article
+-- some line exceeds all the stock of its article, which is that of open aisles
 unfoldable pub LineOutOfStock : Job → Type 0
 LineOutOfStock job = (l : OrderLine) × List·Memᴰ l (job .lines) × (allStock job (l .article) < l .quantity)
 
@@ -45,6 +46,7 @@ Cause NotAJobFile bytes sheet work = (job : Job) → JobFileOf bytes job → ⊥
 Cause LayoutBounds bytes sheet work = OfJob bytes (λ job. LayoutWithin (job .layout) → ⊥)
 Cause StockBounds bytes sheet work = OfJob bytes (λ job. StockWithin job → ⊥)
 Cause CellTwice bytes sheet work = OfJob bytes (λ job. TwoAlike SameCell (job .stock))
+Cause HoursBounds bytes sheet work = OfJob bytes (λ job. HoursWithin (job .layout .aisles) (job .hours) → ⊥)
 Cause ListBounds bytes sheet work = OfJob bytes (λ job. ListWithin job → ⊥)
 Cause ArticleTwice bytes sheet work = OfJob bytes (λ job. TwoAlike SameArticle (job .lines))
 Cause TooHeavy bytes sheet work = OfJob bytes (λ job. weightLimit < weight (job .lines))
@@ -59,12 +61,13 @@ tableRow NotAJobFile = 1
 tableRow LayoutBounds = 2
 tableRow StockBounds = 3
 tableRow CellTwice = 4
-tableRow ListBounds = 5
-tableRow ArticleTwice = 6
-tableRow TooHeavy = 7
-tableRow ShortOfStock = 8
-tableRow SheetSpace = 9
-tableRow PageSpace = 10
+tableRow HoursBounds = 5
+tableRow ListBounds = 6
+tableRow ArticleTwice = 7
+tableRow TooHeavy = 8
+tableRow ShortOfStock = 9
+tableRow SheetSpace = 10
+tableRow PageSpace = 11
 
 -- a refusal is the first of the table that applies: its cause does, and that of no row above it
 pub record FirstCause (r : Refusal) (bytes sheet work : List ℕ) : Type 0 where

@@ -5,3 +5,4 @@ pub mod EmptyLists
 pub mod Uprights
 pub mod Pages
 pub mod StockTests
+pub mod OpeningHours

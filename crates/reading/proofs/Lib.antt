@@ -3,3 +3,4 @@ pub mod Told
 pub mod Behind
 pub mod Storing
 pub mod Whole
+pub mod Clock

@@ -8,14 +8,16 @@ use native.Mathlib.Omega.{arith}
 use lib.ListN.{length, take, drop, set, replicate, length-append}
 use lib.Seq.{take-nil, take-all, take-append-le, take-append-seam, set-append-seam}
 use Rattle.rules.specs.declared.StockRecord.{StockRecord}
+use Rattle.rules.specs.declared.Window.{Window}
 use Rattle.rules.specs.declared.OrderLine.{OrderLine}
 use Rattle.rules.specs.JobFile.{Reading, readLines}
 use Rattle.reading.specs.declared.cursor.Cursor.{Cursor}
 use Rattle.reading.specs.declared.sections.StockRead.{StockRead}
 use Rattle.reading.specs.declared.sections.ListRead.{ListRead}
+use Rattle.reading.specs.declared.hours.WindowsRead.{WindowsRead}
 use Rattle.marks.specs.Marking.{cellTwice}
-use Rattle.values.specs.Values.{noLine}
-use Rattle.reading.specs.Kept.{noRecord, padded, stockRead, listRead, Answers}
+use Rattle.values.specs.Values.{noLine, noWindow}
+use Rattle.reading.specs.Kept.{noRecord, padded, stockRead, windowsRead, listRead, Answers}
 use Rattle.reading.proofs.Behind.{behind, behind-nothing, behind-one}
 
 module _ {A : Type 0} (room : ℕ) (blank : A) where
@@ -98,14 +100,14 @@ module _ {A : Type 0} (read : List ℕ → Reading A) (room : ℕ) (blank : A) (
     pub lines-counted : n ≤ i → n ≡ length lines
     lines-counted h = omega (arith, r .many, r .limit)
 
-module _ {A R : Type 0} (s : List ℕ) (blank : R) (held : Cursor → List A → R) (reading : Reading (List A)) (r : R) where
-  -- the answer where lines could not be read
+module _ {A R : Type 0} (s : List ℕ) (blank : R) (held : Cursor → A → R) (reading : Reading A) (r : R) where
+  -- the answer where nothing could be read
   pub answer-none : reading ≡ none → r ≡ blank → Answers s blank held reading r
-  answer-none e q = subst (λ (v : Reading (List A)). Answers s blank held v r) (sym e) q
+  answer-none e q = subst (λ (v : Reading A). Answers s blank held v r) (sym e) q
 
-  -- the answer where they were
-  pub answer-some : (xs : List A) (next : Cursor) → reading ≡ some (xs, drop (next .at) s) → r ≡ held next xs → Answers s blank held reading r
-  answer-some xs next e q = subst (λ (v : Reading (List A)). Answers s blank held v r) (sym e) (next, q, refl)
+  -- the answer where x was read
+  pub answer-some : (x : A) (next : Cursor) → reading ≡ some (x, drop (next .at) s) → r ≡ held next x → Answers s blank held reading r
+  answer-some x next e q = subst (λ (v : Reading A). Answers s blank held v r) (sym e) (next, q, refl)
 
 -- the answer that holds stock records
 pub stock-held : (next : Cursor) (count : ℕ) (stock xs : List StockRecord) (twice : Bool)
@@ -113,6 +115,13 @@ pub stock-held : (next : Cursor) (count : ℕ) (stock xs : List StockRecord) (tw
     → _≡_ {A = StockRead} record { ok = true; next = next; count = count; stock = stock; twice = twice } (stockRead next xs)
 unfolding stockRead
 stock-held next count stock xs twice p q t = rw (p, q, t)
+
+-- the answer that holds windows
+pub windows-held : (next : Cursor) (count : ℕ) (windows xs : List Window)
+    → count ≡ length xs → windows ≡ padded 64 noWindow xs
+    → _≡_ {A = WindowsRead} record { ok = true; next = next; count = count; windows = windows } (windowsRead next xs)
+unfolding windowsRead
+windows-held next count windows xs p q = rw (p, q)
 
 -- the answer that holds order lines
 pub list-held : (next : Cursor) (count : ℕ) (lines xs : List OrderLine)

@@ -10,47 +10,56 @@ use borrow.Author.Tests.{le-leb, lt-leb}
 use Rattle.rules.specs.declared.Layout.{Layout}
 use Rattle.rules.specs.declared.Policy.{Policy}
 use Rattle.rules.specs.declared.StockRecord.{StockRecord}
+use Rattle.rules.specs.declared.Window.{Window}
 use Rattle.rules.specs.declared.OrderLine.{OrderLine}
+use Rattle.rules.specs.Hours.{Hours, At}
 use Rattle.rules.specs.Jobs.{Job}
-use Rattle.rules.specs.JobFile.{Reading, readRecord, readLine, readSection, readLayoutSection, readSections, readJob, atEnd, jobFileLimit, letterS, letterD}
+use Rattle.rules.specs.JobFile.{Reading, readRecord, readLine, readSection, readLayoutSection, readHours, readSections, readJob, atEnd, jobFileLimit, letterS, letterD}
 use Rattle.reading.specs.declared.cursor.Cursor.{Cursor}
 use Rattle.reading.specs.declared.sections.StockRead.{StockRead}
 use Rattle.reading.specs.declared.sections.ListRead.{ListRead}
-use Rattle.reading.specs.declared.raw.RawJob.{RawJob}
-use Rattle.reading.specs.Kept.{noStock, noList, stockRead, listRead, Answers, jobValue, rawOf}
+use Rattle.reading.specs.declared.hours.WindowsRead.{WindowsRead}
+use Rattle.reading.specs.declared.hours.HoursRead.{HoursRead}
+use Rattle.reading.specs.Kept.{noStock, noWindows, badHours, noList, stockRead, windowsRead, hoursValue, hoursRead, listRead, Answers, jobValue, rawFrom, rawOf}
 use Rattle.reading.proofs.Bytes.{bytes-from}
 
--- lines that were read, up to the place that the answer names, and that hold what it holds
-pub record LinesRead {A R : Type 0} (s : List ℕ) (held : Cursor → List A → R) (place : R → Cursor) (reading : Reading (List A)) (r : R) : Type 0 where
-  pub xs : List A
-  pub answer : r ≡ held (place r) xs
-  pub read : reading ≡ some (xs, drop (place r .at) s)
+-- what was read, up to the place that the answer names, and that the answer holds
+pub record WasRead {A R : Type 0} (s : List ℕ) (held : Cursor → A → R) (place : R → Cursor) (reading : Reading A) (r : R) : Type 0 where
+  pub found : A
+  pub answer : r ≡ held (place r) found
+  pub read : reading ≡ some (found, drop (place r .at) s)
 
-module _ {A R : Type 0} (s : List ℕ) (blank : R) (held : Cursor → List A → R) (ok : R → Bool) (place : R → Cursor) where
-  -- lines that could not be read
-  missing : ((next : Cursor) (xs : List A) → ok (held next xs) ≡ true)
-      → (reading : Reading (List A)) (r : R) → Answers s blank held reading r → ok r ≡ false → reading ≡ none
+module _ {A R : Type 0} (s : List ℕ) (blank : R) (held : Cursor → A → R) (ok : R → Bool) (place : R → Cursor) where
+  -- nothing could be read
+  missing : ((next : Cursor) (x : A) → ok (held next x) ≡ true)
+      → (reading : Reading A) (r : R) → Answers s blank held reading r → ok r ≡ false → reading ≡ none
   missing holds none r h e = refl
-  missing holds (some (xs, rest)) r h e = absurd (true≢false (sym (holds (h .0) xs) ∙ ap ok (sym (h .1)) ∙ e))
+  missing holds (some (x, rest)) r h e = absurd (true≢false (sym (holds (h .0) x) ∙ ap ok (sym (h .1)) ∙ e))
 
-  -- lines that were read
-  there : ok blank ≡ false → ((next : Cursor) (xs : List A) → place (held next xs) ≡ next)
-      → (reading : Reading (List A)) (r : R) → Answers s blank held reading r → ok r ≡ true → LinesRead s held place reading r
+  -- something was read
+  there : ok blank ≡ false → ((next : Cursor) (x : A) → place (held next x) ≡ next)
+      → (reading : Reading A) (r : R) → Answers s blank held reading r → ok r ≡ true → WasRead s held place reading r
   there fails at none r h e = absurd (true≢false (sym e ∙ ap ok h ∙ fails))
-  there fails at (some (xs, rest)) r h e =
-      let same : h .0 ≡ place r = sym (at (h .0) xs) ∙ ap place (sym (h .1)) in
+  there fails at (some (x, rest)) r h e =
+      let same : h .0 ≡ place r = sym (at (h .0) x) ∙ ap place (sym (h .1)) in
       record {
-        xs = xs;
-        answer = h .1 ∙ ap (λ (c : Cursor). held c xs) same;
-        read = ap (λ (t : List ℕ). some (xs, t)) (sym (h .2) ∙ ap (λ (c : Cursor). drop (c .at) s) same);
+        found = x;
+        answer = h .1 ∙ ap (λ (c : Cursor). held c x) same;
+        read = ap (λ (t : List ℕ). some (x, t)) (sym (h .2) ∙ ap (λ (c : Cursor). drop (c .at) s) same);
       }
 
 module _ (s : List ℕ) where
   abbrev pub StockLines : Reading (List StockRecord) → StockRead → Type 0
-  StockLines = LinesRead s stockRead (λ (r : StockRead). r .next)
+  StockLines = WasRead s stockRead (λ (r : StockRead). r .next)
+
+  abbrev pub WindowLines : Reading (List Window) → WindowsRead → Type 0
+  WindowLines = WasRead s windowsRead (λ (r : WindowsRead). r .next)
+
+  abbrev pub HoursLines : Reading Hours → HoursRead → Type 0
+  HoursLines = WasRead s hoursRead (λ (r : HoursRead). r .next)
 
   abbrev pub ListLines : Reading (List OrderLine) → ListRead → Type 0
-  ListLines = LinesRead s listRead (λ (r : ListRead). r .next)
+  ListLines = WasRead s listRead (λ (r : ListRead). r .next)
 
   -- stock records that could not be read, or were
   pub stock-missing : (reading : Reading (List StockRecord)) (r : StockRead) → Answers s noStock stockRead reading r → r .ok ≡ false → reading ≡ none
@@ -61,6 +70,24 @@ module _ (s : List ℕ) where
   unfolding stockRead noStock
   stock-there = there s noStock stockRead (λ (r : StockRead). r .ok) (λ (r : StockRead). r .next) refl (λ next xs. refl)
 
+  -- windows that could not be read, or were
+  pub windows-missing : (reading : Reading (List Window)) (r : WindowsRead) → Answers s noWindows windowsRead reading r → r .ok ≡ false → reading ≡ none
+  unfolding windowsRead
+  windows-missing = missing s noWindows windowsRead (λ (r : WindowsRead). r .ok) (λ (r : WindowsRead). r .next) (λ next xs. refl)
+
+  pub windows-there : (reading : Reading (List Window)) (r : WindowsRead) → Answers s noWindows windowsRead reading r → r .ok ≡ true → WindowLines reading r
+  unfolding windowsRead noWindows
+  windows-there = there s noWindows windowsRead (λ (r : WindowsRead). r .ok) (λ (r : WindowsRead). r .next) refl (λ next xs. refl)
+
+  -- hours that could not be read, or were
+  pub hours-missing : (reading : Reading Hours) (r : HoursRead) → Answers s badHours hoursRead reading r → r .ok ≡ false → reading ≡ none
+  unfolding hoursRead
+  hours-missing = missing s badHours hoursRead (λ (r : HoursRead). r .ok) (λ (r : HoursRead). r .next) (λ next h. refl)
+
+  pub hours-there : (reading : Reading Hours) (r : HoursRead) → Answers s badHours hoursRead reading r → r .ok ≡ true → HoursLines reading r
+  unfolding hoursRead badHours
+  hours-there = there s badHours hoursRead (λ (r : HoursRead). r .ok) (λ (r : HoursRead). r .next) refl (λ next h. refl)
+
   -- order lines that could not be read, or were
   pub list-missing : (reading : Reading (List OrderLine)) (r : ListRead) → Answers s noList listRead reading r → r .ok ≡ false → reading ≡ none
   unfolding listRead
@@ -70,20 +97,20 @@ module _ (s : List ℕ) where
   unfolding listRead noList
   list-there = there s noList listRead (λ (r : ListRead). r .ok) (λ (r : ListRead). r .next) refl (λ next xs. refl)
 
--- what is kept of a job whose lines were read
-abbrev rawFrom : Layout → Policy → StockRead → ListRead → RawJob
-rawFrom z policy a b =
-    record {
-      ok = true;
-      job = record { layout = z; policy = policy; records = a .count; stock = a .stock; orders = b .count; lines = b .lines };
-      twice = a .twice;
-    }
+-- the answer that holds the minute and the windows that were read
+pub clock-held : (t : ℕ) (w : WindowsRead) (xs : List Window) (next last : Cursor) → w ≡ windowsRead next xs
+    → _≡_ {A = HoursRead} record { ok = true; next = last; hours = record { timed = true; minute = t; count = w .count; windows = w .windows } } (hoursRead last (At t xs))
+unfolding windowsRead hoursRead hoursValue
+clock-held t w xs next last e =
+    ap (λ (v : WindowsRead). record { ok = true; next = last; hours = record { timed = true; minute = t; count = v .count; windows = v .windows } }) e
 
-pub raw-held : (z : Layout) (policy : Policy) (a : StockRead) (b : ListRead) (records : List StockRecord) (lines : List OrderLine) (next last : Cursor)
-    → a ≡ stockRead next records → b ≡ listRead last lines
-    → rawFrom z policy a b ≡ rawOf (some (record { layout = z; policy = policy; stock = records; lines = lines }))
-unfolding rawOf jobValue stockRead listRead
-raw-held z policy a b records lines next last p q = ap₂ (rawFrom z policy) p q
+-- what is kept of the sections is what is kept of the job
+pub raw-held : (z : Layout) (policy : Policy) (a : StockRead) (h : HoursRead) (b : ListRead) (records : List StockRecord) (hours : Hours) (lines : List OrderLine) (next first last : Cursor)
+    → a ≡ stockRead next records → h ≡ hoursRead first hours → b ≡ listRead last lines
+    → rawFrom z policy a h b ≡ rawOf (some (record { layout = z; policy = policy; stock = records; hours = hours; lines = lines }))
+unfolding rawOf jobValue stockRead hoursRead listRead rawFrom
+raw-held z policy a h b records hours lines next first last p q r =
+    ap (λ (x : StockRead). rawFrom z policy x h b) p ∙ ap₂ (rawFrom z policy (stockRead next records)) q r
 
 -- too many bytes
 pub too-long : (s : List ℕ) → 16384 < length s → readJob s ≡ none
@@ -110,32 +137,38 @@ module _ (s : List ℕ) {behind : List ℕ} {z : Layout} {policy : Policy} (e : 
   unfolding readSections
   no-stock f = sections-fail s (rw (readSections, e, f))
 
-  module _ {records : List StockRecord} {last : List ℕ} (f : readSection letterS readRecord behind ≡ some (records, last)) where
-    -- no D section
-    pub no-list : readSection letterD readLine last ≡ none → readJob s ≡ none
+  module _ {records : List StockRecord} {behind-stock : List ℕ} (f : readSection letterS readRecord behind ≡ some (records, behind-stock)) where
+    -- no sections M and H that can be read
+    pub no-hours : readHours behind-stock ≡ none → readJob s ≡ none
     unfolding readSections
-    no-list g = sections-fail s (rw (readSections, e, f, g))
+    no-hours g = sections-fail s (rw (readSections, e, f, g))
 
-    module _ {lines : List OrderLine} (next : ℕ) (g : readSection letterD readLine last ≡ some (lines, drop next s)) where
-      -- the job that the sections say
-      abbrev job : Job
-      job = record { layout = z; policy = policy; stock = records; lines = lines }
-
-      -- the three sections
-      sections-read : readSections s ≡ some (job, drop next s)
+    module _ {hours : Hours} {last : List ℕ} (g : readHours behind-stock ≡ some (hours, last)) where
+      -- no D section
+      pub no-list : readSection letterD readLine last ≡ none → readJob s ≡ none
       unfolding readSections
-      sections-read = rw (readSections, e, f, g)
+      no-list h = sections-fail s (rw (readSections, e, f, g, h))
 
-      -- a byte follows the last line
-      pub trailing : next < length s → readJob s ≡ none
-      unfolding readJob
-      trailing h = go (leb (length s) jobFileLimit)
-        where
-          go : (b : Bool) → _≡_ {A = Option Job} (elim b [ true ↦ atEnd (readSections s) | false ↦ none ]) none
-          go true = ap atEnd sections-read ∙ rw (bytes-from s next h)
-          go false = refl
+      module _ {lines : List OrderLine} (next : ℕ) (h : readSection letterD readLine last ≡ some (lines, drop next s)) where
+        -- the job that the sections say
+        abbrev job : Job
+        job = record { layout = z; policy = policy; stock = records; hours = hours; lines = lines }
 
-      -- nothing follows it
-      pub job-read : length s ≤ 16384 → length s ≤ next → readJob s ≡ some job
-      unfolding readJob
-      job-read l h = rw (readJob, le-leb (length s) 16384 l) (ap atEnd sections-read ∙ rw (drop-of-length-le s h))
+        -- all sections
+        sections-read : readSections s ≡ some (job, drop next s)
+        unfolding readSections
+        sections-read = rw (readSections, e, f, g, h)
+
+        -- a byte follows the last line
+        pub trailing : next < length s → readJob s ≡ none
+        unfolding readJob
+        trailing l = go (leb (length s) jobFileLimit)
+          where
+            go : (b : Bool) → _≡_ {A = Option Job} (elim b [ true ↦ atEnd (readSections s) | false ↦ none ]) none
+            go true = ap atEnd sections-read ∙ rw (bytes-from s next l)
+            go false = refl
+
+        -- nothing follows it
+        pub job-read : length s ≤ 16384 → length s ≤ next → readJob s ≡ some job
+        unfolding readJob
+        job-read l m = rw (readJob, le-leb (length s) 16384 l) (ap atEnd sections-read ∙ rw (drop-of-length-le s m))

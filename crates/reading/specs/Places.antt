@@ -8,6 +8,7 @@ use Rattle.rules.specs.declared.Layout.{Layout}
 use Rattle.rules.specs.declared.Policy.{Policy}
 use Rattle.rules.specs.declared.Posts.{Posts}
 use Rattle.rules.specs.declared.StockRecord.{StockRecord}
+use Rattle.rules.specs.declared.Window.{Window}
 use Rattle.rules.specs.declared.OrderLine.{OrderLine}
 use Rattle.reading.specs.declared.cursor.Step.{Step}
 use Rattle.reading.specs.declared.cursor.Field.{Field}
@@ -16,6 +17,7 @@ use Rattle.reading.specs.declared.lines.PolicyWord.{PolicyWord}
 use Rattle.reading.specs.declared.lines.LayoutLine.{LayoutLine}
 use Rattle.reading.specs.declared.lines.PostsLine.{PostsLine}
 use Rattle.reading.specs.declared.lines.RecordLine.{RecordLine}
+use Rattle.reading.specs.declared.lines.WindowLine.{WindowLine}
 use Rattle.reading.specs.declared.lines.ListLine.{ListLine}
 
 -- the digits from a place: their value, 65,536 where it is larger, and the place behind them
@@ -52,6 +54,11 @@ postsOf s PostsLine.Bad = none
 abbrev pub recordOf : List ℕ → RecordLine → Reading StockRecord
 recordOf s (RecordLine.Read r c) = some (r, drop (c .at) s)
 recordOf s RecordLine.Bad = none
+
+-- a window that was read, or nothing
+abbrev pub windowOf : List ℕ → WindowLine → Reading Window
+windowOf s (WindowLine.Read w c) = some (w, drop (c .at) s)
+windowOf s WindowLine.Bad = none
 
 -- an order line that was read, or nothing
 abbrev pub lineOf : List ℕ → ListLine → Reading OrderLine

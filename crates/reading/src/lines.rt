@@ -7,10 +7,11 @@ use rules::OrderLine;
 use rules::Policy;
 use rules::Posts;
 use rules::StockRecord;
+use rules::Window;
 ghost use mathlib.Core.Path.{_≡_};
 ghost use lib.ListN.{drop};
-ghost use Rattle.rules.specs.JobFile.{readPolicy, readLayout, readPostsLine, readRecord, readLine};
-ghost use Rattle.reading.specs.Places.{policyOf, layoutOf, postsOf, recordOf, lineOf};
+ghost use Rattle.rules.specs.JobFile.{readPolicy, readLayout, readPostsLine, readRecord, readWindow, readLine};
+ghost use Rattle.reading.specs.Places.{policyOf, layoutOf, postsOf, recordOf, windowOf, lineOf};
 
 // What reading a policy word finds.
 pub enum PolicyWord {
@@ -33,6 +34,12 @@ pub enum PostsLine {
 // What reading a line of the S section finds.
 pub enum RecordLine {
     Read(StockRecord, Cursor),
+    Bad,
+}
+
+// What reading a line of the H section finds.
+pub enum WindowLine {
+    Read(Window, Cursor),
     Bad,
 }
 
@@ -146,6 +153,27 @@ impl Cursor {
             quantity,
         };
         RecordLine::Read(record, next)
+    }
+
+    // A line of the H section: aisle, from, to.
+    pub fn window(self, s: &[u8]) -> WindowLine
+        ensures { λ r. ⌜ windowOf (now (s .entry)) r ≡ readWindow (drop (self .at) (now (s .entry))) ⌝ }
+    {
+        let Field::Number(aisle, c1) = self.field(s, 32) else {
+            return WindowLine::Bad;
+        };
+        let Field::Number(from, c2) = c1.field(s, 32) else {
+            return WindowLine::Bad;
+        };
+        let Field::Number(to, next) = c2.field(s, 10) else {
+            return WindowLine::Bad;
+        };
+        let window = Window {
+            aisle: aisle as u16,
+            from: from as u16,
+            to: to as u16,
+        };
+        WindowLine::Read(window, next)
     }
 
     // A line of the D section: article, quantity.

@@ -1,6 +1,10 @@
 // All of 'not a job file': the bytes of a job file as a job, whose numbers are not tested yet.
 use crate::cursor::Cursor;
+use crate::hours::HoursRead;
+use crate::hours::no_hours;
 use crate::lines::LayoutLine;
+use crate::sections::ListRead;
+use crate::sections::StockRead;
 use crate::sections::no_line;
 use crate::sections::no_record;
 use rules::Layout;
@@ -10,10 +14,10 @@ use values::JobValue;
 ghost use mathlib.Core.Path.{_≡_};
 ghost use mathlib.Core.Option.{none};
 ghost use Rattle.rules.specs.JobFile.{readJob};
-ghost use Rattle.reading.specs.Kept.{rawOf};
+ghost use Rattle.reading.specs.Kept.{rawFrom, rawOf};
 
-// A job as it stands in a job file, with the first 384 records and the first 8 lines of it, and whether a cell stands in two
-// records; or no job file.
+// A job as it stands in a job file, with the first 384 records, the first 64 windows and the first 8 lines of it, and whether a
+// cell stands in two records; or no job file.
 pub struct RawJob {
     pub ok: bool,
     pub job: JobValue,
@@ -36,6 +40,7 @@ fn not_a_job_file() -> RawJob
         depot: 0,
         posts: Posts::NoPosts,
     };
+    let hours = no_hours();
     let job = JobValue {
         layout,
         policy: Policy::Exact,
@@ -43,11 +48,41 @@ fn not_a_job_file() -> RawJob
         stock,
         orders: 0,
         lines,
+        hours,
     };
     RawJob {
         ok: false,
         job,
         twice: false,
+    }
+}
+
+// What is kept of a job whose sections were read.
+fn raw_from(
+    layout: Layout,
+    policy: Policy,
+    records: StockRead,
+    clock: HoursRead,
+    list: ListRead,
+) -> RawJob
+    ensures { λ r. ⌜ r ≡ rawFrom layout policy records clock list ⌝ }
+{
+    let stock = records.stock;
+    let lines = list.lines;
+    let hours = clock.hours;
+    let job = JobValue {
+        layout,
+        policy,
+        records: records.count,
+        stock,
+        orders: list.count,
+        lines,
+        hours,
+    };
+    RawJob {
+        ok: true,
+        job,
+        twice: records.twice,
     }
 }
 
@@ -67,7 +102,12 @@ pub fn read_raw(s: &[u8]) -> RawJob
         return not_a_job_file();
     }
     let behind = records.next;
-    let list = behind.list_section(s);
+    let clock = behind.hours_section(s);
+    if !clock.ok {
+        return not_a_job_file();
+    }
+    let first = clock.next;
+    let list = first.list_section(s);
     if !list.ok {
         return not_a_job_file();
     }
@@ -75,19 +115,5 @@ pub fn read_raw(s: &[u8]) -> RawJob
     if last.at < s.len() {
         return not_a_job_file();
     }
-    let stock = records.stock;
-    let lines = list.lines;
-    let job = JobValue {
-        layout,
-        policy,
-        records: records.count,
-        stock,
-        orders: list.count,
-        lines,
-    };
-    RawJob {
-        ok: true,
-        job,
-        twice: records.twice,
-    }
+    raw_from(layout, policy, records, clock, list)
 }

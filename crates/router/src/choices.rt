@@ -77,7 +77,7 @@ fn step_to<'a>(fronts: &'a [u16], backs: &'a [u16], x: Aisle, at: At, c: Candida
     let back = c.back;
     let q = at.demand;
     let between = passes_between(x.between, c);
-    let state = action_step(x.policy, c.kind, x.holds, between, at.state);
+    let state = action_step(x.policy, c.kind, x.may, between, at.state);
     let f = wide(fronts[front * DEMANDS + q]);
     let demand = wide(backs[back * DEMANDS + f]);
     At { state, demand }

@@ -14,14 +14,16 @@ use Rattle.rules.specs.declared.Posts.the-variants.{NoPosts, Every}
 use Rattle.rules.specs.declared.Layout.{Layout}
 use Rattle.rules.specs.declared.Policy.{Policy}
 use Rattle.rules.specs.declared.StockRecord.{StockRecord}
+use Rattle.rules.specs.declared.Window.{Window}
 use Rattle.rules.specs.declared.OrderLine.{OrderLine}
 use Rattle.rules.specs.declared.Refusal.{Refusal}
-use Rattle.rules.specs.declared.Refusal.the-variants.{LayoutBounds, StockBounds, CellTwice, ListBounds, ArticleTwice, TooHeavy, ShortOfStock}
+use Rattle.rules.specs.declared.Refusal.the-variants.{LayoutBounds, StockBounds, CellTwice, HoursBounds, ListBounds, ArticleTwice, TooHeavy, ShortOfStock}
 use Rattle.rules.specs.Lists.{anyTwo, Sorted}
 use Rattle.rules.specs.Store.{within, postsInBounds, PostsWithin, layoutInBounds, LayoutWithin}
-use Rattle.rules.specs.Jobs.{Job, jobUnder}
+use Rattle.rules.specs.Hours.{Hours, NoHours, At, isOpen, windowInBounds, hoursInBounds, WindowWithin, HoursWithin}
+use Rattle.rules.specs.Jobs.{Job, jobUnder, openStock}
 use Rattle.rules.specs.Refusals.{recordInBounds, stockInBounds, sameCell, lineInBounds, listInBounds, sameArticle, weight, weightLimit, allStock, shortOfStock, numberOf, firstRow, jobRows, jobRefusal, Admitted, RecordWithin, StockWithin, LineWithin, ListWithin}
-use Rattle.rules.proofs.Lists.{all-true, any-false, any-true, sorted-imply, no-two-alike, alike-members}
+use Rattle.rules.proofs.Lists.{all-true, any-false, any-true, member-select, sorted-imply, sorted-select, no-two-alike, alike-members}
 
 -- what tests of numbers say
 within-bounds : (a b n : ℕ) → (within a b n ≡ true) ↔ ((a ≤ n) × (n ≤ b))
@@ -80,6 +82,20 @@ unfolding stockInBounds
 stock-within job =
     simp (and-eq-true-iff, leb-bound, all-true, record-within) (λ p. record { count = p .0; records = p .1 }, λ b. (b .count, b .records))
 
+-- the test of a window, and that of the hours, say so
+window-within : (m : ℕ) (w : Window) → (windowInBounds m w ≡ true) ↔ WindowWithin m w
+unfolding windowInBounds
+window-within m w =
+    simp (and-eq-true-iff, within-bounds, leb-bound) (
+      λ p. record { aisle = p .0 .0; some = p .0 .1; last = p .1 },
+      λ b. ((b .aisle, b .some), b .last),
+    )
+
+pub hours-within : (m : ℕ) (hours : Hours) → (hoursInBounds m hours ≡ true) ↔ HoursWithin m hours
+hours-within m NoHours = (λ e. tt, λ b. refl)
+hours-within m (At t windows) =
+    simp (and-eq-true-iff, leb-bound, all-true, window-within) (λ p. (p .0 .0, p .0 .1, p .1), λ b. ((b .0, b .1), b .2))
+
 pub line-within : (l : OrderLine) → (lineInBounds l ≡ true) ↔ LineWithin l
 unfolding lineInBounds
 line-within l =
@@ -115,6 +131,19 @@ same-cell r s = simp (and-eq-true-iff, eqb-equal) Iff·rfl
 pub cells-once : (job : Job) → (anyTwo sameCell (job .stock) ≡ false) ↔ Sorted (λ (r s : StockRecord). (r .aisle ≡ s .aisle) × (r .cell ≡ s .cell) → ⊥) (job .stock)
 cells-once job = once sameCell (λ (r s : StockRecord). (r .aisle ≡ s .aisle) × (r .cell ≡ s .cell)) same-cell (job .stock)
 
+-- the stock that counts is of the stock
+pub open-in-stock : (job : Job) (r : StockRecord) → List·Memᴰ r (openStock job) → List·Memᴰ r (job .stock)
+open-in-stock job r m = member-select (λ (s : StockRecord). isOpen (job .hours) (s .aisle)) (job .stock) .0 m .0
+
+-- and in open aisles
+pub open-aisle : (job : Job) (r : StockRecord) → List·Memᴰ r (openStock job) → isOpen (job .hours) (r .aisle) ≡ true
+open-aisle job r m = member-select (λ (s : StockRecord). isOpen (job .hours) (s .aisle)) (job .stock) .0 m .1
+
+-- no two of its records are of one cell
+pub open-once : (job : Job) → anyTwo sameCell (job .stock) ≡ false
+    → Sorted (λ (r s : StockRecord). (r .aisle ≡ s .aisle) × (r .cell ≡ s .cell) → ⊥) (openStock job)
+open-once job h = sorted-select _ (λ (r : StockRecord). isOpen (job .hours) (r .aisle)) (job .stock) (cells-once job .0 h)
+
 -- two records of one cell are the same
 pub one-record-per-cell : (job : Job) → anyTwo sameCell (job .stock) ≡ false → (r s : StockRecord) → List·Memᴰ r (job .stock) → List·Memᴰ s (job .stock) → r .aisle ≡ s .aisle → r .cell ≡ s .cell → r ≡ s
 one-record-per-cell job h r s l m a c =
@@ -133,17 +162,18 @@ pub one-line-per-article : (job : Job) → anyTwo sameArticle (job .lines) ≡ f
 one-line-per-article job h k l i j a =
     alike-members sameArticle (job .lines) h k l i j (same-article k l .1 a) (same-article l k .1 (sym a))
 
--- rows that all have a number below 8, and rows that do not apply
+-- rows that all have another number than 8, and rows that do not apply
 abbrev Early : List (Bool × Refusal) → Type 0
 Early [] = Unit {0}
-Early (row ∷ rows) = (numberOf (row .1) < 8) × Early rows
+Early (row ∷ rows) = (numberOf (row .1) ≡ 8 → ⊥) × Early rows
 
 abbrev Passed : List (Bool × Refusal) → Type 0
 Passed [] = Unit {0}
 Passed (row ∷ rows) = (row .0 ≡ false) × Passed rows
 
 -- where the first row that applies has none of these numbers, the rows before it do not apply
-passed-rows : (early rest : List (Bool × Refusal)) (o : Option Refusal) → Early early → ((r : Refusal) → numberOf r < 8 → some r ≡ o → ⊥) → (firstRow (early ++ rest) ≡ o) ↔ (Passed early × (firstRow rest ≡ o))
+passed-rows : (early rest : List (Bool × Refusal)) (o : Option Refusal) → Early early → ((r : Refusal) → (numberOf r ≡ 8 → ⊥) → some r ≡ o → ⊥)
+    → (firstRow (early ++ rest) ≡ o) ↔ (Passed early × (firstRow rest ≡ o))
 passed-rows [] rest o low late = (λ e. (tt, e), λ p. p .1)
 passed-rows ((true, r) ∷ rows) rest o low late = (λ e. absurd (late r low.0 e), λ p. absurd (true≢false (p .0 .0)))
 passed-rows ((false, r) ∷ rows) rest o low late =
@@ -155,18 +185,41 @@ pub record OtherwiseAdmitted (job : Job) : Type 0 where
   pub layout : layoutInBounds (job .layout) ≡ true
   pub stock : stockInBounds job ≡ true
   pub cells-once : anyTwo sameCell (job .stock) ≡ false
+  pub hours : hoursInBounds (job .layout .aisles) (job .hours) ≡ true
   pub list : listInBounds job ≡ true
   pub articles-once : anyTwo sameArticle (job .lines) ≡ false
   pub light : weight (job .lines) ≤ weightLimit
 
 -- what is left is the row of the stock
-stock-row : (job : Job) (o : Option Refusal) → ((r : Refusal) → numberOf r < 8 → some r ≡ o → ⊥) → (jobRefusal job ≡ o) ↔ (OtherwiseAdmitted job × (firstRow ((shortOfStock job, ShortOfStock) ∷ []) ≡ o))
+stock-row : (job : Job) (o : Option Refusal) → ((r : Refusal) → (numberOf r ≡ 8 → ⊥) → some r ≡ o → ⊥)
+    → (jobRefusal job ≡ o) ↔ (OtherwiseAdmitted job × (firstRow ((shortOfStock job, ShortOfStock) ∷ []) ≡ o))
 unfolding jobRefusal jobRows
 stock-row job o late =
-    let rows : List (Bool × Refusal) = (not (layoutInBounds (job .layout)), LayoutBounds) ∷ (not (stockInBounds job), StockBounds) ∷ (anyTwo sameCell (job .stock), CellTwice) ∷ (not (listInBounds job), ListBounds) ∷ (anyTwo sameArticle (job .lines), ArticleTwice) ∷ (ltb weightLimit (weight (job .lines)), TooHeavy) ∷ [] in
-    let q = passed-rows rows ((shortOfStock job, ShortOfStock) ∷ []) o (omega arith) late in (
-      λ e. (let p = q .0 e in (record { layout = not-false (layoutInBounds (job .layout)) (p .0 .0); stock = not-false (stockInBounds job) (p .0 .1 .0); cells-once = p .0 .1 .1 .0; list = not-false (listInBounds job) (p .0 .1 .1 .1 .0); articles-once = p .0 .1 .1 .1 .1 .0; light = ltb-false weightLimit (weight (job .lines)) (p .0 .1 .1 .1 .1 .1 .0) }, p .1)),
-      λ p. q .1 ((ap not (p .0 .layout), (ap not (p .0 .stock), (p .0 .cells-once, (ap not (p .0 .list), (p .0 .articles-once, (le-ltb weightLimit (weight (job .lines)) (p .0 .light), tt)))))), p .1),
+    let fits : List (Bool × Refusal) = (not (layoutInBounds (job .layout)), LayoutBounds) ∷ (not (stockInBounds job), StockBounds) ∷ [] in
+    let told : List (Bool × Refusal) = (anyTwo sameCell (job .stock), CellTwice) ∷ (not (hoursInBounds (job .layout .aisles) (job .hours)), HoursBounds) ∷ [] in
+    let asked : List (Bool × Refusal) = (not (listInBounds job), ListBounds) ∷ (anyTwo sameArticle (job .lines), ArticleTwice) ∷ [] in
+    let heavy : List (Bool × Refusal) = (ltb weightLimit (weight (job .lines)), TooHeavy) ∷ [] in
+    let q = passed-rows (fits ++ (told ++ (asked ++ heavy))) ((shortOfStock job, ShortOfStock) ∷ []) o (omega arith) late in (
+      λ e. (
+          let p = q .0 e .0 in
+          let r = p .1 .1 .1 in (
+            record {
+              layout = not-false (layoutInBounds (job .layout)) (p .0);
+              stock = not-false (stockInBounds job) (p .1 .0);
+              cells-once = p .1 .1 .0;
+              hours = not-false (hoursInBounds (job .layout .aisles) (job .hours)) (r .0);
+              list = not-false (listInBounds job) (r .1 .0);
+              articles-once = r .1 .1 .0;
+              light = ltb-false weightLimit (weight (job .lines)) (r .1 .1 .1 .0);
+            },
+            q .0 e .1,
+          )
+          ),
+      λ p. (
+          let a = p .0 in
+          let light = le-ltb weightLimit (weight (job .lines)) (a .light) in
+          q .1 ((ap not (a .layout), (ap not (a .stock), (a .cells-once, (ap not (a .hours), (ap not (a .list), (a .articles-once, (light, tt))))))), p .1)
+          ),
     )
 
 not-short : (b : Bool) → (firstRow ((b, ShortOfStock) ∷ []) ≡ none) ↔ (b ≡ false)
@@ -181,12 +234,12 @@ is-short false = (λ e. (let z : _≡_ {A = ℕ} 0 1 = cc in absurd (omega arith
 pub admitted-apart : (job : Job) → Admitted job ↔ (OtherwiseAdmitted job × (shortOfStock job ≡ false))
 admitted-apart job = (
   λ a. (
-    record { layout = a .layout; stock = a .stock; cells-once = a .cells-once; list = a .list; articles-once = a .articles-once; light = a .light },
+    record { layout = a .layout; stock = a .stock; cells-once = a .cells-once; hours = a .hours; list = a .list; articles-once = a .articles-once; light = a .light },
     a .in-stock,
   ),
   λ p. (
       let o = p .0 in
-      record { layout = o .layout; stock = o .stock; cells-once = o .cells-once; list = o .list; articles-once = o .articles-once; light = o .light; in-stock = p .1 }
+      record { layout = o .layout; stock = o .stock; cells-once = o .cells-once; hours = o .hours; list = o .list; articles-once = o .articles-once; light = o .light; in-stock = p .1 }
       ),
 )
 
@@ -214,6 +267,7 @@ admitted-under policy job a =
       layout = a .layout;
       stock = a .stock;
       cells-once = a .cells-once;
+      hours = a .hours;
       list = a .list;
       articles-once = a .articles-once;
       light = a .light;

@@ -1,4 +1,4 @@
--- What a call answers by what it looks at in turn: the work area, the job file (refusals 1 to 8), the sheet space.
+-- What a call answers by what it looks at in turn: the work area, the job file (refusals 1 to 8 and 12), the sheet space.
 use Prim.Native.Nat.{ℕ, _≤_, _<_}
 use native.Mathlib.Omega.{arith}
 use mathlib.Core.Path.{_≡_, refl, _∙_, ap, subst}
@@ -123,13 +123,13 @@ row-has P [] r f e = let z : _≡_ {A = ℕ} 0 1 = cc in absurd (omega arith)
 row-has P ((true, q) ∷ rows) r f e = let same : q ≡ r = cc in subst P same (f .0)
 row-has P ((false, q) ∷ rows) r f e = row-has P rows r (f .1) e
 
--- the refusals 1 to 8 leave the work area as it was
+-- the refusals 1 to 8 and 12 leave the work area as it was
 pub file-refusal : (bytes : List ℕ) (r : Refusal) → checkBytes bytes ≡ bad r → (work : List ℕ) → work ≡ workAfter r work
 unfolding jobRefusal jobRows
 file-refusal bytes r e work = go (file-says bytes) e
   where
     rows-kept : (job : Job) (q : Refusal) → jobRefusal job ≡ some q → work ≡ workAfter q work
-    rows-kept job q f = row-has (λ p. work ≡ workAfter p work) (jobRows job) q (refl, (refl, (refl, (refl, (refl, (refl, (refl, tt))))))) f
+    rows-kept job q f = row-has (λ p. work ≡ workAfter p work) (jobRows job) q (refl, (refl, (refl, (refl, (refl, (refl, (refl, (refl, tt)))))))) f
 
     go : {c : Checked} → FileSays bytes c → c ≡ bad r → work ≡ workAfter r work
     go (no-file f) e = let same : NotAJobFile ≡ r = cc in subst (λ q. work ≡ workAfter q work) same refl

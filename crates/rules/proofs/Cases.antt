@@ -12,7 +12,7 @@ use Rattle.rules.specs.declared.Policy.the-variants.{Exact, Return, Trav
 use Rattle.rules.specs.declared.Action.the-variants.{Bottom}
 use Rattle.rules.specs.declared.Passage.{Passage}
 use Rattle.rules.specs.declared.Passage.the-variants.{P02}
-use Rattle.rules.specs.declared.Refusal.the-variants.{NotAJobFile, LayoutBounds, StockBounds, CellTwice, ArticleTwice, ShortOfStock, ListBounds, TooHeavy}
+use Rattle.rules.specs.declared.Refusal.the-variants.{NotAJobFile, LayoutBounds, StockBounds, CellTwice, HoursBounds, ArticleTwice, ShortOfStock, ListBounds, TooHeavy}
 use Rattle.rules.specs.Jobs.{Job}
 use Rattle.rules.specs.Plans.{Plan}
 use Rattle.rules.specs.Examples.{Expected, tour, tied, walked, long, refusal, weighing, allowing, HasTour, IsTour, FileEnds, CallGives, PageCallGives, Meets, Case, under, underEvery, Holds, AllHold, AllSame}
@@ -25,8 +25,10 @@ use Rattle.rules.specs.BestPlan.{actionsOf, passagesInOrder, single, pre
 use Rattle.rules.specs.Examples.{stocked, _⨯_, alpha, beta, steps, roundTrip, cases, ownJob, oneEach, midwayFront, midwayBack, farBack, nearBack, bothEnds, bottomOrTop, topOrGap, gapOrOnce, frontOrBack, leftFirst, topTie, withOthers, gapByFront, gapByBack, posted, thirdCells, beforeMiddle, behindMiddle, wrongLayout, wrongStock, sharedCell, sharedArticle, bothBottom, bothOnce, eightLines, nineLines, frontOnly, awayFromDepot, ownCases, twoLines, counted, fromTheBack, pageFromTheBack, texts, overfull, RefusedWith, workedJob, workedSheet, workedPage}
 use Rattle.rules.specs.Examples.{betaWith, cellsBetween, fourBetween, besideUnlisted, listedInGap, oneAisle, betweenEnds, largestCases, stopLists}
 use Rattle.rules.specs.Examples.{restocked, lookedCases, lookedTexts, AllLooked}
+use Rattle.rules.specs.Examples.{window, timed, sevenAt, inAisleOne, inAisleTwo, overstocked, hoursCases, hoursLooked, beforeList, noJobFile, hoursTexts}
+use Rattle.rules.specs.Hours.{openAt, windowInBounds}
 use Rattle.rules.specs.FirstWalk.{without, stepsOf, firstWalk}
-use Rattle.rules.specs.JobFile.{numeral, field, header, sectionText, jobText, layoutText, layoutSectionText, recordText, lineText, isDigit, isNumber, readField, readHeader, readPolicyAs, readPolicy, readLayout, readPostsLine, readPosts, readRecord, readLine, readSection, readLayoutSection, readSections, readJob}
+use Rattle.rules.specs.JobFile.{numeral, field, header, sectionText, jobText, layoutText, layoutSectionText, recordText, windowText, lineText, isDigit, isNumber, readField, readHeader, readPolicyAs, readPolicy, readLayout, readPostsLine, readPosts, readRecord, readWindow, readMinute, readClock, readLine, readSection, readLayoutSection, readSections, readJob}
 use Rattle.rules.specs.Jobs.{listed, holdsListed, cellHoldsListed}
 use Rattle.rules.specs.Looked.{withFirst, firstHold, lookedFor, looked, lookedOn, lookedIn}
 use Rattle.rules.specs.Machine.{partKeeps, keepsLargestGap, actionPossible, actionStep, passageStep, treadsNothing, accepts}
@@ -232,6 +234,60 @@ largest-cases-hold = all-hold largestCases largest-cases-computed
 pub stops-hold : AllSame stopLists
 unfolding stopLists listedInGap betaWith ownJob stocked _⨯_ listedCells cellHoldsListed listed backHeight
 stops-hold = refl ▸ refl ▸ refl ▸ refl ▸ tt
+
+-- the rows of request #106
+hours-cases-computed : AllComputed hoursCases
+unfolding actionsOf passagesInOrder single prepend shorterOf stocked _⨯_ alpha listed holdsListed actionPossible actionStep passageStep accepts actionAt
+    passageAt multiplicity lengthOf planLength planPasses inFrontHalf inBackHalf supply serves aisleLength position backHeight depotPoint distance edgesOf
+    boundedBest actionLength passageLength recordInBounds stockInBounds sameCell lineInBounds listInBounds sameArticle weight allStock shortOfStock jobRows
+    jobRefusal within layoutInBounds ownJob bothOnce treadsNothing cellHoldsListed listedCells untrodden partKeeps keepsLargestGap wrongStock sharedCell
+    nineLines openAt windowInBounds window timed sevenAt inAisleOne inAisleTwo overstocked
+    RefusedWith hoursCases
+hours-cases-computed =
+    under-each _ (refl, refl, refl, refl) (refl, refl, refl, refl) (refl, refl, refl, refl) (refl, refl, refl, refl) (refl, refl, refl, refl) (refl, refl, refl, refl)
+    ▸ under-each _ (refl, refl, refl, refl) (refl, refl, refl, refl) (refl, refl, refl, refl) (refl, refl, refl, refl) (refl, refl, refl, refl) (refl, refl, refl, refl)
+    ▸ (refl, refl, refl, refl)
+    ▸ (refl, refl, refl, refl)
+    ▸ (refl, refl, refl, refl)
+    ▸ (refl, refl, refl, refl)
+    ▸ (refl, refl, refl, refl)
+    ▸ (refl, refl, refl, refl)
+    ▸ (refl, refl, refl, refl)
+    ▸ (refl, refl, refl, refl)
+    ▸ (refl, refl, refl, refl)
+    ▸ (refl, refl, refl, refl)
+    ▸ (λ policy. (ShortOfStock, refl, refl))
+    ▸ (λ policy. (ShortOfStock, refl, refl))
+    ▸ (λ policy. (ShortOfStock, refl, refl))
+    ▸ (refl, refl)
+    ▸ (refl, refl)
+    ▸ (λ policy. (HoursBounds, refl, refl))
+    ▸ (λ policy. (HoursBounds, refl, refl))
+    ▸ (λ policy. (HoursBounds, refl, refl))
+    ▸ (λ policy. (HoursBounds, refl, refl))
+    ▸ (refl, refl, refl, refl)
+    ▸ (λ policy. (HoursBounds, refl, refl))
+    ▸ (λ policy. (HoursBounds, refl, refl))
+    ▸ (λ policy. (HoursBounds, refl, refl))
+    ▸ (λ policy. (CellTwice, refl, refl))
+    ▸ (λ policy. (HoursBounds, refl, refl))
+    ▸ (λ policy. (StockBounds, refl, refl))
+    ▸ (λ policy. (StockBounds, refl, refl))
+    ▸ (λ policy. (CellTwice, refl, refl))
+    ▸ tt
+
+-- the table of request #106, the records looked at, and its texts
+pub hours-cases-hold : AllHold hoursCases × AllLooked hoursLooked × AllSame hoursTexts
+unfolding hoursLooked hoursTexts beforeList noJobFile window timed sevenAt stocked _⨯_ alpha ownJob listedInGap betaWith listedCells cellHoldsListed listed
+    backHeight openAt windowInBounds withFirst firstHold lookedFor looked lookedOn allStock shortOfStock recordInBounds stockInBounds sameCell lineInBounds
+    listInBounds sameArticle weight jobRows jobRefusal within layoutInBounds numeral field header sectionText layoutText layoutSectionText recordText windowText
+    lineText jobText isDigit isNumber readField readHeader readPolicyAs readPolicy readLayout readPosts readRecord readWindow readMinute readClock readLine
+    readSection readLayoutSection readSections readJob answer refused hostAnswer output
+hours-cases-hold = (
+  all-hold hoursCases hours-cases-computed,
+  refl ▸ refl ▸ refl ▸ tt,
+  refl ▸ refl ▸ refl ▸ refl ▸ refl ▸ refl ▸ refl ▸ refl ▸ refl ▸ tt,
+)
 
 -- the table of request #105, what its program prints, and the numbers that are handed on
 pub looked-cases-hold : AllLooked lookedCases × AllSame lookedTexts

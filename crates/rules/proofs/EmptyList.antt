@@ -13,14 +13,14 @@ use Rattle.rules.specs.Store.{layoutInBounds}
 use Rattle.rules.specs.Jobs.{Job, emptyList}
 use Rattle.rules.specs.Plans.{Plan, WellFormed, planLength}
 use Rattle.rules.specs.Lawful.{Lawful, TreadsNothing, LawfulFor}
-use Rattle.rules.specs.Policies.{Allowed}
+use Rattle.rules.specs.Policies.{ShutVoid, Allowed}
 use Rattle.rules.specs.Serving.{Serves, PlanServes}
 use Rattle.rules.specs.Machine.{closesOff, treadsNothing, accepts}
 use Rattle.rules.specs.Picks.{lackOf, lessOf, taken, picksFrom, passedRecords, picksOf}
 use Rattle.rules.specs.BestPlan.{emptyPlan, bestPlan}
 use Rattle.rules.proofs.Admission.{layout-within}
 use Rattle.rules.proofs.Lists.{or-true, or-right}
-use Rattle.rules.proofs.EmptyPlan.{empty-well-formed, empty-treads-nothing, empty-tested, treads-nothing, empty-length, empty-alone, empty-follows}
+use Rattle.rules.proofs.EmptyPlan.{empty-action, empty-well-formed, empty-treads-nothing, empty-tested, treads-nothing, empty-length, empty-alone, empty-follows}
 use Rattle.rules.proofs.Enumeration.{first-shortest-member, first-shortest-least, serving-plans, best-plan-first-shortest}
 
 -- for a list with lines only a lawful plan is lawful
@@ -87,10 +87,12 @@ module _ (job : Job) (no-line : job .lines ≡ []) where
 
   -- every policy allows the plan that treads nothing, in a store with an aisle
   pub empty-allowed : 1 ≤ job .layout .aisles → Allowed job idle
+  unfolding ShutVoid
   empty-allowed some-aisle =
       record {
         lawful = subst (λ lines. LawfulFor (job .layout) lines idle) (sym no-line) (inr (empty-treads-nothing (job .layout) some-aisle));
         follows = empty-follows job (job .policy);
+        shut = λ j e. empty-action (job .layout) j;
       }
 
   -- the test accepts it, and there is nothing that it has to serve

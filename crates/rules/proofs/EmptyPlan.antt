@@ -30,7 +30,7 @@ use Rattle.rules.proofs.Lengths.{position-cell, position-monotone, plan
 use Rattle.rules.proofs.Lists.{sum-none, none-of-sum, all-true, all-places, all-alike, all-replicate, nth-replicate}
 
 -- VOID, and passage 00, told by their tests
-void-told : (a : Action) → isVoid a ≡ true → a ≡ Void
+pub void-told : (a : Action) → isVoid a ≡ true → a ≡ Void
 void-told Void e = refl
 void-told (Bottom i) e = absurd (true≢false (sym e))
 void-told (Top i) e = absurd (true≢false (sym e))
@@ -47,7 +47,7 @@ none-told P22 e = absurd (true≢false (sym e))
 
 module _ (z : Layout) where
   -- in every aisle VOID, behind it 00
-  empty-action : (j : ℕ) → actionAt (emptyPlan z) j ≡ Void
+  pub empty-action : (j : ℕ) → actionAt (emptyPlan z) j ≡ Void
   unfolding actionAt emptyPlan
   empty-action j = nth-replicate (z .aisles) j Void
 
@@ -91,7 +91,7 @@ module _ (z : Layout) where
       ap₂ (λ xs ps. record { actions = xs; passages = ps }) actions passages
 
   -- an action that treads no edge of its aisle is VOID
-  untrodden-void : (a : Action) → Fits (z .cells) a → ((k : ℕ) → k ≤ z .cells → aisleTreads a k ≡ 0) → isVoid a ≡ true
+  pub untrodden-void : (a : Action) → Fits (z .cells) a → ((k : ℕ) → k ≤ z .cells → aisleTreads a k ≡ 0) → isVoid a ≡ true
   untrodden-void Void f h = refl
   untrodden-void (Bottom i) f h = let two : aisleTreads (Bottom i) 0 ≡ 2 = rw (lt-ltb 0 i (omega arith)) in absurd (omega (arith, h 0 (omega arith)))
   untrodden-void (Top i) f h = let two : aisleTreads (Top i) (z .cells) ≡ 2 = rw (le-leb i (z .cells) f.1) in absurd (omega (arith, h (z .cells) (omega arith)))

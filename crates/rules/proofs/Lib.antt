@@ -19,4 +19,7 @@ pub mod WrongTurnings
 pub mod PageAnswering
 pub mod WalkOrder
 pub mod FewPicks
+pub mod Jobs
 pub mod Looked
+pub mod OpenAlike
+pub mod OpenHours

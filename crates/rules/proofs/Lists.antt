@@ -33,6 +33,16 @@ module _ {A : Type 0} where
   sum-agree f g [] h = refl
   sum-agree f g (x ∷ xs) h = ap₂ _+_ (h x (List·Memᴰ·head refl)) (sum-agree f g xs (λ y m. h y (List·Memᴰ·tail m)))
 
+  -- the sum over the elements of which a test holds
+  pub sum-select : (f : A → ℕ) (t : A → Bool) (xs : List A) → sumOf f (select t xs) ≡ sumOf (λ x. cond (t x) (f x) 0) xs
+  sum-select f t [] = refl
+  sum-select f t (x ∷ xs) = go (t x) (sum-select f t xs)
+    where
+      go : (b : Bool) → sumOf f (select t xs) ≡ sumOf (λ y. cond (t y) (f y) 0) xs
+          → sumOf f (cond b (x ∷ select t xs) (select t xs)) ≡ cond b (f x) 0 + sumOf (λ y. cond (t y) (f y) 0) xs
+      go true e = ap (λ n. f x + n) e
+      go false e = omega (arith, e)
+
   -- the sum of a sum of two functions
   pub sum-plus : (f g : A → ℕ) (xs : List A) → sumOf (λ x. f x + g x) xs ≡ sumOf f xs + sumOf g xs
   sum-plus f g [] = omega arith
@@ -290,6 +300,20 @@ module _ {A : Type 0} where
   pub select-none : (t : A → Bool) → ((x : A) → t x ≡ false) → (xs : List A) → select t xs ≡ []
   select-none t none-holds [] = refl
   select-none t none-holds (x ∷ xs) = rw (none-holds x) (select-none t none-holds xs)
+
+  -- where the test holds of every element, none is left out
+  pub select-all : (t : A → Bool) (xs : List A) → ((x : A) → List·Memᴰ x xs → t x ≡ true) → select t xs ≡ xs
+  select-all t [] h = refl
+  select-all t (x ∷ xs) h = rw (h x (List·Memᴰ·head refl)) (ap (λ ys. x ∷ ys) (select-all t xs (λ y m. h y (List·Memᴰ·tail m))))
+
+  -- no more are left than there were
+  pub length-select : (t : A → Bool) (xs : List A) → length (select t xs) ≤ length xs
+  length-select t [] = omega arith
+  length-select t (x ∷ xs) = go (t x) (length-select t xs)
+    where
+      go : (b : Bool) → length (select t xs) ≤ length xs → length (cond b (x ∷ select t xs) (select t xs)) ≤ suc (length xs)
+      go true h = omega arith
+      go false h = omega arith
 
   pub select-both : (s t : A → Bool) (xs : List A) → select (λ x. s x && t x) xs ≡ select t (select s xs)
   select-both s t [] = refl

@@ -16,12 +16,14 @@ use borrow.Author.Tests.{le-leb, lt-leb, leb-true, leb-false}
 use Rattle.rules.specs.declared.StockRecord.{StockRecord}
 use Rattle.rules.specs.declared.OrderLine.{OrderLine}
 use Rattle.rules.specs.declared.Refusal.{Refusal}
-use Rattle.rules.specs.declared.Refusal.the-variants.{WorkArea, NotAJobFile, LayoutBounds, StockBounds, CellTwice, ListBounds, ArticleTwice, TooHeavy, ShortOfStock, SheetSpace, PageSpace}
+use Rattle.rules.specs.declared.Refusal.the-variants.{WorkArea, NotAJobFile, LayoutBounds, StockBounds, CellTwice, HoursBounds}
+use Rattle.rules.specs.declared.Refusal.the-variants.{ListBounds, ArticleTwice, TooHeavy, ShortOfStock, SheetSpace, PageSpace}
 use Rattle.rules.specs.Lists.{from, sumOf, select, headOr}
-use Rattle.rules.specs.Jobs.{Job}
+use Rattle.rules.specs.Hours.{Hours, isOpen}
+use Rattle.rules.specs.Jobs.{Job, jobWithStock}
 use Rattle.rules.specs.Refusals.{allStock, shortOfStock, jobRefusal}
 use Rattle.rules.specs.Looked.{withFirst, firstHold, lookedFor, testedLines, looked, stockTested}
-use Rattle.rules.proofs.Lists.{sum-append, sum-below}
+use Rattle.rules.proofs.Lists.{sum-append, sum-select, sum-below}
 use Rattle.rules.proofs.Admission.{OtherwiseAdmitted, admitted-apart, admitted, refused-for-stock, line-out-of-stock}
 
 -- h is the least of the numbers from a upwards that pass a test
@@ -70,36 +72,45 @@ sum-take f (x ∷ xs) zero n h = omega arith
 sum-take f (x ∷ xs) (suc m) zero h = absurd (omega arith)
 sum-take f (x ∷ xs) (suc m) (suc n) h = omega (arith, sum-take f xs m n (omega arith))
 
--- what a record holds of an article
-abbrev pub held : ℕ → StockRecord → ℕ
-held a r = cond (eqb (r .article) a) (r .quantity) 0
+-- what a record holds of an article; that of a shut aisle nothing
+abbrev pub held : Hours → ℕ → StockRecord → ℕ
+held hours a r = cond (isOpen hours (r .aisle)) (cond (eqb (r .article) a) (r .quantity) 0) 0
+
+-- all the stock of an article, record by record
+pub all-stock : (job : Job) (a : ℕ) → allStock job a ≡ sumOf (held (job .hours) a) (job .stock)
+unfolding allStock
+all-stock job a =
+    sum-select (λ (r : StockRecord). cond (eqb (r .article) a) (r .quantity) 0) (λ (r : StockRecord). isOpen (job .hours) (r .aisle)) (job .stock)
 
 module _ (job : Job) where
   -- all the records
   pub with-all : (n : ℕ) → length (job .stock) ≤ n → withFirst n job ≡ job
   unfolding withFirst
-  with-all n h = ap among (take-all n (job .stock) h)
-    where
-      among : List StockRecord → Job
-      among stock = record { layout = job .layout; policy = job .policy; stock = stock; lines = job .lines }
+  with-all n h = ap (λ stock. jobWithStock stock job) (take-all n (job .stock) h)
 
   module _ (a : ℕ) where
+    -- what the first records hold, record by record
+    pub first-held : (n : ℕ) → allStock (withFirst n job) a ≡ sumOf (held (job .hours) a) (take n (job .stock))
+    unfolding withFirst
+    first-held n = all-stock (jobWithStock (take n (job .stock)) job) a
+
     -- no record holds nothing
     pub none-held : allStock (withFirst 0 job) a ≡ 0
-    unfolding withFirst allStock
-    none-held = refl
+    none-held = first-held 0
 
     -- one record more
     pub held-more : (n : ℕ) (d : StockRecord) → n < length (job .stock)
-        → allStock (withFirst (n + 1) job) a ≡ allStock (withFirst n job) a + held a (getD (job .stock) n d)
-    unfolding withFirst allStock
+        → allStock (withFirst (n + 1) job) a ≡ allStock (withFirst n job) a + held (job .hours) a (getD (job .stock) n d)
     held-more n d h =
-        rw (add-one n, take-suc (job .stock) n d h) (sum-append (held a) (take n (job .stock)) (getD (job .stock) n d ∷ []) ∙ omega arith)
+        let counts = held (job .hours) a in
+        let last = getD (job .stock) n d in
+        let more : sumOf counts (take (n + 1) (job .stock)) ≡ sumOf counts (take n (job .stock)) + counts last
+        = rw (add-one n, take-suc (job .stock) n d h) (sum-append counts (take n (job .stock)) (last ∷ []) ∙ omega arith) in
+        first-held (n + 1) ∙ more ∙ ap (λ sum. sum + counts last) (sym (first-held n))
 
     -- more records hold no less
     pub held-grows : (m n : ℕ) → m ≤ n → allStock (withFirst m job) a ≤ allStock (withFirst n job) a
-    unfolding withFirst allStock
-    held-grows m n h = sum-take (held a) (job .stock) m n h
+    held-grows m n h = rw (first-held m, first-held n) (sum-take (held (job .hours) a) (job .stock) m n h)
 
     -- all the stock
     pub all-held : allStock (withFirst (length (job .stock)) job) a ≡ allStock job a
@@ -248,6 +259,7 @@ stock-tested job = (λ e. of (jobRefusal job) refl e, λ o. to (shortOfStock job
     of (some LayoutBounds) e t = absurd (false≢true t)
     of (some StockBounds) e t = absurd (false≢true t)
     of (some CellTwice) e t = absurd (false≢true t)
+    of (some HoursBounds) e t = absurd (false≢true t)
     of (some ListBounds) e t = absurd (false≢true t)
     of (some ArticleTwice) e t = absurd (false≢true t)
     of (some TooHeavy) e t = absurd (false≢true t)

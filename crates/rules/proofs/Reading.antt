@@ -15,10 +15,14 @@ use Rattle.rules.specs.declared.Posts.the-variants.{NoPosts, Every}
 use Rattle.rules.specs.declared.Layout.{Layout}
 use Rattle.rules.specs.declared.Policy.{Policy}
 use Rattle.rules.specs.declared.Policy.the-variants.{Exact, Return, Traversal, Midpoint, Composite, Largest}
+use Rattle.rules.specs.declared.StockRecord.{StockRecord}
+use Rattle.rules.specs.declared.Window.{Window}
+use Rattle.rules.specs.declared.OrderLine.{OrderLine}
 use Rattle.rules.specs.Lists.{concatOf}
 use Rattle.rules.specs.Store.{withPosts}
+use Rattle.rules.specs.Hours.{Hours, NoHours, At}
 use Rattle.rules.specs.Jobs.{Job}
-use Rattle.rules.specs.JobFile.{Reading, _>>=_, space, lineFeed, numeral, field, header, isDigit, leadingDigits, valueOf, isNumber, readByte, readField, readHeader, readWord, policyWord, readPolicyAs, orElse, readPolicy, layoutText, readLayout, postsText, layoutLines, layoutSectionText, readPostsLine, readPosts, recordText, readRecord, lineText, readLine, readLines, sectionText, readSection, letterL, letterS, letterD, readLayoutSection, jobText, readSections, atEnd, jobFileLimit, readJob, WritablePosts, WritableLayout, WritableRecord, WritableLine, WritableSection, Writable}
+use Rattle.rules.specs.JobFile.{Reading, _>>=_, space, lineFeed, numeral, field, header, isDigit, leadingDigits, valueOf, isNumber, readByte, readField, readHeader, readWord, policyWord, readPolicyAs, orElse, readPolicy, layoutText, readLayout, postsText, layoutLines, layoutSectionText, readPostsLine, readPosts, recordText, readRecord, windowText, readWindow, lineText, readLine, readLines, sectionText, readSection, letterL, letterS, letterM, letterH, letterD, readLayoutSection, readMinute, readClock, hoursText, readHours, jobText, readSections, atEnd, jobFileLimit, readJob, WritablePosts, WritableLayout, WritableRecord, WritableWindow, WritableLine, WritableSection, WritableHours, Writable}
 use Rattle.rules.proofs.Numbers.{numeral-digits, valueOf-numeral, isNumber-numeral, numeral-isNumber, leadingDigits-append, leadingDigits-digits, leadingDigits-drop}
 
 -- a reader and a text are inverse: the text of each valid value is read as it, and whatever is read is such a text
@@ -29,6 +33,13 @@ pub record Inverse {A : Type 0} (read : List ℕ → Reading A) (text : A → Li
 -- the same with the valid values said in another way
 valid-as : {A : Type 0} {read : List ℕ → Reading A} {t : A → List ℕ} {P Q : A → Type 0} → ((x : A) → P x ↔ Q x) → Inverse read t P → Inverse read t Q
 valid-as same i = record { reads = λ x rest q. i .reads x rest (same x .1 q); written = λ s x rest e. let w = i .written s x rest e in (w .0, same x .0 (w .1)) }
+
+-- the same with another text that valid values have alike
+text-as : {A : Type 0} {read : List ℕ → Reading A} {t u : A → List ℕ} {P : A → Type 0} → ((x : A) → P x → t x ≡ u x) → Inverse read t P → Inverse read u P
+text-as {read = read} {t} {u} {P} same i = record {
+  reads = λ x rest v. subst (λ (w : List ℕ). read (w ++ rest) ≡ some (x, rest)) (same x v) (i .reads x rest v);
+  written = λ s x rest e. let w = i .written s x rest e in (subst (λ (z : List ℕ). s ≡ z ++ rest) (same x (w .1)) (w .0), w .1);
+}
 
 -- anything follows from nothing having been read as something
 nothing-read : {A : Type 0} {C : Type 0} {x : A} → none ≡ some x → C
@@ -45,22 +56,31 @@ read-some : {A B : Type 0} (r : Reading A) (next : A × List ℕ → Reading B) 
 read-some none next e = nothing-read e
 read-some (some p) next e = (p, refl, e)
 
-module _ {A B : Type 0} {read : List ℕ → Reading A} {t : A → List ℕ} {P : A → Type 0} where
-  -- one reader behind another, where what is read first is a part of what is read in all
-  bind : {next : A → List ℕ → Reading B} {u : B → List ℕ} {Q : A → B → Type 0} (part : B → A)
-      → Inverse read t P → ((a : A) → Inverse (next a) u (Q a)) → ((a : A) (y : B) → P a → Q a y → part y ≡ a)
+module _ {A B : Type 0} (read : List ℕ → Reading A) (t : A → List ℕ) (P : A → Type 0) where
+  -- one reader behind another, where what is read first is a part of what is read in all, and is read in front of the other's text
+  bind-before : {next : A → List ℕ → Reading B} {u : B → List ℕ} {Q : A → B → Type 0} (part : B → A)
+      → ((y : B) (rest : List ℕ) → P (part y) → read (t (part y) ++ (u y ++ rest)) ≡ some (part y, u y ++ rest))
+      → ((s : List ℕ) (a : A) (rest : List ℕ) → read s ≡ some (a, rest) → (s ≡ t a ++ rest) × P a)
+      → ((a : A) → Inverse (next a) u (Q a)) → ((a : A) (y : B) → P a → Q a y → part y ≡ a)
       → Inverse (λ (s : List ℕ). read s >>= λ r. next (r .0) (r .1)) (λ (y : B). t (part y) ++ u y) (λ (y : B). P (part y) × Q (part y) y)
-  bind {next} {u} {Q} part i j told = record {
-    reads = λ y rest v. rw (append-assoc, i .reads (part y) (u y ++ rest) (v .0)) (j (part y) .reads y rest (v .1));
+  bind-before {next} {u} {Q} part reads written j told = record {
+    reads = λ y rest v. rw (append-assoc, reads y rest (v .0)) (j (part y) .reads y rest (v .1));
     written = λ s y rest e. let w = read-some (read s) (λ r. next (r .0) (r .1)) e in go s y rest (w .0 .0) (w .0 .1) (w .1) (w .2);
   }
     where
       go : (s : List ℕ) (y : B) (rest : List ℕ) (a : A) (behind : List ℕ) → read s ≡ some (a, behind) → next a behind ≡ some (y, rest) → (s ≡ t (part y) ++ u y ++ rest) × (P (part y) × Q (part y) y)
       go s y rest a behind p q =
-          let f = i .written s a behind p in
+          let f = written s a behind p in
           let g = j a .written behind y rest q in
           let same = told a y (f .1) (g .1) in
           (rw (append-assoc, same) (f .0 ∙ ap (λ (z : List ℕ). t a ++ z) (g .0)), rw same (f .1, g .1))
+
+module _ {A B : Type 0} {read : List ℕ → Reading A} {t : A → List ℕ} {P : A → Type 0} where
+  -- the same where what is read first is read in front of any bytes
+  bind : {next : A → List ℕ → Reading B} {u : B → List ℕ} {Q : A → B → Type 0} (part : B → A)
+      → Inverse read t P → ((a : A) → Inverse (next a) u (Q a)) → ((a : A) (y : B) → P a → Q a y → part y ≡ a)
+      → Inverse (λ (s : List ℕ). read s >>= λ r. next (r .0) (r .1)) (λ (y : B). t (part y) ++ u y) (λ (y : B). P (part y) × Q (part y) y)
+  bind {next} {u} {Q} part i j told = bind-before read t P part (λ y rest p. i .reads (part y) (u y ++ rest) p) (i .written) j told
 
   -- the same where the value in all is made of the part and of what is read behind it
   bind-part : {next : A → List ℕ → Reading B} {u : B → List ℕ} {Q : B → Type 0} {whole : A → B → B} (part : B → A)
@@ -251,6 +271,16 @@ record-inverse =
     bind-part (λ r. r .article) (λ a r. refl) space-field (λ a.
     made (λ q. record { aisle = j; cell = c; article = a; quantity = q }) (λ r. r .quantity) (λ q v. refl) line-field))))
 
+-- a line of the H section
+pub window-inverse : Inverse readWindow windowText WritableWindow
+unfolding readWindow windowText
+window-inverse =
+    valid-as
+    (λ w. (λ v. omega arith, λ v. (refl, omega arith)))
+    (bind-part (λ w. w .aisle) (λ a w. refl) space-field (λ j.
+    bind-part (λ w. w .from) (λ a w. refl) space-field (λ a.
+    made (λ b. record { aisle = j; from = a; to = b }) (λ w. w .to) (λ b v. refl) line-field)))
+
 -- a line of the D section
 pub line-inverse : Inverse readLine lineText WritableLine
 unfolding readLine lineText
@@ -330,18 +360,107 @@ layout-section-inverse =
     (λ a y p q. ap firstLine (q .0) ∙ ap (λ t. (withPosts t (a .0), a .1)) (sym (p .0))))
     (λ n z p q. q .1 .1 .0))
 
--- the three sections
+-- the one line of the M section, by the section's count
+minute-line-inverse : (n : ℕ)
+    → Inverse (λ (s : List ℕ). elim (eqb n 1) [ true ↦ readField lineFeed s | false ↦ none ]) (λ (t : ℕ). concatOf (field lineFeed) (t ∷ [])) (λ (t : ℕ). (n ≡ 1) × (t ≤ 65535))
+minute-line-inverse n = record { reads = reads; written = λ s t rest e. written s t rest (eqb n 1) refl e }
+  where
+    reads : (t : ℕ) (rest : List ℕ) → (n ≡ 1) × (t ≤ 65535)
+        → _≡_ {A = Reading ℕ} (elim (eqb n 1) [ true ↦ readField lineFeed (concatOf (field lineFeed) (t ∷ []) ++ rest) | false ↦ none ]) (some (t, rest))
+    reads t rest v = rw (eq-eqb n 1 (v .0), append-nil) (line-field .reads t rest (v .1))
+
+    written : (s : List ℕ) (t : ℕ) (rest : List ℕ) (b : Bool) → eqb n 1 ≡ b → _≡_ {A = Reading ℕ} (elim b [ true ↦ readField lineFeed s | false ↦ none ]) (some (t, rest))
+        → (s ≡ concatOf (field lineFeed) (t ∷ []) ++ rest) × ((n ≡ 1) × (t ≤ 65535))
+    written s t rest true one e = let w = line-field .written s t rest e in (rw append-nil (w .0), (eqb-true n 1 one, w .1))
+    written s t rest false one e = nothing-read e
+
+-- the M section
+pub minute-inverse : Inverse readMinute (λ (t : ℕ). sectionText letterM (field lineFeed) (t ∷ [])) (λ (t : ℕ). t ≤ 65535)
+unfolding readMinute sectionText
+minute-inverse =
+    valid-as
+    (λ t. (λ v. v .1 .1, λ v. (omega arith, (refl, v))))
+    (bind (λ t. 1) (header-inverse letterM) minute-line-inverse (λ n t p q. sym (q .0)))
+
+-- hours that have the sections M and H, and whose numbers can be written
+abbrev pub WritableClock : Hours → Type 0
+WritableClock NoHours = ⊥
+WritableClock (At t windows) = WritableHours (At t windows)
+
+-- the minute that the hours say, 0 where they say none
+abbrev minuteOf : Hours → ℕ
+minuteOf NoHours = 0
+minuteOf (At t windows) = t
+
+-- the windows that the hours say
+abbrev windowsOf : Hours → List Window
+windowsOf NoHours = []
+windowsOf (At t windows) = windows
+
+-- the sections M and H
+pub clock-inverse : Inverse readClock hoursText WritableClock
+unfolding readClock
+clock-inverse =
+    text-as text
+    (valid-as valid
+    (bind-part (λ h. minuteOf h) (λ a h. refl) minute-inverse (λ t.
+    made (λ windows. At t windows) windowsOf (λ a v. refl) (section-inverse letterH window-inverse))))
+  where
+    valid : (h : Hours) → ((h ≡ At (minuteOf h) (windowsOf h)) × ((minuteOf h ≤ 65535) × WritableSection WritableWindow (windowsOf h))) ↔ WritableClock h
+    valid NoHours = (λ v. let z : _≡_ {A = ℕ} 0 1 = cc (v .0) in absurd (omega arith), λ v. absurd v)
+    valid (At t windows) = (λ v. v .1, λ v. (refl, v))
+
+    text : (h : Hours) → WritableClock h → sectionText letterM (field lineFeed) (minuteOf h ∷ []) ++ sectionText letterH windowText (windowsOf h) ≡ hoursText h
+    text NoHours v = absurd v
+    text (At t windows) v = refl
+
+-- the text of the hours in front of the D section is read as them
+hours-reads : (h : Hours) (lines : List OrderLine) (rest : List ℕ) → WritableHours h
+    → readHours (hoursText h ++ (sectionText letterD lineText lines ++ rest)) ≡ some (h, sectionText letterD lineText lines ++ rest)
+unfolding sectionText header
+hours-reads NoHours lines rest v = refl
+hours-reads (At t windows) lines rest v = clock-inverse .reads (At t windows) (sectionText letterD lineText lines ++ rest) v
+
+-- hours that are read stood there as text
+hours-written : (s : List ℕ) (h : Hours) (rest : List ℕ) → readHours s ≡ some (h, rest) → (s ≡ hoursText h ++ rest) × WritableHours h
+hours-written [] h rest e = let same = same-reading e in rw (← same .0) (same .1, tt)
+hours-written (c ∷ s) h rest e = go (eqb c letterM) e
+  where
+    known : (g : Hours) → WritableClock g → WritableHours g
+    known NoHours v = absurd v
+    known (At t windows) v = v
+
+    go : (b : Bool) → _≡_ {A = Reading Hours} (elim b [ true ↦ readClock (c ∷ s) | false ↦ some (NoHours, c ∷ s) ]) (some (h, rest))
+        → (c ∷ s ≡ hoursText h ++ rest) × WritableHours h
+    go true e = let w = clock-inverse .written (c ∷ s) h rest e in (w .0, known h (w .1))
+    go false e = let same = same-reading e in rw (← same .0) (same .1, tt)
+
+-- the sections behind S: M and H where they stand, and D
+hours-lines-inverse : (z : Layout × Policy) (records : List StockRecord)
+    → Inverse
+    (λ (s : List ℕ). readHours s >>= λ h. readSection letterD readLine (h .1) >>= λ l.
+    some (record { layout = z .0; policy = z .1; stock = records; hours = h .0; lines = l .0 }, l .1))
+    (λ (job : Job). hoursText (job .hours) ++ sectionText letterD lineText (job .lines))
+    (λ (job : Job). (job ≡ record { layout = z .0; policy = z .1; stock = records; hours = job .hours; lines = job .lines })
+    × (WritableHours (job .hours) × WritableSection WritableLine (job .lines)))
+hours-lines-inverse z records =
+    valid-as
+    (λ job. (λ v. (v .1 .0, (v .0, v .1 .1)), λ v. (v .1 .0, (v .0, v .1 .1))))
+    (bind-before readHours hoursText WritableHours (λ job. job .hours) (λ job rest v. hours-reads (job .hours) (job .lines) rest v) hours-written (λ h.
+    made (λ lines. record { layout = z .0; policy = z .1; stock = records; hours = h; lines = lines }) (λ job. job .lines) (λ a v. refl) (section-inverse letterD line-inverse))
+    (λ h job p q. ap (λ (j : Job). j .hours) (q .0)))
+
+-- all sections
 pub sections-inverse : Inverse readSections jobText Writable
 unfolding readSections jobText
 sections-inverse =
     valid-as
     (λ job. (
-      λ v. record { layout = v .1 .0 .0; posts = v .1 .0 .1; stock = v .1 .1 .0; lines = v .1 .1 .1 },
-      λ v. (refl, ((v .layout, v .posts), (v .stock, v .lines))),
+      λ v. record { layout = v .1 .0 .0; posts = v .1 .0 .1; stock = v .1 .1 .0; hours = v .1 .1 .1 .0; lines = v .1 .1 .1 .1 },
+      λ v. (refl, ((v .layout, v .posts), (v .stock, (v .hours, v .lines)))),
     ))
     (bind-part (λ job. (job .layout, job .policy)) (λ a job. refl) layout-section-inverse (λ z.
-    bind-part (λ job. job .stock) (λ a job. refl) (section-inverse letterS record-inverse) (λ records.
-    made (λ lines. record { layout = z .0; policy = z .1; stock = records; lines = lines }) (λ job. job .lines) (λ a v. refl) (section-inverse letterD line-inverse))))
+    bind-part (λ job. job .stock) (λ a job. refl) (section-inverse letterS record-inverse) (λ records. hours-lines-inverse z records)))
 
 -- what is read to the end leaves no bytes behind it
 at-end : {A : Type 0} {r : Reading A} {x : A} → atEnd r ≡ some x → r ≡ some (x, [])

@@ -14,12 +14,12 @@ use Rattle.rules.specs.declared.OrderLine.{OrderLine}
 use Rattle.rules.specs.declared.Pick.{Pick}
 use Rattle.rules.specs.Lists.{from, firstOf, Sorted}
 use Rattle.rules.specs.Store.{Point}
-use Rattle.rules.specs.Jobs.{Job}
+use Rattle.rules.specs.Jobs.{Job, openStock}
 use Rattle.rules.specs.Plans.{Plan, planPasses}
 use Rattle.rules.specs.Refusals.{Admitted}
 use Rattle.rules.specs.Picks.{cellsOf, lessOf, recordAt, taken, picksFrom, found, passedRecords, picksOf, TakenFrom, CellBefore, PickBefore}
 use Rattle.rules.proofs.Lists.{from-member, member-concat, concat-member, sorted-concat, sorted-map, sorted-from}
-use Rattle.rules.proofs.Admission.{stock-within, one-record-per-cell}
+use Rattle.rules.proofs.Admission.{stock-within, open-in-stock, one-record-per-cell}
 
 -- a pick takes from a record
 pub record FromRecord (x : Pick) (r : StockRecord) : Type 0 where
@@ -51,7 +51,7 @@ pick-record ls (r ∷ rs) x m = go (ltb 0 n) refl m (pick-record (lessOf (r .art
 
 -- a record of a passed cell
 record InCell (job : Job) (plan : Plan) (x : Point) (r : StockRecord) : Type 0 where
-  in-stock : List·Memᴰ r (job .stock)
+  in-stock : List·Memᴰ r (openStock job)
   aisle : r .aisle ≡ x .aisle
   cell : r .cell ≡ x .height
   passed : planPasses plan (x .aisle) (x .height) ≡ true
@@ -116,21 +116,21 @@ picks-sorted ls (r ∷ rs) s = go (ltb 0 (taken ls r)) (picks-sorted (lessOf (r 
 
 module _ (job : Job) (plan : Plan) where
   abbrev foundAt : Point → List StockRecord
-  foundAt x = found (planPasses plan (x .aisle) (x .height)) (recordAt (job .stock) x)
+  foundAt x = found (planPasses plan (x .aisle) (x .height)) (recordAt (openStock job) x)
 
   found-in : (x : Point) (r : StockRecord) → List·Memᴰ r (foundAt x) → InCell job plan x r
-  found-in x r m = go (planPasses plan (x .aisle) (x .height)) refl (recordAt (job .stock) x) refl m
+  found-in x r m = go (planPasses plan (x .aisle) (x .height)) refl (recordAt (openStock job) x) refl m
     where
-      go : (b : Bool) → planPasses plan (x .aisle) (x .height) ≡ b → (o : Option StockRecord) → recordAt (job .stock) x ≡ o → List·Memᴰ r (found b o) → InCell job plan x r
+      go : (b : Bool) → planPasses plan (x .aisle) (x .height) ≡ b → (o : Option StockRecord) → recordAt (openStock job) x ≡ o → List·Memᴰ r (found b o) → InCell job plan x r
       go b e none f k = absurd (List·Memᴰ·not-nil k)
       go true e (some q) f (List·Memᴰ·head h) =
-          let t = record-there (job .stock) x q f in
+          let t = record-there (openStock job) x q f in
           rw h (record { in-stock = t .0; aisle = t .1; cell = t .2; passed = e })
       go true e (some q) f (List·Memᴰ·tail k) = absurd (List·Memᴰ·not-nil k)
       go false e (some q) f k = absurd (List·Memᴰ·not-nil k)
 
   found-sorted : (x : Point) → Sorted RecordBefore (foundAt x)
-  found-sorted x = go (planPasses plan (x .aisle) (x .height)) (recordAt (job .stock) x)
+  found-sorted x = go (planPasses plan (x .aisle) (x .height)) (recordAt (openStock job) x)
     where
       go : (b : Bool) (o : Option StockRecord) → Sorted RecordBefore (found b o)
       go b none = tt
@@ -151,28 +151,28 @@ cell-member z j c a b =
 
 module _ (job : Job) (plan : Plan) where
   -- the passed records are those of the stock whose cells are passed
-  pub passed-record : (r : StockRecord) → List·Memᴰ r (passedRecords job plan) → List·Memᴰ r (job .stock) × (planPasses plan (r .aisle) (r .cell) ≡ true)
+  pub passed-record : (r : StockRecord) → List·Memᴰ r (passedRecords job plan) → List·Memᴰ r (openStock job) × (planPasses plan (r .aisle) (r .cell) ≡ true)
   unfolding passedRecords
   passed-record r m =
       let (x, i, k) = member-concat (foundAt job plan) (cellsOf (job .layout)) m in
       let h = found-in job plan x r k in
       (h .in-stock, ap₂ (planPasses plan) (h .aisle) (h .cell) ∙ h .passed)
 
-  pub passed-member : Admitted job → (r : StockRecord) → List·Memᴰ r (job .stock) → planPasses plan (r .aisle) (r .cell) ≡ true → List·Memᴰ r (passedRecords job plan)
+  pub passed-member : Admitted job → (r : StockRecord) → List·Memᴰ r (openStock job) → planPasses plan (r .aisle) (r .cell) ≡ true → List·Memᴰ r (passedRecords job plan)
   unfolding passedRecords recordAt
   passed-member a r m p =
-      let w = stock-within job .0 (a .stock) .records r m in
-      let found-there : List·Memᴰ r (foundAt job plan cell) = rw (p, its-record (recordAt (job .stock) cell) refl) (List·Memᴰ·head refl) in
+      let w = stock-within job .0 (a .stock) .records r (open-in-stock job r m) in
+      let found-there : List·Memᴰ r (foundAt job plan cell) = rw (p, its-record (recordAt (openStock job) cell) refl) (List·Memᴰ·head refl) in
       concat-member (foundAt job plan) (cell-member (job .layout) (r .aisle) (r .cell) (w .aisle) (w .cell)) found-there
     where
       cell : Point
       cell = record { aisle = r .aisle; height = r .cell }
 
-      its-record : (o : Option StockRecord) → recordAt (job .stock) cell ≡ o → o ≡ some r
+      its-record : (o : Option StockRecord) → recordAt (openStock job) cell ≡ o → o ≡ some r
       its-record none e =
           let itself : eqb (r .aisle) (r .aisle) && eqb (r .cell) (r .cell) ≡ true = rw (eq-eqb (r .aisle) (r .aisle) refl, eq-eqb (r .cell) (r .cell) refl) in
-          absurd (first-found (λ (q : StockRecord). eqb (q .aisle) (r .aisle) && eqb (q .cell) (r .cell)) r (job .stock) m itself e)
-      its-record (some q) e = let t = record-there (job .stock) cell q e in ap some (one-record-per-cell job (a .cells-once) q r (t .0) m (t .1) (t .2))
+          absurd (first-found (λ (q : StockRecord). eqb (q .aisle) (r .aisle) && eqb (q .cell) (r .cell)) r (openStock job) m itself e)
+      its-record (some q) e = let t = record-there (openStock job) cell q e in ap some (one-record-per-cell job (a .cells-once) q r (open-in-stock job q (t .0)) (open-in-stock job r m) (t .1) (t .2))
 
   -- each pick takes from a record of a passed cell
   pub pick-taken : (x : Pick) → List·Memᴰ x (picksOf job plan) → (r : StockRecord) × TakenFrom job plan x r

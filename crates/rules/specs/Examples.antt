@@ -9,6 +9,7 @@ use Rattle.rules.specs.declared.Posts.the-variants.{NoPosts, Every}
 use Rattle.rules.specs.declared.Policy.{Policy}
 use Rattle.rules.specs.declared.Policy.the-variants.{Exact, Return, Traversal, Midpoint, Composite, Largest}
 use Rattle.rules.specs.declared.StockRecord.{StockRecord}
+use Rattle.rules.specs.declared.Window.{Window}
 use Rattle.rules.specs.declared.OrderLine.{OrderLine}
 use Rattle.rules.specs.declared.Action.{Action}
 use Rattle.rules.specs.declared.Action.the-variants.{Void, Bottom, Top, Gap, Once, Twice}
@@ -20,8 +21,9 @@ use Rattle.rules.specs.declared.Refusal.{Refusal}
 use Rattle.rules.specs.declared.Run.{Run}
 use Rattle.rules.specs.Lists.{headOr}
 use Rattle.rules.specs.Store.{withPosts}
-use Rattle.rules.specs.Jobs.{Job, jobWithPosts}
-use Rattle.rules.specs.JobFile.{policyWord, layoutText, layoutSectionText, recordText, lineText, jobText}
+use Rattle.rules.specs.Hours.{NoHours, At}
+use Rattle.rules.specs.Jobs.{Job, jobWithPosts, jobWithHours}
+use Rattle.rules.specs.JobFile.{policyWord, layoutText, layoutSectionText, recordText, lineText, letterS, letterD, sectionText, hoursText, jobText}
 use Rattle.rules.specs.Refusals.{weight, jobRefusal, numberOf, bad, checkBytes}
 use Rattle.rules.specs.Looked.{lookedOn, lookedIn, handedOn, lookedText}
 use Rattle.rules.specs.Plans.{Plan, planLength, planPasses}
@@ -51,6 +53,7 @@ alpha lines policy =
       layout = record { aisles = 2; cells = 3; front = 2; pitch = 1; back = 2; width = 5; depot = 1; posts = NoPosts };
       policy = policy;
       stock = stocked 1 1 7 1 ∷ stocked 2 1 9 5 ∷ stocked 2 3 7 1 ∷ [];
+      hours = NoHours;
       lines = lines;
     }
 
@@ -61,6 +64,7 @@ beta policy =
       layout = record { aisles = 3; cells = 5; front = 1; pitch = 1; back = 1; width = 1; depot = 1; posts = NoPosts };
       policy = policy;
       stock = stocked 1 3 3 1 ∷ stocked 2 1 1 1 ∷ stocked 2 5 2 1 ∷ stocked 3 3 4 1 ∷ [];
+      hours = NoHours;
       lines = (1 ⨯ 1) ∷ (2 ⨯ 1) ∷ (3 ⨯ 1) ∷ (4 ⨯ 1) ∷ [];
     }
 
@@ -148,6 +152,7 @@ ownJob m c f p b w d stock lines policy =
       layout = record { aisles = m; cells = c; front = f; pitch = p; back = b; width = w; depot = d; posts = NoPosts };
       policy = policy;
       stock = stock;
+      hours = NoHours;
       lines = lines;
     }
 
@@ -393,7 +398,7 @@ stopLists =
 
 -- store α with other records
 unfoldable pub restocked : List StockRecord → List OrderLine → Job
-restocked stock lines = record { layout = alpha [] Exact .layout; policy = Exact; stock = stock; lines = lines }
+restocked stock lines = record { layout = alpha [] Exact .layout; policy = Exact; stock = stock; hours = NoHours; lines = lines }
 
 -- cases of request #105: jobs, and how many records the stock test looks at; each row against a misreading
 unfoldable pub lookedCases : List (Job × Option ℕ)
@@ -422,6 +427,97 @@ lookedCases =
 abbrev pub AllLooked : List (Job × Option ℕ) → Type 0
 AllLooked [] = Unit {0}
 AllLooked (x ∷ rest) = (lookedOn (x .0) ≡ x .1) × AllLooked rest
+
+-- a window: aisle from to
+unfoldable pub window : ℕ → ℕ → ℕ → Window
+window j a b = record { aisle = j; from = a; to = b }
+
+-- the same job at a minute of the day, with these windows
+unfoldable pub timed : ℕ → List Window → (Policy → Job) → Policy → Job
+timed t windows job policy = jobWithHours (At t windows) (job policy)
+
+-- store α with one of article 7, which is in cell 1 of aisle 1, the depot's, and in cell 3 of aisle 2; aisle 1 has these windows
+unfoldable pub sevenAt : ℕ → List (ℕ × ℕ) → Policy → Job
+sevenAt t windows = timed t (map (λ (w : ℕ × ℕ). window 1 (w .0) (w .1)) windows) (alpha ((7 ⨯ 1) ∷ []))
+
+-- it is taken from aisle 1, or else from aisle 2
+unfoldable pub inAisleOne : Expected
+inAisleOne = tour 4 (Bottom 1 ∷ Void ∷ []) (P00 ∷ [])
+
+unfoldable pub inAisleTwo : Expected
+inAisleTwo = tour 18 (Void ∷ Bottom 3 ∷ []) (P02 ∷ [])
+
+-- store α with 385 records, all in aisle 1
+unfoldable pub overstocked : Policy → Job
+overstocked = ownJob 2 3 2 1 2 5 1 (replicate 385 (stocked 1 1 7 1)) ((9 ⨯ 1) ∷ [])
+
+-- cases of request #106; each row against a misreading
+unfoldable pub hoursCases : List Case
+hoursCases =
+    underEvery (sevenAt 5 ((5, 6) ∷ [])) inAisleOne  -- open from the first minute of its window on
+    ∷ underEvery (sevenAt 6 ((5, 6) ∷ [])) inAisleTwo  -- and no longer at its end; the depot may lie at a shut aisle
+    ∷ under Exact (sevenAt 4 ((5, 6) ∷ [])) inAisleTwo  -- nor before its window
+    ∷ under Exact (sevenAt 5 ((0, 5) ∷ (5, 9) ∷ [])) inAisleOne  -- windows may touch
+    ∷ under Exact (sevenAt 5 ((3, 9) ∷ (0, 4) ∷ (4, 8) ∷ [])) inAisleOne  -- and overlap: one of them is enough
+    ∷ under Exact (sevenAt 5 ((4, 8) ∷ (0, 4) ∷ [])) inAisleOne  -- whichever line it is
+    ∷ under Exact (sevenAt 5 ((0, 3) ∷ (7, 9) ∷ [])) inAisleTwo  -- between two windows it is shut
+    ∷ under Exact (sevenAt 1439 []) inAisleOne  -- an aisle without lines is open; the last minute
+    ∷ under Exact (timed 9 (window 2 5 6 ∷ []) (alpha ((7 ⨯ 1) ∷ []))) inAisleOne  -- whatever lines another aisle has
+    ∷ under Exact (timed 6 (window 2 0 9 ∷ window 1 5 6 ∷ []) (alpha ((7 ⨯ 1) ∷ []))) inAisleTwo  -- another aisle's window does not open it
+    ∷ under Exact (sevenAt 1439 ((1439, 1440) ∷ [])) inAisleOne  -- to may be 1440
+    ∷ under Exact (sevenAt 0 (replicate 64 (0, 1))) inAisleOne  -- 64 lines
+    ∷ underEvery (timed 6 (window 1 5 6 ∷ []) (alpha ((7 ⨯ 2) ∷ []))) (refusal 8)  -- 8 counts open aisles only
+    ∷ underEvery (timed 6 (window 2 5 6 ∷ []) (alpha ((9 ⨯ 1) ∷ []))) (refusal 8)  -- all aisles with the article are shut
+    ∷ underEvery (timed 6 (window 1 0 9 ∷ window 2 5 6 ∷ []) (alpha ((9 ⨯ 1) ∷ []))) (refusal 8)  -- whatever lines another aisle has
+    ∷ under Exact (timed 5 (window 1 5 6 ∷ []) (alpha ((9 ⨯ 1) ∷ []))) (bothOnce true)  -- EXACT may walk through an open aisle for nothing
+    ∷ under Exact (timed 6 (window 1 5 6 ∷ []) (alpha ((9 ⨯ 1) ∷ []))) (bothOnce false)  -- but not through a shut one
+    ∷ underEvery (sevenAt 1440 []) (refusal 12)  -- a minute above 1439
+    ∷ underEvery (sevenAt 0 (replicate 65 (0, 1))) (refusal 12)  -- 65 lines
+    ∷ underEvery (timed 0 (window 0 0 1 ∷ []) (alpha [])) (refusal 12)  -- aisle 0
+    ∷ underEvery (timed 0 (window 3 0 1 ∷ []) (alpha [])) (refusal 12)  -- aisle 3 of two
+    ∷ under Exact (timed 0 (window 2 0 1 ∷ []) (alpha ((9 ⨯ 1) ∷ []))) (tour 14 (Void ∷ Bottom 1 ∷ []) (P02 ∷ []))  -- aisle 2 of two
+    ∷ underEvery (sevenAt 5 ((5, 5) ∷ [])) (refusal 12)  -- from is not below to
+    ∷ underEvery (sevenAt 5 ((0, 1441) ∷ [])) (refusal 12)  -- to above 1440
+    ∷ underEvery (sevenAt 5 ((0, 9) ∷ (7, 6) ∷ [])) (refusal 12)  -- every line counts
+    ∷ underEvery (timed 1440 [] sharedCell) (refusal 4)  -- 12 is tried after 4
+    ∷ underEvery (timed 1440 [] (alpha nineLines)) (refusal 12)  -- and before 5
+    ∷ underEvery (timed 6 (window 1 5 6 ∷ []) wrongStock) (refusal 3)  -- 3 goes by the records of shut aisles too
+    ∷ underEvery (timed 6 (window 1 5 6 ∷ []) overstocked) (refusal 3)  -- and so does its count
+    ∷ underEvery (timed 6 (window 1 5 6 ∷ []) sharedCell) (refusal 4)  -- and so does 4
+    ∷ []
+
+-- of jobs with hours, the records that the stock test looks at
+unfoldable pub hoursLooked : List (Job × Option ℕ)
+hoursLooked =
+    (sevenAt 6 ((5, 6) ∷ []) Exact, some 3)  -- the record of a shut aisle is looked at and holds nothing
+    ∷ (sevenAt 5 ((5, 6) ∷ []) Exact, some 1)  -- that of an open one holds
+    ∷ (sevenAt 1440 [] Exact, none)  -- 12 stops the job before 8
+    ∷ []
+
+-- the file of case 1 with these bytes between its sections S and D
+unfoldable pub beforeList : List ℕ → List ℕ
+beforeList bytes =
+    let job = alpha ((9 ⨯ 1) ∷ []) Exact in
+    layoutSectionText (job .layout) Exact
+    ++ (sectionText letterS recordText (job .stock) ++ (bytes ++ sectionText letterD lineText (job .lines)))
+
+-- what the program prints where there is no job file
+unfoldable pub noJobFile : List ℕ
+noJobFile = 82 ∷ 32 ∷ 49 ∷ 10 ∷ 49 ∷ 10 ∷ []  -- R 1, 1
+
+-- texts with the sections M and H, the stops of a shut aisle, and where the sections may stand
+unfoldable pub hoursTexts : List (List ℕ × List ℕ)
+hoursTexts =
+    (hoursText (At 5 (window 1 2 3 ∷ [])), 77 ∷ 32 ∷ 49 ∷ 10 ∷ 53 ∷ 10 ∷ 72 ∷ 32 ∷ 49 ∷ 10 ∷ 49 ∷ 32 ∷ 50 ∷ 32 ∷ 51 ∷ 10 ∷ [])  -- M 1, 5, H 1, 1 2 3
+    ∷ (jobText (timed 5 [] (alpha ((9 ⨯ 1) ∷ [])) Exact), beforeList (77 ∷ 32 ∷ 49 ∷ 10 ∷ 53 ∷ 10 ∷ 72 ∷ 32 ∷ 48 ∷ 10 ∷ []))  -- M 1, 5, H 0 between S and D
+    ∷ (stopsOn (timed 6 (window 2 5 6 ∷ []) listedInGap Largest) 2 (fromFront 4), 0 ∷ [])  -- no cell of a shut aisle is a stop
+    ∷ (output (beforeList (77 ∷ 32 ∷ 49 ∷ 10 ∷ 49 ∷ 52 ∷ 52 ∷ 48 ∷ 10 ∷ 72 ∷ 32 ∷ 48 ∷ 10 ∷ [])), 82 ∷ 32 ∷ 49 ∷ 10 ∷ 49 ∷ 50 ∷ 10 ∷ [])  -- R 1, 12: M 1, 1440, H 0
+    ∷ (output (beforeList (77 ∷ 32 ∷ 48 ∷ 10 ∷ 72 ∷ 32 ∷ 48 ∷ 10 ∷ [])), noJobFile)  -- M 0, H 0
+    ∷ (output (beforeList (77 ∷ 32 ∷ 50 ∷ 10 ∷ 53 ∷ 10 ∷ 54 ∷ 10 ∷ 72 ∷ 32 ∷ 48 ∷ 10 ∷ [])), noJobFile)  -- M 2, 5, 6, H 0
+    ∷ (output (beforeList (77 ∷ 32 ∷ 49 ∷ 10 ∷ 53 ∷ 10 ∷ [])), noJobFile)  -- M 1, 5
+    ∷ (output (beforeList (72 ∷ 32 ∷ 48 ∷ 10 ∷ [])), noJobFile)  -- H 0
+    ∷ (output (beforeList (72 ∷ 32 ∷ 48 ∷ 10 ∷ 77 ∷ 32 ∷ 49 ∷ 10 ∷ 53 ∷ 10 ∷ [])), noJobFile)  -- H 0, M 1, 5
+    ∷ []
 
 -- an L section with posts
 unfoldable pub twoLines : List ℕ
@@ -496,6 +592,7 @@ overfull few more =
       layout = alpha [] Exact .layout;
       policy = Exact;
       stock = replicate few (stocked 1 1 1 1) ++ replicate more (stocked 1 1 10 1);
+      hours = NoHours;
       lines = (9 ⨯ 1) ∷ [];
     }
 

@@ -1,4 +1,4 @@
--- Document 01, "Job file": the text of a job, and reading bytes as a job.
+-- Document 01, "Job file", with the sections of request #106: the text of a job, and reading bytes as a job.
 use Prim.Native.Nat.{ℕ, zero, suc, _+_, _*_, _-_, _≤_, _/_, _%_}
 use mathlib.Core.List.{List, [], _∷_, _++_, List·Memᴰ}
 use mathlib.Core.Bool.{Bool, true, false, _&&_, not}
@@ -11,9 +11,11 @@ use Rattle.rules.specs.declared.Layout.{Layout}
 use Rattle.rules.specs.declared.Policy.{Policy}
 use Rattle.rules.specs.declared.Policy.the-variants.{Exact, Return, Traversal, Midpoint, Composite, Largest}
 use Rattle.rules.specs.declared.StockRecord.{StockRecord}
+use Rattle.rules.specs.declared.Window.{Window}
 use Rattle.rules.specs.declared.OrderLine.{OrderLine}
 use Rattle.rules.specs.Lists.{concatOf}
 use Rattle.rules.specs.Store.{withPosts}
+use Rattle.rules.specs.Hours.{Hours, NoHours, At}
 use Rattle.rules.specs.Jobs.{Job}
 
 -- one space separates fields
@@ -76,16 +78,26 @@ layoutLines (Every k u) = 2
 unfoldable pub recordText : StockRecord → List ℕ
 recordText r = field space (r .aisle) ++ (field space (r .cell) ++ (field space (r .article) ++ field lineFeed (r .quantity)))
 
+-- a line of the H section: aisle from to
+unfoldable pub windowText : Window → List ℕ
+windowText w = field space (w .aisle) ++ (field space (w .from) ++ field lineFeed (w .to))
+
 -- a line of the D section: article quantity
 unfoldable pub lineText : OrderLine → List ℕ
 lineText l = field space (l .article) ++ field lineFeed (l .quantity)
 
--- the section letters L, S, D
+-- the section letters L, S, M, H, D
 abbrev pub letterL : ℕ
 letterL = 76  -- L
 
 abbrev pub letterS : ℕ
 letterS = 83  -- S
+
+abbrev pub letterM : ℕ
+letterM = 77  -- M
+
+abbrev pub letterH : ℕ
+letterH = 72  -- H
 
 abbrev pub letterD : ℕ
 letterD = 68  -- D
@@ -98,11 +110,17 @@ layoutSectionText z policy = header letterL (layoutLines (z .posts)) ++ (layoutT
 unfoldable pub sectionText : {A : Type 0} → ℕ → (A → List ℕ) → List A → List ℕ
 sectionText letter text xs = header letter (length xs) ++ concatOf text xs
 
--- the text of a job: the sections L, S, D
+-- the sections M and H, where they stand: the one line of M is the minute
+abbrev pub hoursText : Hours → List ℕ
+hoursText NoHours = []
+hoursText (At t windows) = sectionText letterM (field lineFeed) (t ∷ []) ++ sectionText letterH windowText windows
+
+-- the text of a job: the sections L, S, D, and M and H before D
 unfoldable pub jobText : Job → List ℕ
 jobText job =
     layoutSectionText (job .layout) (job .policy)
-    ++ (sectionText letterS recordText (job .stock) ++ sectionText letterD lineText (job .lines))
+    ++ (sectionText letterS recordText (job .stock)
+    ++ (hoursText (job .hours) ++ sectionText letterD lineText (job .lines)))
 
 -- what reading gives: the value and the bytes behind it, or nothing
 abbrev pub Reading : Type 0 → Type 0
@@ -223,6 +241,14 @@ readRecord s = do
   (q, s) ← readField lineFeed s
   some (record { aisle = j; cell = c; article = a; quantity = q }, s)
 
+-- a line of the H section
+unfoldable pub readWindow : List ℕ → Reading Window
+readWindow s = do
+  (j, s) ← readField space s
+  (a, s) ← readField space s
+  (b, s) ← readField lineFeed s
+  some (record { aisle = j; from = a; to = b }, s)
+
 -- a line of the D section
 unfoldable pub readLine : List ℕ → Reading OrderLine
 readLine s = do
@@ -252,13 +278,32 @@ readLayoutSection s = do
   (posts, s) ← readPosts n s
   some ((withPosts posts (z .0), z .1), s)
 
--- the sections L, S and D
+-- the M section, whose count is 1; other counts are no job file
+unfoldable pub readMinute : List ℕ → Reading ℕ
+readMinute s = do
+  (n, s) ← readHeader letterM s
+  elim (eqb n 1) [ true ↦ readField lineFeed s | false ↦ none ]
+
+-- the sections M and H
+unfoldable pub readClock : List ℕ → Reading Hours
+readClock s = do
+  (t, s) ← readMinute s
+  (windows, s) ← readSection letterH readWindow s
+  some (At t windows, s)
+
+-- both of them where an M stands here; else neither
+abbrev pub readHours : List ℕ → Reading Hours
+readHours [] = some (NoHours, [])
+readHours (c ∷ s) = elim (eqb c letterM) [ true ↦ readClock (c ∷ s) | false ↦ some (NoHours, c ∷ s) ]
+
+-- the sections L, S and D, and M and H before D
 unfoldable pub readSections : List ℕ → Reading Job
 readSections s = do
   (z, s) ← readLayoutSection s
   (records, s) ← readSection letterS readRecord s
+  (hours, s) ← readHours s
   (lines, s) ← readSection letterD readLine s
-  some (record { layout = z .0; policy = z .1; stock = records; lines = lines }, s)
+  some (record { layout = z .0; policy = z .1; stock = records; hours = hours; lines = lines }, s)
 
 -- nothing follows the last line
 abbrev pub atEnd : {A : Type 0} → Reading A → Option A
@@ -296,6 +341,12 @@ pub record WritableRecord (r : StockRecord) : Type 0 where
   pub article : r .article ≤ 65535
   pub quantity : r .quantity ≤ 65535
 
+-- a window whose numbers can be written in a job file
+pub record WritableWindow (w : Window) : Type 0 where
+  pub aisle : w .aisle ≤ 65535
+  pub from : w .from ≤ 65535
+  pub to : w .to ≤ 65535
+
 -- an order line whose numbers can be written in a job file
 pub record WritableLine (l : OrderLine) : Type 0 where
   pub article : l .article ≤ 65535
@@ -306,9 +357,15 @@ pub record WritableSection {A : Type 0} (Line : A → Type 0) (xs : List A) : Ty
   pub count : length xs ≤ 65535
   pub each : (x : A) → List·Memᴰ x xs → Line x
 
+-- hours whose numbers can
+abbrev pub WritableHours : Hours → Type 0
+WritableHours NoHours = Unit {0}
+WritableHours (At t windows) = (t ≤ 65535) × WritableSection WritableWindow windows
+
 -- a job whose numbers can be written in a job file: each is at most 65,535
 pub record Writable (job : Job) : Type 0 where
   pub layout : WritableLayout (job .layout)
   pub posts : WritablePosts (job .layout .posts)
   pub stock : WritableSection WritableRecord (job .stock)
+  pub hours : WritableHours (job .hours)
   pub lines : WritableSection WritableLine (job .lines)

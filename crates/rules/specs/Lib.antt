@@ -1,5 +1,6 @@
 pub mod Lists
 pub mod Store
+pub mod Hours
 pub mod Jobs
 pub mod JobFile
 pub mod Refusals

@@ -8,13 +8,13 @@ use lib.ListN.{length, take}
 use Rattle.rules.specs.declared.OrderLine.{OrderLine}
 use Rattle.rules.specs.declared.Refusal.{Refusal}
 use Rattle.rules.specs.Lists.{from, sumOf, select, headOr}
-use Rattle.rules.specs.Jobs.{Job}
+use Rattle.rules.specs.Jobs.{Job, jobWithStock}
 use Rattle.rules.specs.JobFile.{lineFeed, field, readJob}
 use Rattle.rules.specs.Refusals.{allStock, numberOf, jobRefusal}
 
 -- the job with the first n records from the top of its S section, and no others
 unfoldable pub withFirst : ℕ → Job → Job
-withFirst n job = record { layout = job .layout; policy = job .policy; stock = take n (job .stock); lines = job .lines }
+withFirst n job = jobWithStock (take n (job .stock)) job
 
 -- the first n records hold a line's quantity of its article
 unfoldable pub firstHold : Job → OrderLine → ℕ → Bool

@@ -13,6 +13,7 @@ use Rattle.rules.specs.declared.Passage.{Passage}
 use Rattle.rules.specs.declared.Passage.the-variants.{P00, P02, P11, P20, P22}
 use Rattle.rules.specs.Lists.{allOf, headOr}
 use Rattle.rules.specs.Store.{position}
+use Rattle.rules.specs.Hours.{isOpen}
 use Rattle.rules.specs.Jobs.{Job, emptyList, holdsListed, cellHoldsListed}
 use Rattle.rules.specs.Plans.{Plan}
 use Rattle.rules.specs.Policies.{actionNamed, passageNamed, halved, Part, partsOf, turnOf, stopsOn, untrodden, through}
@@ -108,7 +109,7 @@ betweenTest Midpoint job j a = halved (job .layout) a
 betweenTest Composite job j a = halved (job .layout) a
 betweenTest Largest job j a = keepsLargestGap job j a
 
--- whether the policy lets an aisle be entered: EXACT any, the others those that hold an article of the list
+-- whether the policy lets an open aisle be entered: EXACT any, the others those that hold an article of the list
 abbrev pub mayEnter : Policy → Bool → Bool
 mayEnter Exact holds = true
 mayEnter Return holds = holds
@@ -116,6 +117,10 @@ mayEnter Traversal holds = holds
 mayEnter Midpoint holds = holds
 mayEnter Composite holds = holds
 mayEnter Largest holds = holds
+
+-- whether aisle j may be entered: it is open, and the policy lets it be
+abbrev pub enterable : Job → ℕ → Bool
+enterable job j = isOpen (job .hours) j && mayEnter (job .policy) (holdsListed job j)
 
 -- VOID is always possible
 abbrev pub isVoid : Action → Bool
@@ -128,8 +133,7 @@ isVoid Twice = false
 
 -- the action is possible in aisle j under the job's policy
 unfoldable pub actionPossible : Job → ℕ → Action → Bool
-actionPossible job j a =
-    actionNamed (job .policy) a && (isVoid a || mayEnter (job .policy) (holdsListed job j))
+actionPossible job j a = actionNamed (job .policy) a && (isVoid a || enterable job j)
 
 -- the state after the action of aisle j
 unfoldable pub actionStep : Job → ℕ → Action → State → State

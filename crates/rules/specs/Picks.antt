@@ -13,7 +13,7 @@ use Rattle.rules.specs.declared.OrderLine.{OrderLine}
 use Rattle.rules.specs.declared.Pick.{Pick}
 use Rattle.rules.specs.Lists.{from, concatOf, sumOf, firstOf}
 use Rattle.rules.specs.Store.{Point}
-use Rattle.rules.specs.Jobs.{Job}
+use Rattle.rules.specs.Jobs.{Job, openStock}
 use Rattle.rules.specs.Plans.{Plan, planPasses}
 
 -- all cells, through aisles, then cells, upwards
@@ -54,18 +54,18 @@ found passed none = []
 found true (some r) = r ∷ []
 found false (some r) = []
 
--- the records of the passed cells, in the order of the cells
+-- the records of the passed cells that count, in the order of the cells
 unfoldable pub passedRecords : Job → Plan → List StockRecord
 passedRecords job plan =
-    concatOf (λ (x : Point). found (planPasses plan (x .aisle) (x .height)) (recordAt (job .stock) x)) (cellsOf (job .layout))
+    concatOf (λ (x : Point). found (planPasses plan (x .aisle) (x .height)) (recordAt (openStock job) x)) (cellsOf (job .layout))
 
 -- the picks of a plan
 unfoldable pub picksOf : Job → Plan → List Pick
 picksOf job plan = picksFrom (job .lines) (passedRecords job plan)
 
--- a pick takes from a record of the stock, in a cell that the plan passes: more than nothing, and no more than there is
+-- a pick takes from a record of the stock that counts, in a cell that the plan passes: more than nothing, and no more than there is
 pub record TakenFrom (job : Job) (plan : Plan) (x : Pick) (r : StockRecord) : Type 0 where
-  pub in-stock : List·Memᴰ r (job .stock)
+  pub in-stock : List·Memᴰ r (openStock job)
   pub passed : planPasses plan (r .aisle) (r .cell) ≡ true
   pub aisle : x .aisle ≡ r .aisle
   pub cell : x .cell ≡ r .cell

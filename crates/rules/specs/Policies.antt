@@ -1,4 +1,4 @@
--- Document 01, "Policies", and request #104, LARGEST: the plans that a job's policy allows.
+-- Document 01, "Policies", request #104, LARGEST, and request #106, shut aisles: the plans that a job's policy allows.
 use Prim.Native.Nat.{ℕ, zero, suc, _+_, _*_, _-_, _%_, _≤_, _<_}
 use mathlib.Core.Path.{_≡_}
 use mathlib.Core.List.{List, [], _∷_, _++_, List·Memᴰ}
@@ -13,6 +13,7 @@ use Rattle.rules.specs.declared.Passage.{Passage}
 use Rattle.rules.specs.declared.Passage.the-variants.{P00, P02, P11, P20, P22}
 use Rattle.rules.specs.Lists.{from, sumOf, anyOf, select}
 use Rattle.rules.specs.Store.{along, aisleLength, position, backHeight, distance}
+use Rattle.rules.specs.Hours.{Hours, isOpen}
 use Rattle.rules.specs.Jobs.{Job, holdsListed, cellHoldsListed}
 use Rattle.rules.specs.Plans.{Plan, Kind, VOID, BOTTOM, TOP, GAP, ONCE, TWICE, kindOf, kindRank, actionAt, passageAt, aisleTreads, backTreads, frontTreads, entered}
 use Rattle.rules.specs.Lawful.{LawfulFor}
@@ -182,7 +183,12 @@ Follows Midpoint job plan = PolicyRules job plan
 Follows Composite job plan = PolicyRules job plan
 Follows Largest job plan = PolicyRules job plan
 
--- the plans that the job's policy allows: those that are lawful for its list and follow it
+-- a shut aisle is VOID
+unfoldable pub ShutVoid : Hours → Plan → Type 0
+ShutVoid hours plan = (j : ℕ) → isOpen hours j ≡ false → actionAt plan j ≡ Void
+
+-- the plans that the job's policy allows: those that are lawful for its list, follow it and keep out of shut aisles
 pub record Allowed (job : Job) (plan : Plan) : Type 0 where
   pub lawful : LawfulFor (job .layout) (job .lines) plan
   pub follows : Follows (job .policy) job plan
+  pub shut : ShutVoid (job .hours) plan

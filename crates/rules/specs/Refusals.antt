@@ -1,5 +1,5 @@
 -- Document 01, the bounds of "The store" and the table of refusals: causes, numbers, what is left, the first that applies;
--- request #103: row 11.
+-- request #103: row 11; request #106: row 12.
 use Prim.Native.Nat.{ℕ, suc, _+_, _≤_}
 use mathlib.Core.Path.{_≡_}
 use mathlib.Core.List.{List, [], _∷_, _++_, List·Memᴰ}
@@ -11,10 +11,12 @@ use Rattle.rules.specs.declared.Layout.{Layout}
 use Rattle.rules.specs.declared.StockRecord.{StockRecord}
 use Rattle.rules.specs.declared.OrderLine.{OrderLine}
 use Rattle.rules.specs.declared.Refusal.{Refusal}
-use Rattle.rules.specs.declared.Refusal.the-variants.{WorkArea, NotAJobFile, LayoutBounds, StockBounds, CellTwice, ListBounds, ArticleTwice, TooHeavy, ShortOfStock, SheetSpace, PageSpace}
+use Rattle.rules.specs.declared.Refusal.the-variants.{WorkArea, NotAJobFile, LayoutBounds, StockBounds, CellTwice, HoursBounds}
+use Rattle.rules.specs.declared.Refusal.the-variants.{ListBounds, ArticleTwice, TooHeavy, ShortOfStock, SheetSpace, PageSpace}
 use Rattle.rules.specs.Lists.{sumOf, productOf, allOf, anyOf, anyTwo}
 use Rattle.rules.specs.Store.{within, layoutInBounds}
-use Rattle.rules.specs.Jobs.{Job}
+use Rattle.rules.specs.Hours.{hoursInBounds}
+use Rattle.rules.specs.Jobs.{Job, openStock}
 use Rattle.rules.specs.JobFile.{readJob}
 use Rattle.rules.specs.Sheet.{sheetText}
 use Rattle.rules.specs.Page.{pageText}
@@ -75,9 +77,9 @@ weight lines = productOf (λ (l : OrderLine). l .quantity + 1) lines
 abbrev pub weightLimit : ℕ
 weightLimit = 256
 
--- all the stock of an article: the sum of the quantities in its records
+-- all the stock of an article: the sum of the quantities in its records that count, those of open aisles
 unfoldable pub allStock : Job → ℕ → ℕ
-allStock job a = sumOf (λ (r : StockRecord). cond (eqb (r .article) a) (r .quantity) 0) (job .stock)
+allStock job a = sumOf (λ (r : StockRecord). cond (eqb (r .article) a) (r .quantity) 0) (openStock job)
 
 -- some line exceeds all the stock of its article
 unfoldable pub shortOfStock : Job → Bool
@@ -98,7 +100,7 @@ ofJob none test = false
 ofJob (some job) test = test job
 
 -- the table of refusals, top to bottom: whether the cause applies, and the refusal;
--- for what the job bytes read as, a lent sheet and a lent work area
+-- for what the job bytes read as, a lent sheet and a lent work area. (Request #106 has its row tried between 4 and 5)
 abbrev pub table : Option Job → List ℕ → List ℕ → List (Bool × Refusal)
 table read sheet work =
     (ltb (length work) workLimit, WorkArea)
@@ -106,6 +108,7 @@ table read sheet work =
     ∷ (ofJob read (λ job. not (layoutInBounds (job .layout))), LayoutBounds)
     ∷ (ofJob read (λ job. not (stockInBounds job)), StockBounds)
     ∷ (ofJob read (λ job. anyTwo sameCell (job .stock)), CellTwice)
+    ∷ (ofJob read (λ job. not (hoursInBounds (job .layout .aisles) (job .hours))), HoursBounds)
     ∷ (ofJob read (λ job. not (listInBounds job)), ListBounds)
     ∷ (ofJob read (λ job. anyTwo sameArticle (job .lines)), ArticleTwice)
     ∷ (ofJob read (λ job. ltb weightLimit (weight (job .lines))), TooHeavy)
@@ -125,6 +128,7 @@ numberOf NotAJobFile = 1
 numberOf LayoutBounds = 2
 numberOf StockBounds = 3
 numberOf CellTwice = 4
+numberOf HoursBounds = 12
 numberOf ListBounds = 5
 numberOf ArticleTwice = 6
 numberOf TooHeavy = 7
@@ -143,6 +147,7 @@ workAfter NotAJobFile work = work
 workAfter LayoutBounds work = work
 workAfter StockBounds work = work
 workAfter CellTwice work = work
+workAfter HoursBounds work = work
 workAfter ListBounds work = work
 workAfter ArticleTwice work = work
 workAfter TooHeavy work = work
@@ -156,9 +161,9 @@ firstRow [] = none
 firstRow ((true, r) ∷ rows) = some r
 firstRow ((false, r) ∷ rows) = firstRow rows
 
--- the rows that a job alone decides, 2 to 8
+-- the rows that a job alone decides, 2 to 8 and 12
 unfoldable pub jobRows : Job → List (Bool × Refusal)
-jobRows job = take 7 (drop 2 (table (some job) [] []))
+jobRows job = take 8 (drop 2 (table (some job) [] []))
 
 -- the refusal of a job that could be read: the first that applies, or none
 unfoldable pub jobRefusal : Job → Option Refusal
@@ -173,7 +178,7 @@ pub data Checked : Type 0 where
 unfoldable pub checkJob : Job → Checked
 checkJob job = elim (jobRefusal job) [ none ↦ good job | some r ↦ bad r ]
 
--- the refusals 1 to 8, in table order
+-- the refusals 1 to 8 and 12, in table order
 unfoldable pub checkBytes : List ℕ → Checked
 checkBytes bytes = elim (readJob bytes) [ none ↦ bad NotAJobFile | some job ↦ checkJob job ]
 
@@ -182,6 +187,7 @@ pub record Admitted (job : Job) : Type 0 where
   pub layout : layoutInBounds (job .layout) ≡ true
   pub stock : stockInBounds job ≡ true
   pub cells-once : anyTwo sameCell (job .stock) ≡ false
+  pub hours : hoursInBounds (job .layout .aisles) (job .hours) ≡ true
   pub list : listInBounds job ≡ true
   pub articles-once : anyTwo sameArticle (job .lines) ≡ false
   pub light : weight (job .lines) ≤ weightLimit

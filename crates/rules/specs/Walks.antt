@@ -1,4 +1,4 @@
--- Document 01, "Plans" and "Policies": steps and closed walks.
+-- Document 01, "Plans" and "Policies": steps and closed walks; request #106: those that keep out of shut aisles.
 use Prim.Native.Nat.{ℕ, zero, suc, _+_, _-_, _≤_, _<_}
 use mathlib.Core.Path.{_≡_}
 use mathlib.Core.List.{List, [], _∷_}
@@ -9,7 +9,8 @@ use Rattle.rules.specs.declared.Layout.{Layout}
 use Rattle.rules.specs.declared.Direction.{Direction}
 use Rattle.rules.specs.declared.Direction.the-variants.{Back, Front, Left, Right}
 use Rattle.rules.specs.Lists.{sumOf, anyOf}
-use Rattle.rules.specs.Store.{Point, Edge, along, front, back, distance, depotPoint, backHeight, sameEdge, samePoint}
+use Rattle.rules.specs.Store.{Point, Edge, along, front, back, distance, InStore, depotPoint, backHeight, sameEdge, samePoint}
+use Rattle.rules.specs.Hours.{Hours, isOpen}
 
 -- a crossing: the front or the back one
 unfoldable pub isCrossing : Layout → Point → Bool
@@ -96,3 +97,7 @@ pub data NotAfter : Walk → Walk → Type 0 where
   same : {w : Walk} → NotAfter w w
   earlier : {d e : Direction} {v w : Walk} → letterRank d < letterRank e → NotAfter (d ∷ v) (e ∷ w)
   later : {d : Direction} {v w : Walk} → NotAfter v w → NotAfter (d ∷ v) (d ∷ w)
+
+-- a walk that treads no edge of a shut aisle; it may pass the aisle's crossings
+unfoldable pub KeepsToOpen : Layout → Hours → Walk → Type 0
+KeepsToOpen z hours walk = (j k : ℕ) → isOpen hours j ≡ false → InStore z (along j k) → walkTreads z walk (along j k) ≡ 0

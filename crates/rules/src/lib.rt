@@ -37,6 +37,13 @@ pub struct StockRecord {
     pub quantity: usize,
 }
 
+// A line of the H section ("window"): an aisle, and the minutes of the day from which it is open and before which.
+pub struct Window {
+    pub aisle: u16,
+    pub from: u16,
+    pub to: u16,
+}
+
 // An order line ("list line"): an article and how much of it is ordered.
 pub struct OrderLine {
     pub article: usize,
@@ -84,13 +91,14 @@ pub struct Pick {
     pub quantity: usize,
 }
 
-// The causes of a refusal, in the order of document 01's table; behind them that of request #103.
+// The causes of a refusal, in the order of document 01's table; among them that of request #106, behind them that of #103.
 pub enum Refusal {
     WorkArea,
     NotAJobFile,
     LayoutBounds,
     StockBounds,
     CellTwice,
+    HoursBounds,
     ListBounds,
     ArticleTwice,
     TooHeavy,

@@ -22,7 +22,7 @@ use Rattle.rules.specs.declared.Run.{Run}
 use Rattle.rules.specs.declared.Direction.{Direction}
 use Rattle.rules.specs.Lists.{from, concatOf, sumOf, firstOf}
 use Rattle.rules.specs.Store.{Point, LayoutWithin}
-use Rattle.rules.specs.Jobs.{Job}
+use Rattle.rules.specs.Jobs.{Job, openStock}
 use Rattle.rules.specs.Plans.{Plan, planPasses, planLength, Fits, WellFormed}
 use Rattle.rules.specs.Walks.{Walk, letterRank}
 use Rattle.rules.specs.FirstWalk.{firstWalk}
@@ -34,7 +34,7 @@ use Rattle.rules.proofs.Lists.{sum-below, member-concat}
 use Rattle.rules.proofs.Numbers.{numeral-induction}
 use Rattle.rules.proofs.Lengths.{well-formed-fits}
 use Rattle.rules.proofs.Ceiling.{plan-length-57280}
-use Rattle.rules.proofs.Admission.{layout-within, stock-within}
+use Rattle.rules.proofs.Admission.{layout-within, stock-within, open-in-stock}
 use Rattle.lines.specs.Written.{policyText}
 use Rattle.lines.proofs.Sizes.{digits-most, field-size, header-size, run-size, total-size, pick-size}
 
@@ -133,12 +133,13 @@ found-some b none r m = absurd (List·Memᴰ·not-nil m)
 found-some true (some s) r m = ap some (sym (List·Memᴰ·eq-of-singleton m))
 found-some false (some s) r m = absurd (List·Memᴰ·not-nil m)
 
-passed-member : (job : Job) (plan : Plan) (r : StockRecord) → List·Memᴰ r (passedRecords job plan) → List·Memᴰ r (job .stock)
+passed-member : (job : Job) (plan : Plan) (r : StockRecord) → List·Memᴰ r (passedRecords job plan) → List·Memᴰ r (openStock job)
 unfolding passedRecords recordAt
 passed-member job plan r m =
-    let q = member-concat (λ (x : Point). found (planPasses plan (x .aisle) (x .height)) (recordAt (job .stock) x)) (cellsOf (job .layout)) m in
+    let q = member-concat (λ (x : Point). found (planPasses plan (x .aisle) (x .height)) (recordAt (openStock job) x)) (cellsOf (job .layout)) m in
     let x = q .0 in
-    first-member (λ (s : StockRecord). eqb (s .aisle) (x .aisle) && eqb (s .cell) (x .height)) (job .stock) r (found-some (planPasses plan (x .aisle) (x .height)) (recordAt (job .stock) x) r (q .2))
+    let there = found-some (planPasses plan (x .aisle) (x .height)) (recordAt (openStock job) x) r (q .2) in
+    first-member (λ (s : StockRecord). eqb (s .aisle) (x .aisle) && eqb (s .cell) (x .height)) (openStock job) r there
 
 -- at most one pick for each passed record
 picks-count : (lacking : List OrderLine) (rs : List StockRecord) → length (picksFrom lacking rs) ≤ length rs
@@ -177,8 +178,8 @@ cells-most z w = omega (arith, concat-most row 24 (from 1 (z .aisles)) row-most,
 picks-most : (job : Job) (plan : Plan) → LayoutWithin (job .layout) → length (picksOf job plan) ≤ 384
 unfolding picksOf passedRecords
 picks-most job plan w =
-    let given : Point → List StockRecord = λ x. found (planPasses plan (x .aisle) (x .height)) (recordAt (job .stock) x) in
-    let records = concat-most given 1 (cellsOf (job .layout)) (λ x. found-most (planPasses plan (x .aisle) (x .height)) (recordAt (job .stock) x)) in
+    let given : Point → List StockRecord = λ x. found (planPasses plan (x .aisle) (x .height)) (recordAt (openStock job) x) in
+    let records = concat-most given 1 (cellsOf (job .layout)) (λ x. found-most (planPasses plan (x .aisle) (x .height)) (recordAt (openStock job) x)) in
     omega (arith, picks-count (job .lines) (passedRecords job plan), records, cells-most (job .layout) w)
 
 -- a pick's line
@@ -186,7 +187,8 @@ pick-most : (job : Job) (plan : Plan) → Admitted job → (p : Pick) → List·
 unfolding picksOf
 pick-most job plan ok p m =
     let d = drawn (job .lines) (passedRecords job plan) p m in
-    let w = stock-within job .0 (ok .stock) .records (d .source) (passed-member job plan (d .source) (d .member)) in
+    let source-in = open-in-stock job (d .source) (passed-member job plan (d .source) (d .member)) in
+    let w = stock-within job .0 (ok .stock) .records (d .source) source-in in
     let z = layout-within (job .layout) .0 (ok .layout) in
     let aisle = digits-most 1 (p .aisle) (omega (arith, d .aisle, w .aisle, z .aisles)) in
     let cell = digits-most 1 (p .cell) (omega (arith, d .cell, w .cell, z .cells)) in

@@ -2,6 +2,7 @@
 use mathlib.Core.List.{[], _∷_}
 use Rattle.rules.specs.declared.Policy.the-variants.{Exact, Midpoint}
 use Rattle.rules.specs.declared.Posts.the-variants.{NoPosts}
+use Rattle.rules.specs.Hours.{NoHours}
 use Rattle.rules.specs.Jobs.{Job}
 use Rattle.rules.specs.Examples.{stocked, _⨯_, alpha}
 
@@ -16,5 +17,6 @@ topJob =
       layout = record { aisles = 3; cells = 2; front = 1; pitch = 3; back = 2; width = 1; depot = 1; posts = NoPosts };
       policy = Midpoint;
       stock = stocked 1 2 5 1 ∷ stocked 3 2 4 2 ∷ stocked 2 2 3 1 ∷ stocked 1 1 5 2 ∷ stocked 3 1 3 2 ∷ [];
+      hours = NoHours;
       lines = (3 ⨯ 3) ∷ (5 ⨯ 1) ∷ (4 ⨯ 1) ∷ [];
     }

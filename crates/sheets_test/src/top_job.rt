@@ -33,7 +33,7 @@ pub fn lines() -> [OrderLine; 8]
     lines
 }
 
-// What its cells hold.
+// What its cells hold, and that its aisles are open.
 pub fn shelf() -> Shelf
     ensures { λ r. ⌜ ShelfOf topJob r ⌝ }
 {
@@ -52,6 +52,7 @@ pub fn shelf() -> Shelf
     Shelf {
         line: line,
         quantity: quantity,
+        open: [true; 16],
     }
 }
 

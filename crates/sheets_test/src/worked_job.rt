@@ -24,7 +24,7 @@ pub fn lines() -> [OrderLine; 8]
     }; 8]
 }
 
-// What its cells hold.
+// What its cells hold, and that its aisles are open.
 pub fn shelf() -> Shelf
     ensures { λ r. ⌜ ShelfOf workedJob r ⌝ }
 {
@@ -37,6 +37,7 @@ pub fn shelf() -> Shelf
     Shelf {
         line: line,
         quantity: quantity,
+        open: [true; 16],
     }
 }
 

@@ -2,7 +2,7 @@
 use Prim.Native.Nat.{ℕ, _≤_, _<_}
 use native.Mathlib.Omega.{arith}
 use mathlib.Core.Path.{_≡_, refl, sym, ap}
-use mathlib.Core.Bool.{Bool, true, false, cond}
+use mathlib.Core.Bool.{Bool, true, false, cond, _||_}
 use lib.Dec.{ltb, leb, eqb}
 use borrow.Author.Tests.{ltb-true, ltb-false, eqb-true, eqb-false, lt-ltb, le-ltb, le-leb, lt-leb, ne-eqb}
 use Rattle.rules.specs.declared.Policy.{Policy}
@@ -11,10 +11,10 @@ use Rattle.rules.specs.declared.Action.{Action}
 use Rattle.rules.specs.declared.Action.the-variants.{Void, Bottom, Top, Gap, Once, Twice}
 use Rattle.rules.specs.declared.Passage.{Passage}
 use Rattle.rules.specs.Plans.{Fits}
-use Rattle.rules.specs.Jobs.{Job, holdsListed}
+use Rattle.rules.specs.Jobs.{Job}
 use Rattle.rules.proofs.Stops.{gapFrom, gapTo}
 use Rattle.rules.specs.Policies.{passageNamed, through}
-use Rattle.rules.specs.Machine.{State, dead, keepsLargestGap, betweenTest, actionPossible, actionStep, crossStep, passageStep}
+use Rattle.rules.specs.Machine.{State, dead, keepsLargestGap, betweenTest, mayEnter, enterable, actionPossible, actionStep, crossStep, passageStep}
 use Rattle.machine.specs.States.{stateCode, stateOf}
 use Rattle.machine.specs.Steps.{policyOf, policyCode, kindCode, bit, crossOf}
 use Rattle.machine.specs.Tables.{asksGap}
@@ -33,6 +33,15 @@ bit-of-flag false = refl
 pub flag-below : (b : Bool) → flagOf b < 2
 flag-below true = omega arith
 flag-below false = omega arith
+
+-- a policy lets an open aisle be entered that holds a listed article, or any
+pub entered : (policy : Policy) (holds : Bool) → mayEnter policy holds ≡ (mayEnter policy false || holds)
+entered Exact holds = refl
+entered Return holds = refl
+entered Traversal holds = refl
+entered Midpoint holds = refl
+entered Composite holds = refl
+entered Largest holds = refl
 
 kind-of-candidate : (cells : ℕ) (a : Action) → candidateOf cells a .kind ≡ kindCode a
 kind-of-candidate cells Void = refl
@@ -78,8 +87,8 @@ module _ (job : Job) (j : ℕ) (few : job .layout .cells ≤ 24) where
   pub step-code : (a : Action) → Fits (job .layout .cells) a → (s : ℕ) → stepCode (aisleOf job j) (candidateOf (job .layout .cells) a) s ≡ stateCode (actionStep job j a (stateOf s))
   unfolding stepCode aisleOf actionStep actionPossible
   step-code a fits s =
-      rw (policy-of-code (job .policy), kind-of-candidate (job .layout .cells) a, bit-of-flag (holdsListed job j), between-code a fits)
-      (ap stateCode (by-kind (job .policy) (betweenTest (job .policy) job j) a (holdsListed job j) (stateOf s)))
+      rw (policy-of-code (job .policy), kind-of-candidate (job .layout .cells) a, bit-of-flag (enterable job j), between-code a fits)
+      (ap stateCode (by-kind (job .policy) (betweenTest (job .policy) job j) a (enterable job j) (stateOf s)))
 
 -- where an aisle lies answers the three tests on the depot
 record Tests (d j side : ℕ) : Type 0 where

@@ -3,20 +3,21 @@ use Prim.Native.Nat.{ℕ, zero, suc, _+_, _*_, _-_, _≤_, _<_}
 use native.Mathlib.Omega.{arith}
 use mathlib.Core.Path.{_≡_, refl, sym, _∙_, ap, ap₂, subst}
 use mathlib.Core.List.{List}
-use mathlib.Core.Bool.{Bool, true, false, cond, _&&_}
+use mathlib.Core.Bool.{Bool, true, false, cond, _&&_, _||_}
 use lib.Dec.{eqb}
 use borrow.Author.Tests.{eqb-true, eqb-false, eq-eqb, ne-eqb}
 use lib.ListN.{length, getD, set, replicate, length-set, length-replicate, getD-replicate}
 use lib.Seq.{getD-set-same, getD-set-other}
 use Rattle.rules.specs.declared.Layout.{Layout}
 use Rattle.rules.specs.declared.Action.the-variants.{Bottom, Top}
+use Rattle.rules.specs.Hours.{isOpen}
 use Rattle.rules.specs.Jobs.{Job, holdsListed}
 use Rattle.rules.specs.Refusals.{weight, Admitted}
-use Rattle.rules.specs.Machine.{isClosed}
+use Rattle.rules.specs.Machine.{isClosed, mayEnter, enterable}
 use Rattle.optimum.specs.Routing.{noTour}
 use Rattle.machine.specs.States.{stateOf}
-use Rattle.machine.specs.Steps.{bit, policyCode}
-use Rattle.machine.proofs.StepLaws.{policy-code-below}
+use Rattle.machine.specs.Steps.{bit, policyOf}
+use Rattle.machine.proofs.StepLaws.{policy-of-code, policy-code-below}
 use Rattle.demand.specs.Maps.{mapSize, MapsAsked, MapsReady}
 use Rattle.demand.proofs.Composition.{met-zero}
 use Rattle.table.specs.declared.filling.Order.{Order}
@@ -30,7 +31,7 @@ use Rattle.aisles.specs.Layers.{InRange, AisleReady, RowFilled}
 use Rattle.table.specs.Crossings.{AfterFilled}
 use Rattle.table.specs.TableHolds.{sideOf, flagOf, triedAt, OrderOf, aisleOf, RowHolds, AfterHolds, endRow}
 use Rattle.aisles.proofs.Geometry.{within}
-use Rattle.table.proofs.StepLaws.{flag-below, side-below}
+use Rattle.table.proofs.StepLaws.{flag-below, entered, side-below}
 use Rattle.table.proofs.TableValues.{below-weight, after-value, row-value}
 
 -- the only closed state has the number 1
@@ -98,7 +99,7 @@ tried-five (suc n) = omega arith
 -- an aisle by its numbers
 abbrev aisle-with : Layout → ℕ → ℕ → ℕ → ℕ → ℕ → Between → Aisle
 aisle-with z p h w side tried b =
-    record { layout = z; policy = p; holds = h; weight = w; side = side; tried = tried; between = b }
+    record { layout = z; policy = p; may = h; weight = w; side = side; tried = tried; between = b }
 
 -- the numbers of an aisle of an admitted job are in range
 aisle-range : (job : Job) → Admitted job → (j : ℕ) → InRange (aisleOf job j)
@@ -107,7 +108,7 @@ aisle-range job ok j =
     record {
       bounds = ok .layout;
       policy-below = policy-code-below (job .policy);
-      holds-below = flag-below (holdsListed job j);
+      may-below = flag-below (enterable job j);
       small = ok .light;
       side-below = side-below (job .layout .depot) j;
       few = tried-five (job .layout .aisles - j);
@@ -136,6 +137,12 @@ module _ (job : Job) (o : Order) (of : OrderOf job o) where
   order-few = omega (arith, order-aisles, within (job .layout) (of .admitted .layout) .aisles .1)
 
   module _ (j : ℕ) (low : 1 ≤ j) (high : j ≤ o .layout .aisles) where
+    -- the aisle is one of a store's, and so are its cells
+    pub order-small : (o .layout .cells ≤ 24) × (1 ≤ j) × (j ≤ 16)
+    order-small =
+        let cells = within (job .layout) (of .admitted .layout) .cells .1 in
+        (omega (arith, ap (λ (z : Layout). z .cells) (of .layout)), low, omega (arith, order-few))
+
     -- what the maps of an aisle are made from
     pub maps-asked : MapsAsked job (o .shelf) (o .digits) (o .layout .cells) j
     maps-asked =
@@ -147,13 +154,28 @@ module _ (job : Job) (o : Order) (of : OrderOf job o) where
           aisle = (low, omega (arith, order-aisles));
         }
 
+    -- the shelf tells whether the aisle is open
+    flag-open : getD (o .shelf .open) (j - 1) false ≡ isOpen (job .hours) j
+    flag-open = of .shelf .open-at j low (order-small .2)
+
+    -- a shut aisle may not be entered, an open one if the policy enters any or if it holds a listed article
+    pub enter-shut : getD (o .shelf .open) (j - 1) false ≡ false → enterable job j ≡ false
+    enter-shut e = rw (sym flag-open ∙ e) refl
+
+    pub enter-open : getD (o .shelf .open) (j - 1) false ≡ true → (any : Bool) → any ≡ mayEnter (policyOf (o .policy)) false
+        → enterable job j ≡ (any || holdsListed job j)
+    enter-open e any a =
+        let known : any ≡ mayEnter (job .policy) false = a ∙ ap (λ p. mayEnter p false) (ap policyOf (of .policy) ∙ policy-of-code (job .policy)) in
+        rw (sym flag-open ∙ e, known) (entered (job .policy) (holdsListed job j))
+
   -- the numbers of an aisle, one by one
-  pub aisle-is : (j h side tried : ℕ) (b : Between) → bit h ≡ holdsListed job j → h < 2 → side ≡ sideOf (o .layout .depot) j → tried ≡ triedAt (o .layout .aisles - j)
+  pub aisle-is : (j h side tried : ℕ) (b : Between) → bit h ≡ enterable job j → h < 2 → side ≡ sideOf (o .layout .depot) j
+      → tried ≡ triedAt (o .layout .aisles - j)
       → b ≡ betweenOf (asksGap (job .policy)) job j
       → aisle-with (o .layout) (o .policy) h (o .digits .weight) side tried b ≡ aisleOf job j
   unfolding aisleOf
-  aisle-is j h side tried b listed flag side-is tried-is b-is =
-      rw (side-is, tried-is, flag-is h (holdsListed job j) listed flag, of .policy, of .digits .counted, of .layout, b-is) refl
+  aisle-is j h side tried b may flag side-is tried-is b-is =
+      rw (side-is, tried-is, flag-is h (enterable job j) may flag, of .policy, of .digits .counted, of .layout, b-is) refl
 
 -- an aisle of a job, given as such
 module _ (job : Job) (j : ℕ) (x : Aisle) (x-is : x ≡ aisleOf job j) where

@@ -5,8 +5,8 @@ use mathlib.Core.List.{List}
 use mathlib.Core.Bool.{Bool, cond}
 use lib.Dec.{ltb, eqb}
 use lib.ListN.{length, getD, set, replicate}
-use Rattle.rules.specs.Jobs.{Job, holdsListed}
-use Rattle.rules.specs.Machine.{State}
+use Rattle.rules.specs.Jobs.{Job}
+use Rattle.rules.specs.Machine.{State, enterable}
 use Rattle.rules.specs.Refusals.{Admitted, weight}
 use Rattle.optimum.specs.Table.{afterAction, value}
 use Rattle.optimum.specs.Demand.{radices, demandOf}
@@ -49,7 +49,7 @@ aisleOf job j =
     record {
       layout = job .layout;
       policy = policyCode (job .policy);
-      holds = flagOf (holdsListed job j);
+      may = flagOf (enterable job j);
       weight = weight (job .lines);
       side = sideOf (job .layout .depot) j;
       tried = triedAt (job .layout .aisles - j);

@@ -9,26 +9,43 @@ use demand::maps::fill_maps;
 use demand::shelf::holds_listed;
 use demand::shelf::listed_cells;
 use machine::asks_gap;
+use machine::enters_any;
 use rows::NONE;
 use rows::NUMBERS;
 use rules::Layout;
 use rules::Policy;
 use values::Shelf;
 ghost use Prim.Native.Nat.{_+_, _-_, _<_, _≤_};
-ghost use Rattle.machine.specs.Steps.{policyCode};
+ghost use Rattle.machine.specs.Steps.{bit, policyCode};
 ghost use Rattle.rules.specs.Jobs.{Job};
+ghost use Rattle.rules.specs.Machine.{enterable};
 ghost use Rattle.rows.specs.Rows.{workArea};
 ghost use Rattle.table.specs.TableHolds.{BehindAsked, BehindFilled, LayerAsked, LayerFilled, OrderOf, TableFrom, aisleOf, endRow, sideOf, triedAt};
 ghost use lib.ListN.{length, replicate};
 ghost use mathlib.Core.Path.{_≡_};
 
-// What the table needs of a job: the layout, the number of the policy, what each cell holds for the order lines, and the order
-// lines as digits.
+// What the table needs of a job: the layout, the number of the policy, what each cell holds for the order lines and which
+// aisles are open, and the order lines as digits.
 pub struct Order {
     pub layout: Layout,
     pub policy: usize,
     pub shelf: Shelf,
     pub digits: Digits,
+}
+
+// Whether aisle j may be entered, as 0 or 1: it is open, and the policy enters any open aisle, or it holds a listed article.
+fn may_enter(o: Order, j: usize) -> usize
+    requires { ⌜ ((job : Job) × OrderOf job o) × (1 ≤ j) × (j ≤ o .layout .aisles) ⌝ }
+    ensures { λ r. ⌜ (r < 2) × ((job : Job) → OrderOf job o → bit r ≡ enterable job j) ⌝ }
+{
+    let shelf = o.shelf;
+    if !shelf.open[j - 1] {
+        return 0;
+    }
+    if enters_any(o.policy) {
+        return 1;
+    }
+    holds_listed(shelf, o.layout.cells, j)
 }
 
 // What the rows need of aisle j.
@@ -37,7 +54,7 @@ pub fn aisle_of(o: Order, j: usize) -> Aisle
     ensures { λ r. ⌜ ((job : Job) → OrderOf job o → r ≡ aisleOf job j) ⌝ }
 {
     let layout = o.layout;
-    let holds = holds_listed(o.shelf, o.layout.cells, j);
+    let may = may_enter(o, j);
     let side = side_of(o.layout.depot, j);
     let tried = tried_of(o.layout.aisles, j);
     let listed = listed_cells(o.shelf, o.layout.cells, j);
@@ -45,7 +62,7 @@ pub fn aisle_of(o: Order, j: usize) -> Aisle
     Aisle {
         layout,
         policy: o.policy,
-        holds,
+        may,
         weight: o.digits.weight,
         side,
         tried,

@@ -21,7 +21,7 @@ use Rattle.rules.specs.declared.StockRecord.{StockRecord}
 use Rattle.rules.specs.declared.OrderLine.{OrderLine}
 use Rattle.rules.specs.Store.{position, aisleLength, LayoutWithin}
 use Rattle.rules.specs.Lists.{from, nth, sumOf, anyOf}
-use Rattle.rules.specs.Jobs.{Job, jobUnder, listed, holdsListed}
+use Rattle.rules.specs.Jobs.{Job, jobUnder, openStock, listed, holdsListed}
 use Rattle.rules.specs.Plans.{Plan, WellFormed, Fits, actionAt, passesCell, planPasses}
 use Rattle.rules.specs.Policies.{Allowed, actionNamed, passageNamed, inFrontHalf, inBackHalf, halved}
 use Rattle.rules.specs.Serving.{supply, Serves, PlanServes}
@@ -30,7 +30,8 @@ use Rattle.rules.specs.Machine.{State, nothing, closed, atFront, odd, joined, e
 use Rattle.rules.specs.Machine.{isVoid, mayEnter, actionPossible, actionStep, passageStep, runFrom, isClosed, closesOff, accepts}
 use Rattle.rules.proofs.Lists.{any-true, from-member, sum-agree}
 use Rattle.rules.specs.BestPlan.{emptyPlan}
-use Rattle.rules.proofs.Admission.{layout-within, stock-within, list-within, lines-in-stock, admitted-under}
+use Rattle.rules.proofs.Admission.{layout-within, stock-within, list-within, lines-in-stock, admitted-under, open-in-stock}
+use Rattle.rules.proofs.Jobs.{holding-open}
 use Rattle.rules.proofs.EmptyPlan.{empty-well-formed}
 use Rattle.rules.proofs.EmptyList.{closed-accepted, empty-accepted, empty-serves}
 use Rattle.tours.proofs.Basics.{split-at, true-not-false, or-true}
@@ -274,7 +275,7 @@ module _ (job : Job) (direct : Direct (job .policy)) (within : LayoutWithin (job
       go : (b : Bool) → holdsListed job j ≡ b → Ready (job .policy) (b || more) s → Done j more s
       go true e r =
           let t = enter job (within .cells .0) j (job .policy) more direct r in
-          record { action = t .0; fits = t .1 .fits; passes = λ h. t .1; behind = rw e (t .2) }
+          record { action = t .0; fits = t .1 .fits; passes = λ h. t .1; behind = rw (holding-open job j e, e) (t .2) }
       go false e r =
           record { action = Void; fits = tt; passes = λ h. absurd (true-not-false (sym h ∙ e)); behind = rw (by-void (job .policy)) (as-before r) }
 
@@ -345,14 +346,14 @@ module _ (job : Job) (a : Admitted job) where
   within : LayoutWithin (job .layout)
   within = layout-within (job .layout) .0 (a .layout)
 
-  -- each record is within its bounds
-  record-in : (r : StockRecord) → List·Memᴰ r (job .stock) → RecordWithin (job .layout) r
-  record-in = stock-within job .0 (a .stock) .records
+  -- each record that counts is within its bounds
+  record-in : (r : StockRecord) → List·Memᴰ r (openStock job) → RecordWithin (job .layout) r
+  record-in r n = stock-within job .0 (a .stock) .records r (open-in-stock job r n)
 
   -- the aisle of a record of a line's article holds a listed article
-  holds : (l : OrderLine) (r : StockRecord) → List·Memᴰ l (job .lines) → List·Memᴰ r (job .stock) → r .article ≡ l .article → holdsListed job (r .aisle) ≡ true
+  holds : (l : OrderLine) (r : StockRecord) → List·Memᴰ l (job .lines) → List·Memᴰ r (openStock job) → r .article ≡ l .article → holdsListed job (r .aisle) ≡ true
   unfolding holdsListed
-  holds l r m n e = any-true (λ (s : StockRecord). eqb (s .aisle) (r .aisle) && listed job (s .article)) (job .stock) .1 (
+  holds l r m n e = any-true (λ (s : StockRecord). eqb (s .aisle) (r .aisle) && listed job (s .article)) (openStock job) .1 (
     r,
     n,
     both (eqb (r .aisle) (r .aisle)) (listed job (r .article)) (eq-eqb (r .aisle) (r .aisle) refl)
@@ -369,7 +370,7 @@ module _ (job : Job) (a : Admitted job) where
   some-aisle some-line =
       let list = list-within job .0 (a .list) in
       let (l, m) = first (job .lines) some-line in
-      let (r, n, t) = some-term (λ (r : StockRecord). cond (eqb (r .article) (l .article)) (r .quantity) 0) (job .stock) (omega (arith, in-stock l m, list .lines l m .quantity .0)) in
+      let (r, n, t) = some-term (λ (r : StockRecord). cond (eqb (r .article) (l .article)) (r .quantity) 0) (openStock job) (omega (arith, in-stock l m, list .lines l m .quantity .0)) in
       let e = eqb-true (r .article) (l .article) (told (eqb (r .article) (l .article)) (r .quantity) t) in
       let w = record-in r n .aisle in
       any-true (holdsListed job) (from 1 (job .layout .aisles)) .1 (r .aisle, from-member (r .aisle) 1 (job .layout .aisles) (w .0) (omega arith), holds l r m n e)
@@ -385,9 +386,9 @@ module _ (job : Job) (a : Admitted job) where
   -- where all cells of the aisles with a listed article are passed, the supply is all the stock
   whole-stock : (plan : Plan) → ((j : ℕ) → 1 ≤ j → j ≤ job .layout .aisles → holdsListed job j ≡ true → Whole (job .layout .cells) (actionAt plan j)) → PlanServes job plan
   unfolding PlanServes Serves supply allStock planPasses
-  whole-stock plan h l m = omega (arith, in-stock l m, sum-agree _ _ (job .stock) (λ r n. go r n (eqb (r .article) (l .article)) refl))
+  whole-stock plan h l m = omega (arith, in-stock l m, sum-agree _ _ (openStock job) (λ r n. go r n (eqb (r .article) (l .article)) refl))
     where
-      go : (r : StockRecord) → List·Memᴰ r (job .stock) → (b : Bool) → eqb (r .article) (l .article) ≡ b
+      go : (r : StockRecord) → List·Memᴰ r (openStock job) → (b : Bool) → eqb (r .article) (l .article) ≡ b
           → cond (eqb (r .article) (l .article)) (r .quantity) 0 ≡ cond (eqb (r .article) (l .article) && passesCell (actionAt plan (r .aisle)) (r .cell)) (r .quantity) 0
       go r n true e =
           let w = record-in r n in

@@ -5,7 +5,7 @@ use native.Mathlib.Omega.{arith}
 use mathlib.Core.Path.{_≡_, refl, sym, _∙_, ap, subst}
 use mathlib.Core.Logic.{_⊎_, inl, inr}
 use mathlib.Core.List.{List, [], _∷_, tail, List·Memᴰ, List·Memᴰ·head, List·Memᴰ·tail}
-use mathlib.Core.Bool.{Bool, true, false, cond, _&&_}
+use mathlib.Core.Bool.{Bool, true, false, cond, _&&_, and-eq-true-iff}
 use borrow.Author.Tests.{eqb-true, eq-eqb}
 use lib.Dec.{eqb}
 use lib.ListN.{length}
@@ -18,17 +18,19 @@ use Rattle.rules.specs.declared.StockRecord.{StockRecord}
 use Rattle.rules.specs.declared.OrderLine.{OrderLine}
 use Rattle.rules.specs.Store.{LayoutWithin}
 use Rattle.rules.specs.Lists.{nth, headOr, sumOf}
-use Rattle.rules.specs.Jobs.{Job, jobUnder, listed, holdsListed, cellHoldsListed}
+use Rattle.rules.specs.Hours.{isOpen}
+use Rattle.rules.specs.Jobs.{Job, jobUnder, openStock, listed, holdsListed, cellHoldsListed}
 use Rattle.rules.specs.Plans.{Plan, WellFormed, Fits, actionAt, passesCell, planPasses, planLength}
 use Rattle.rules.specs.Policies.{halved, through}
 use Rattle.rules.specs.Lengths.{actionLength}
 use Rattle.rules.specs.Serving.{supply, Serves, PlanServes}
 use Rattle.rules.specs.Refusals.{Admitted}
 use Rattle.rules.specs.Machine.{State, nothing, closed, atFront, atBack, odd, joined, split, ending, dead}
-use Rattle.rules.specs.Machine.{row, midpointBy, keepsLargestGap, actionPossible, actionStep, passageStep, runFrom, isClosed, closesOff}
+use Rattle.rules.specs.Machine.{row, midpointBy, keepsLargestGap, enterable, actionPossible, actionStep, passageStep, runFrom, isClosed, closesOff}
 use Rattle.rules.proofs.Lists.{any-true}
 use Rattle.rules.proofs.Lengths.{plan-length, well-formed-fits}
-use Rattle.rules.proofs.Admission.{layout-within, stock-within}
+use Rattle.rules.proofs.Admission.{layout-within, stock-within, open-in-stock}
+use Rattle.rules.proofs.Jobs.{holding-open}
 use Rattle.tours.proofs.Basics.{true-not-false}
 use Rattle.tours.proofs.Parity.{Live}
 use Rattle.tours.proofs.Runs.{is-closed, live-test, live-action, live-passage, run-live}
@@ -100,11 +102,16 @@ module _ (job : Job) where
   keeps-odd : (j : ℕ) (b : Action) → holdsListed job j ≡ true → keepsLargestGap underLargest j b ≡ true → actionStep underLargest j b odd ≡ odd
   unfolding actionStep actionPossible holdsListed listed
   keeps-odd j Void h k = refl
-  keeps-odd j (Bottom i) h k = rw (h, k) refl
-  keeps-odd j (Top i) h k = rw (h, k) refl
-  keeps-odd j (Gap g i) h k = rw (h, k) refl
+  keeps-odd j (Bottom i) h k = rw (holding-open job j h, h, k) refl
+  keeps-odd j (Top i) h k = rw (holding-open job j h, h, k) refl
+  keeps-odd j (Gap g i) h k = rw (holding-open job j h, h, k) refl
   keeps-odd j Once h k = absurd (true-not-false (sym k ∙ largest-laws underLargest .once j))
   keeps-odd j Twice h k = absurd (true-not-false (sym k ∙ largest-laws underLargest .twice j))
+
+  -- an aisle that MIDPOINT lets be entered holds a listed article
+  enterable-holds : (j : ℕ) → enterable underMidpoint j ≡ true → holdsListed job j ≡ true
+  unfolding holdsListed listed
+  enterable-holds j e = and-eq-true-iff (isOpen (job .hours) j) (holdsListed job j) .0 e .1
 
   -- an action instead of a, after which LARGEST's state is MIDPOINT's after a
   abbrev Step : ℕ → State → Action → Type 0
@@ -135,9 +142,9 @@ module _ (job : Job) where
     odd-step : (j : ℕ) (a : Action) → Fits (job .layout .cells) a → Live (actionStep underMidpoint j a odd) → Step j odd a
     unfolding actionPossible holdsListed listed
     odd-step j Void f live = unasked-step j odd Void f (λ x y. refl)
-    odd-step j (Bottom i) f live = asked-step j (Bottom i) f refl (λ x. refl) (λ h. h) live
-    odd-step j (Top i) f live = asked-step j (Top i) f refl (λ x. refl) (λ h. h) live
-    odd-step j (Gap h i) f live = asked-step j (Gap h i) f refl (λ x. refl) (λ h. h) live
+    odd-step j (Bottom i) f live = asked-step j (Bottom i) f refl (λ x. refl) (enterable-holds j) live
+    odd-step j (Top i) f live = asked-step j (Top i) f refl (λ x. refl) (enterable-holds j) live
+    odd-step j (Gap h i) f live = asked-step j (Gap h i) f refl (λ x. refl) (enterable-holds j) live
     odd-step j Once f live = unasked-step j odd Once f (λ x y. refl)
     odd-step j Twice f live = unasked-step j odd Twice f (λ x y. refl)
 
@@ -174,11 +181,11 @@ unfolding listed
 line-listed job l a m e = any-true (λ (k : OrderLine). eqb (k .article) a) (job .lines) .1 (l, m, eq-eqb (l .article) a (sym e))
 
 -- the cell of a record of a line's article holds a listed article
-cell-holds : (job : Job) (l : OrderLine) (r : StockRecord) → List·Memᴰ l (job .lines) → List·Memᴰ r (job .stock) → r .article ≡ l .article
+cell-holds : (job : Job) (l : OrderLine) (r : StockRecord) → List·Memᴰ l (job .lines) → List·Memᴰ r (openStock job) → r .article ≡ l .article
     → cellHoldsListed job (r .aisle) (r .cell) ≡ true
 unfolding cellHoldsListed
 cell-holds job l r m n e =
-    any-true (λ (s : StockRecord). eqb (s .aisle) (r .aisle) && eqb (s .cell) (r .cell) && listed job (s .article)) (job .stock) .1
+    any-true (λ (s : StockRecord). eqb (s .aisle) (r .aisle) && eqb (s .cell) (r .cell) && listed job (s .article)) (openStock job) .1
     (r, n, rw (eq-eqb (r .aisle) (r .aisle) refl, eq-eqb (r .cell) (r .cell) refl, line-listed job l (r .article) m e))
 
 module _ (job : Job) (admitted : Admitted job) where
@@ -187,12 +194,12 @@ module _ (job : Job) (admitted : Admitted job) where
       → ((j c : ℕ) → 1 ≤ c → c ≤ job .layout .cells → cellHoldsListed job j c ≡ true → p j c ≡ true → q j c ≡ true)
       → Serves job p → Serves job q
   unfolding Serves supply
-  serves-on p q more served l m = omega (arith, served l m, sum-monotone _ _ (job .stock) (λ r n. go r n (eqb (r .article) (l .article)) refl (p (r .aisle) (r .cell)) refl))
+  serves-on p q more served l m = omega (arith, served l m, sum-monotone _ _ (openStock job) (λ r n. go r n (eqb (r .article) (l .article)) refl (p (r .aisle) (r .cell)) refl))
     where
-      go : (r : StockRecord) → List·Memᴰ r (job .stock) → (b : Bool) → eqb (r .article) (l .article) ≡ b → (c : Bool) → p (r .aisle) (r .cell) ≡ c
+      go : (r : StockRecord) → List·Memᴰ r (openStock job) → (b : Bool) → eqb (r .article) (l .article) ≡ b → (c : Bool) → p (r .aisle) (r .cell) ≡ c
           → cond (eqb (r .article) (l .article) && p (r .aisle) (r .cell)) (r .quantity) 0 ≤ cond (eqb (r .article) (l .article) && q (r .aisle) (r .cell)) (r .quantity) 0
       go r n true e true h =
-          let w = stock-within job .0 (admitted .stock) .records r n .cell in
+          let w = stock-within job .0 (admitted .stock) .records r (open-in-stock job r n) .cell in
           rw (e, h, more (r .aisle) (r .cell) (w .0) (w .1) (cell-holds job l r m n (eqb-true (r .article) (l .article) e)) h) (omega arith)
       go r n true e false h = rw (e, h) (omega arith)
       go r n false e c h = rw e (omega arith)

@@ -2,7 +2,7 @@
 use Prim.Native.Nat.{ℕ, zero, suc, _≤_}
 use mathlib.Core.Path.{_≡_, refl, sym, _∙_}
 use mathlib.Core.Logic.{_↔_}
-use mathlib.Core.Bool.{Bool, true, false, _&&_, _||_}
+use mathlib.Core.Bool.{Bool, true, false, _&&_, _||_, and-false, or-false}
 use Rattle.rules.specs.declared.Layout.{Layout}
 use Rattle.rules.specs.declared.Policy.{Policy}
 use Rattle.rules.specs.declared.Policy.the-variants.{Exact, Return, Traversal, Midpoint, Composite, Largest}
@@ -10,14 +10,16 @@ use Rattle.rules.specs.declared.Action.{Action}
 use Rattle.rules.specs.declared.Action.the-variants.{Void, Bottom, Top, Gap, Once, Twice}
 use Rattle.rules.specs.declared.Passage.{Passage}
 use Rattle.rules.specs.declared.Passage.the-variants.{P00, P02, P11, P20, P22}
+use Rattle.rules.specs.Hours.{isOpen}
 use Rattle.rules.specs.Jobs.{Job, holdsListed}
 use Rattle.rules.specs.Plans.{Plan, WellFormed, actionAt, passageAt}
 use Rattle.rules.specs.Lawful.{Lawful}
-use Rattle.rules.specs.Policies.{actionNamed, passageNamed, halved, OwnRule, PolicyRules, Follows}
-use Rattle.rules.specs.Machine.{State, closed, lawfulStep, policyStep, keepsLargestGap, betweenTest, isVoid, mayEnter, actionPossible}
+use Rattle.rules.specs.Policies.{actionNamed, passageNamed, halved, OwnRule, PolicyRules, Follows, ShutVoid}
+use Rattle.rules.specs.Machine.{State, closed, lawfulStep, policyStep, keepsLargestGap, betweenTest, isVoid, mayEnter, enterable, actionPossible}
+use Rattle.rules.proofs.EmptyPlan.{void-told}
 use Rattle.rules.proofs.Stops.{largest-gap}
 use Rattle.tours.specs.Prefixes.{lawfulState, policyState}
-use Rattle.tours.proofs.Basics.{or-true, false-not-true}
+use Rattle.tours.proofs.Basics.{or-true, true-not-false, false-not-true}
 use Rattle.tours.proofs.Exact.{closed-iff-lawful}
 use Rattle.tours.proofs.Runs.{Possible}
 use Rattle.tours.proofs.Traversal.{traversal-table}
@@ -88,14 +90,10 @@ both-true : (a b : Bool) → a && b ≡ true → (a ≡ true) × (b ≡ true)
 both-true true b e = (refl, e)
 both-true false b e = absurd (false-not-true e)
 
--- an action that is possible in any aisle is VOID
-void-if : (a : Action) → isVoid a || false ≡ true → a ≡ Void
-void-if Void e = refl
-void-if (Bottom i) e = absurd (false-not-true e)
-void-if (Top i) e = absurd (false-not-true e)
-void-if (Gap h i) e = absurd (false-not-true e)
-void-if Once e = absurd (false-not-true e)
-void-if Twice e = absurd (false-not-true e)
+-- an action that is possible in an aisle that may not be entered is VOID
+void-if : (a : Action) (b : Bool) → b ≡ false → isVoid a || b ≡ true → a ≡ Void
+void-if a true f e = absurd (true-not-false f)
+void-if a false f e = void-told a (sym (or-false (isVoid a)) ∙ e)
 
 -- EXACT names every action
 all-actions : (a : Action) → actionNamed Exact a ≡ true
@@ -115,30 +113,43 @@ all-passages P20 = refl
 all-passages P22 = refl
 
 module _ (job : Job) (plan : Plan) where
+  -- what an action that is possible says: the policy names it, and it is VOID or the aisle may be entered
+  parts : (j : ℕ) → Possible job plan j → (actionNamed (job .policy) (actionAt plan j) ≡ true) × (isVoid (actionAt plan j) || enterable job j ≡ true)
+  unfolding actionPossible
+  parts j possible = both-true (actionNamed (job .policy) (actionAt plan j)) (isVoid (actionAt plan j) || enterable job j) (possible .action)
+
+  -- where the tests are passed, shut aisles are VOID
+  possible-shut : ((j : ℕ) → Possible job plan j) → ShutVoid (job .hours) plan
+  unfolding ShutVoid
+  possible-shut possible j shut = void-if (actionAt plan j) (enterable job j) (rw shut) (parts j (possible j) .1)
+
+  -- where shut aisles are VOID, the test of an aisle asks only what the policy lets be entered
+  enters : ShutVoid (job .hours) plan → (j : ℕ) → isVoid (actionAt plan j) || mayEnter (job .policy) (holdsListed job j) ≡ true → isVoid (actionAt plan j) || enterable job j ≡ true
+  unfolding ShutVoid
+  enters void j h = go (isOpen (job .hours) j) refl
+    where
+      go : (b : Bool) → isOpen (job .hours) j ≡ b → isVoid (actionAt plan j) || enterable job j ≡ true
+      go true e = rw e h
+      go false e = rw (void j e)
+
   -- a policy that lets only aisles with a listed article be entered
   module _ (listed-only : (b : Bool) → mayEnter (job .policy) b ≡ b) where
     -- what the tests ask and its own rule are the rules of the policy
     listed-rules : ((j : ℕ) → Possible job plan j) × OwnRule (job .policy) job plan → PolicyRules job plan
-    unfolding actionPossible
     listed-rules (possible, own) =
         record {
-          actions = λ j. parts j .0;
+          actions = λ j. parts j (possible j) .0;
           passages = λ j. possible j .passage;
-          void = λ j e. void-if (actionAt plan j) (rw (listed-only (holdsListed job j), e) at (parts j .1));
+          void = λ j e. void-if (actionAt plan j) (enterable job j) (rw (listed-only (holdsListed job j), e) (and-false (isOpen (job .hours) j))) (parts j (possible j) .1);
           own = own;
         }
-      where
-        parts : (j : ℕ) → (actionNamed (job .policy) (actionAt plan j) ≡ true) × (isVoid (actionAt plan j) || mayEnter (job .policy) (holdsListed job j) ≡ true)
-        parts j =
-            both-true (actionNamed (job .policy) (actionAt plan j)) (isVoid (actionAt plan j) || mayEnter (job .policy) (holdsListed job j))
-            (possible j .action)
 
-    -- the rules of the policy answer the tests
-    rules-listed : PolicyRules job plan → ((j : ℕ) → Possible job plan j) × OwnRule (job .policy) job plan
+    -- the rules of the policy, and VOID in shut aisles, answer the tests
+    rules-listed : PolicyRules job plan → ShutVoid (job .hours) plan → ((j : ℕ) → Possible job plan j) × OwnRule (job .policy) job plan
     unfolding actionPossible
-    rules-listed rules = (
+    rules-listed rules shut = (
       (λ j. record {
-        action = rw (rules .actions j, listed-only (holdsListed job j)) (enter j (holdsListed job j) refl);
+        action = rw (rules .actions j) (enters shut j (rw (listed-only (holdsListed job j)) (enter j (holdsListed job j) refl)));
         passage = rules .passages j;
       }),
       rules .own,
@@ -149,18 +160,18 @@ module _ (job : Job) (plan : Plan) where
         enter j false e = rw (rules .void j e)
 
     -- the two together
-    listed-follows : (((j : ℕ) → Possible job plan j) × OwnRule (job .policy) job plan) ↔ PolicyRules job plan
-    listed-follows = (listed-rules, rules-listed)
+    listed-follows : (((j : ℕ) → Possible job plan j) × OwnRule (job .policy) job plan) ↔ (PolicyRules job plan × ShutVoid (job .hours) plan)
+    listed-follows = ((λ h. (listed-rules h, possible-shut (h .0))), (λ h. rules-listed (h .0) (h .1)))
 
-  -- what the machine's tests ask, with the policy's own rule, is what the policy asks
+  -- what the machine's tests ask, with the policy's own rule, is what the policy asks, and that shut aisles are VOID
   pub follows-rules : (policy : Policy) → job .policy ≡ policy
-      → (((j : ℕ) → Possible job plan j) × OwnRule (job .policy) job plan) ↔ Follows policy job plan
+      → (((j : ℕ) → Possible job plan j) × OwnRule (job .policy) job plan) ↔ (Follows policy job plan × ShutVoid (job .hours) plan)
   unfolding actionPossible
   follows-rules Exact e = (
-    (λ h. tt),
+    (λ h. (tt, possible-shut (h .0))),
     (λ h. (
       (λ j. record {
-        action = rw (e, all-actions (actionAt plan j)) (or-true (isVoid (actionAt plan j)));
+        action = rw (e, all-actions (actionAt plan j)) (rw e at (enters (h .1) j (rw e (or-true (isVoid (actionAt plan j))))));
         passage = rw e (all-passages (passageAt plan j));
       }),
       rw e tt,

@@ -1,14 +1,15 @@
--- What each cell of the store holds for the order lines.
+-- What each cell of the store holds for the order lines, and which aisles are open.
 use Prim.Native.Nat.{ℕ, suc, _+_, _*_, _-_, _≤_}
 use mathlib.Core.Path.{_≡_}
 use mathlib.Core.List.{List, [], _∷_}
-use mathlib.Core.Bool.{cond}
+use mathlib.Core.Bool.{cond, false}
 use mathlib.Core.Option.{Option, none, some}
 use lib.Dec.{eqb}
 use lib.ListN.{getD}
 use Rattle.rules.specs.declared.StockRecord.{StockRecord}
 use Rattle.rules.specs.declared.OrderLine.{OrderLine}
-use Rattle.rules.specs.Jobs.{Job}
+use Rattle.rules.specs.Hours.{isOpen}
+use Rattle.rules.specs.Jobs.{Job, openStock}
 use Rattle.rules.specs.Picks.{recordAt}
 use Rattle.values.specs.declared.Shelf.{Shelf}
 
@@ -33,6 +34,7 @@ cellNumber j c = (j - 1) * 24 + (c - 1)
 -- the shelf of a job, cell by cell
 pub record ShelfOf (job : Job) (shelf : Shelf) : Type 0 where
   pub line-at : (j c : ℕ) → 1 ≤ j → j ≤ 16 → 1 ≤ c → c ≤ 24
-      → getD (shelf .line) (cellNumber j c) 0 ≡ lineOf (job .lines) (recordAt (job .stock) (record { aisle = j; height = c }))
+      → getD (shelf .line) (cellNumber j c) 0 ≡ lineOf (job .lines) (recordAt (openStock job) (record { aisle = j; height = c }))
   pub quantity-at : (j c : ℕ) → 1 ≤ j → j ≤ 16 → 1 ≤ c → c ≤ 24
-      → getD (shelf .quantity) (cellNumber j c) 0 ≡ quantityOf (recordAt (job .stock) (record { aisle = j; height = c }))
+      → getD (shelf .quantity) (cellNumber j c) 0 ≡ quantityOf (recordAt (openStock job) (record { aisle = j; height = c }))
+  pub open-at : (j : ℕ) → 1 ≤ j → j ≤ 16 → getD (shelf .open) (j - 1) false ≡ isOpen (job .hours) j

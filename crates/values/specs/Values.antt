@@ -2,16 +2,20 @@
 use Prim.Native.Nat.{ℕ, _-_, _≤_}
 use mathlib.Core.Path.{_≡_}
 use mathlib.Core.List.{List, map}
+use mathlib.Core.Bool.{cond}
 use lib.ListN.{take}
 use Rattle.rules.specs.declared.Action.{Action}
 use Rattle.rules.specs.declared.Passage.{Passage}
+use Rattle.rules.specs.declared.Window.{Window}
 use Rattle.rules.specs.declared.OrderLine.{OrderLine}
 use Rattle.rules.specs.declared.Pick.{Pick}
 use Rattle.rules.specs.declared.Run.{Run}
+use Rattle.rules.specs.Hours.{Hours, NoHours, At}
 use Rattle.rules.specs.Jobs.{Job}
 use Rattle.rules.specs.Plans.{Plan, planLength}
 use Rattle.rules.specs.BestPlan.{bestPlan}
 use Rattle.rules.specs.Refusals.{Admitted}
+use Rattle.values.specs.declared.HoursValue.{HoursValue}
 use Rattle.values.specs.declared.JobValue.{JobValue}
 use Rattle.values.specs.declared.Stage.{Stage}
 use Rattle.values.specs.declared.PlanValue.{PlanValue}
@@ -23,6 +27,14 @@ use Rattle.values.specs.declared.Routed.{Routed}
 abbrev pub noLine : OrderLine
 noLine = record { article = 0; quantity = 0 }
 
+-- a window that is not there
+abbrev pub noWindow : Window
+noWindow = record { aisle = 0; from = 0; to = 0 }
+
+-- the hours of a value
+unfoldable pub hoursOf : HoursValue → Hours
+hoursOf v = cond (v .timed) (At (v .minute) (take (v .count) (v .windows))) NoHours
+
 -- the job of a value
 unfoldable pub jobOf : JobValue → Job
 jobOf v =
@@ -30,6 +42,7 @@ jobOf v =
       layout = v .layout;
       policy = v .policy;
       stock = take (v .records) (v .stock);
+      hours = hoursOf (v .hours);
       lines = take (v .orders) (v .lines);
     }
 
@@ -53,6 +66,7 @@ runsOfValue v = take (v .count) (v .runs)
 pub record Sound (v : JobValue) : Type 0 where
   pub record-count : v .records ≤ 384
   pub order-count : v .orders ≤ 8
+  pub window-count : v .hours .count ≤ 64
   pub admitted : Admitted (jobOf v)
 
 -- the routed plan of a job: the best plan, and its length

@@ -7,6 +7,15 @@ use rules::Pick;
 use rules::Policy;
 use rules::Run;
 use rules::StockRecord;
+use rules::Window;
+
+// The hours of a job: whether the sections M and H stand in its file, the minute, and the windows; the first `count` of them count.
+pub struct HoursValue {
+    pub timed: bool,
+    pub minute: usize,
+    pub count: usize,
+    pub windows: [Window; 64],
+}
 
 // A job: the first `records` of its stock records and the first `orders` of its order lines count.
 pub struct JobValue {
@@ -16,13 +25,15 @@ pub struct JobValue {
     pub stock: [StockRecord; 384],
     pub orders: usize,
     pub lines: [OrderLine; 8],
+    pub hours: HoursValue,
 }
 
 // What each cell of the store holds for the order lines, at (aisle - 1) * 24 + (cell - 1): the number + 1 of the line of its
-// article, 0 for none, and the quantity of its record.
+// article, 0 for none, and the quantity of its record; cells of shut aisles hold nothing. And which aisles are open, at aisle - 1.
 pub struct Shelf {
     pub line: [usize; 384],
     pub quantity: [usize; 384],
+    pub open: [bool; 16],
 }
 
 // One aisle of a plan: its action and the passage behind it.

@@ -11,17 +11,17 @@ use Rattle.aisles.proofs.layers.steps_of.Statement.{statement}
 use Rattle.aisles.proofs.layers.steps_of.Tie as tie
 
 abbrev Inv-loop : tie.InvT-loop
-Inv-loop kind between policy holds out₀ s₀ out s = (s ≤ 8) × (length out ≡ 8) ×
-    ((k : ℕ) → k < s → getD out k 0 ≡ stateCode (stepOf (policyOf policy) (sampleAction kind) (bit holds) (bit between) (stateOf k)))
+Inv-loop kind between policy may out₀ s₀ out s = (s ≤ 8) × (length out ≡ 8) ×
+    ((k : ℕ) → k < s → getD out k 0 ≡ stateCode (stepOf (policyOf policy) (sampleAction kind) (bit may) (bit between) (stateOf k)))
 
 abbrev μ-loop : tie.MeasureT-loop
-μ-loop kind between policy holds out₀ s₀ out s = 8 - s
+μ-loop kind between policy may out₀ s₀ out s = 8 - s
 
 loop-holds : tie.Need-loop-holds Inv-loop μ-loop
 loop-holds c = (omega arith, refl, λ k h. absurd (omega arith))
 
 action-step-requires : tie.Need-action-step-requires Inv-loop μ-loop
-action-step-requires c κs = let r = c .before .before .pre in (r .0 .policy-below, r .1, r .0 .holds-below, r .2, omega arith)
+action-step-requires c κs = let r = c .before .before .pre in (r .0 .policy-below, r .1, r .0 .may-below, r .2, omega arith)
 
 mul-out : tie.Need-mul-out Inv-loop μ-loop
 mul-out c = omega arith
@@ -42,7 +42,7 @@ loop-again c =
     let step = c .action-step in (
       omega arith,
       length-set (o .out) (o .s) (step .result) ∙ o .inv .1,
-      filled-one (λ k. stateCode (stepOf (policyOf (p .x .policy)) (sampleAction (p .kind)) (bit (p .x .holds)) (bit (p .between)) (stateOf k)))
+      filled-one (λ k. stateCode (stepOf (policyOf (p .x .policy)) (sampleAction (p .kind)) (bit (p .x .may)) (bit (p .between)) (stateOf k)))
           (o .out) (o .s) (step .result) (omega (arith, o .inv .1)) (o .inv .2) (step .ensures),
     )
 

@@ -12,9 +12,15 @@ no-record-requires c κs = search needs
 no-line-requires : tie.Need-no-line-requires
 no-line-requires c κs = search needs
 
+no-hours-requires : tie.Need-no-hours-requires
+no-hours-requires c κs = search needs
+
 returns : tie.Need-returns
 unfolding rawOf jobValue noJob
-returns c = rw (c .before .no-record .ensures, c .no-line .ensures, padded-none 384 noRecord, padded-none 8 noLine)
+returns c =
+    let at-lines = c .before in
+    let at-records = at-lines .before in
+    rw (at-records .no-record .ensures, at-lines .no-line .ensures, c .no-hours .ensures, padded-none 384 noRecord, padded-none 8 noLine)
 
 pub not-a-job-file-spec : {M : Type 1} → statement M
-not-a-job-file-spec = tie.close (tie.spec no-record-requires no-line-requires returns)
+not-a-job-file-spec = tie.close (tie.spec no-record-requires no-line-requires no-hours-requires returns)

@@ -71,7 +71,7 @@ returns c =
     let x = c .before .before .before .before .before .before .before .before .args in
     let made : ℕ → ℕ → At = λ s q. record { state = s; demand = q } in
     let after : Bool → ℕ =
-    λ b. stateCode (stepOf (policyOf (x .x .policy)) (sampleAction (x .c .kind)) (bit (x .x .holds)) b (stateOf (x .at .state))) in
+    λ b. stateCode (stepOf (policyOf (x .x .policy)) (sampleAction (x .c .kind)) (bit (x .x .may)) b (stateOf (x .at .state))) in
     let step = c .before .before .before .before .action-step .ensures in
     let between = c .before .before .before .before .before .passes-between .ensures .0 in
     ap₂ made (step ∙ ap after between)

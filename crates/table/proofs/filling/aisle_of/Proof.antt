@@ -1,7 +1,6 @@
 -- `table::filling::aisle_of` meets its contract: each number is that of the job, whichever job the order is of.
-use native.Mathlib.Omega.{arith}
 use borrow.Author.Needs.{needs}
-use Prim.Native.Nat.{_≤_, _<_}
+use Prim.Native.Nat.{_<_}
 use mathlib.Core.Path.{_≡_, sym, _∙_, ap, ap₂, subst}
 use mathlib.Core.Bool.{true}
 use Rattle.rules.specs.declared.Layout.{Layout}
@@ -12,22 +11,12 @@ use Rattle.machine.proofs.StepLaws.{policy-of-code, policy-code-below}
 use Rattle.between.specs.Stops.{betweenBy}
 use Rattle.between.proofs.Laws.{between-by}
 use Rattle.aisles.proofs.Geometry.{within}
-use Rattle.table.proofs.TableFills.{order-aisles, order-few, aisle-is}
+use Rattle.table.proofs.TableFills.{order-small, aisle-is}
 use Rattle.table.proofs.filling.aisle_of.Statement.{statement}
 use Rattle.table.proofs.filling.aisle_of.Tie as tie
 
--- the aisle is one of a store's, and so are its cells
-in-store : (c : tie.Start) → (c .args .o .layout .cells ≤ 24) × (1 ≤ c .args .j) × (c .args .j ≤ 16)
-in-store c =
-    let p = c .args in
-    let r = c .pre in
-    let of = r .0 .1 in
-    let few = order-few (r .0 .0) (p .o) of in
-    let cells = within (r .0 .0 .layout) (of .admitted .layout) .cells .1 in
-    (omega (arith, ap (λ (z : Layout). z .cells) (of .layout)), r .1, omega (arith, r .2))
-
-holds-listed-requires : tie.Need-holds-listed-requires
-holds-listed-requires c κs = in-store (c .before)
+may-enter-requires : tie.Need-may-enter-requires
+may-enter-requires c κs = c .before .pre
 
 side-of-requires : tie.Need-side-of-requires
 side-of-requires c κs = search needs
@@ -36,7 +25,10 @@ tried-of-requires : tie.Need-tried-of-requires
 tried-of-requires c κs = search needs
 
 listed-cells-requires : tie.Need-listed-cells-requires
-listed-cells-requires c κs = in-store (c .before .before .before .before)
+listed-cells-requires c κs =
+    let start = c .before .before .before .before in
+    let r = start .pre in
+    order-small (r .0 .0) (start .args .o) (r .0 .1) (start .args .j) (r .1) (r .2)
 
 asks-gap-requires : tie.Need-asks-gap-requires
 asks-gap-requires c κs =
@@ -54,27 +46,25 @@ returns c = λ job of.
     let at-listed = at-gap .before in
     let at-tried = at-listed .before in
     let at-side = at-tried .before in
-    let at-holds = at-side .before in
-    let at-start = at-holds .before .before in
+    let at-may = at-side .before in
+    let at-start = at-may .before .before in
     let p = at-start .args in
-    let holds = at-holds .holds-listed in
+    let may = at-may .may-enter in
     let cells = ap (λ (z : Layout). z .cells) (of .layout) in
-    let in-job : p .j ≤ job .layout .aisles = omega (arith, at-start .pre .2, order-aisles job (p .o) of) in
-    let listed = holds .ensures .1 job (of .admitted) (of .shelf) cells in-job in
     let flags = at-listed .listed-cells .ensures job (of .admitted) (of .shelf) cells in
     let gap = at-gap .asks-gap .ensures ∙ ap (λ n. asksGap (policyOf n)) (of .policy) ∙ ap asksGap (policy-of-code (job .policy)) in
     let gaps = asksGap (job .policy) in
     let few = within (job .layout) (of .admitted .layout) .cells .1 in
     let between = c .between-of .ensures
     ∙ ap (λ b. betweenBy b (p .o .layout) (at-listed .listed-cells .result)) gap ∙ ap₂ (betweenBy gaps) (of .layout) flags ∙ between-by gaps job (p .j) few in
-    aisle-is job (p .o) of (p .j) (holds .result) (at-side .side-of .result) (at-tried .tried-of .result) (c .between-of .result)
-    listed (holds .ensures .0) (at-side .side-of .ensures) (at-tried .tried-of .ensures) between
+    aisle-is job (p .o) of (p .j) (may .result) (at-side .side-of .result) (at-tried .tried-of .result) (c .between-of .result)
+    (may .ensures .1 job of) (may .ensures .0) (at-side .side-of .ensures) (at-tried .tried-of .ensures) between
 
 pub aisle-of-spec : {M : Type 1} → statement M
 aisle-of-spec =
     tie.close
     (tie.spec
-    holds-listed-requires
+    may-enter-requires
     side-of-requires
     tried-of-requires
     listed-cells-requires
