@@ -215,6 +215,29 @@ def a_minute_later(jobs, more):
             yield text(layout, stock, orders, [("M", [(now,)]), ("H", lines)])
 
 
+def pieces(counts, spare=0):
+    """Jobs under TRAVERSAL that want so many pieces, one in an aisle; so many more aisles hold one too. Each third job has posts."""
+    for n, count in enumerate(counts):
+        aisles, cells = min(16, count + spare + between(0, 2)), between(2, 12)
+        articles = between(1, min(count, 3))
+        held = sorted(shuffled(range(1, aisles + 1))[: count + spare])
+        stock = [(aisle, between(1, cells), 1 + k % articles, 1) for k, aisle in enumerate(held)]
+        orders = [(1 + k, len(range(k, count, articles))) for k in range(articles)]
+        front, pitch, back, width = sizes()
+        made = text([(aisles, cells, front, pitch, back, width, 1, "TRAVERSAL")], shuffled(stock), orders)
+        yield posted(made, between(1, cells), between(1, 10)) if n % 3 == 0 else made
+
+
+def at_doors(jobs):
+    """Each job with the depot at the left end, at the last aisle that is not right of the middle, at the next one, and at the right end."""
+    for job in jobs:
+        head, layout, rest = job.split(b"\n", 2)
+        aisles, *numbers, _, policy = layout.split()
+        middle, end = (int(aisles) + 1) // 2, int(aisles)
+        for depot in sorted({1, middle, min(middle + 1, end), end}):
+            yield b"\n".join([head, b" ".join([aisles, *numbers, b"%d" % depot, policy]), rest])
+
+
 JOBS = [
     *some(30, (1, 4), (1, 5), 12, (0, 3)),
     *some(20, (3, 9), (3, 12), 14, (0, 12)),
@@ -255,6 +278,15 @@ JOBS += [
     *at_any_minute(some(1, (1, 6), (2, 8), 10, (0, 6), SIX)),
     *a_minute_later(some(3, (1, 4), (2, 8), 10, (0, 6), SIX), (1, 2)),
 ]
+# TRAVERSAL with the depot left, right and near the middle (request #107)
+JOBS += at_doors([
+    *pieces(range(1, 9)),
+    *pieces([2, 3, 3, 4, 5, 5, 7], 2),
+    *with_hours(pieces([2, 3, 3, 5]), (1, 3)),
+    *some(3, (3, 9), (3, 12), 14, (0, 12), ["TRAVERSAL"]),
+    *some(2, (10, 16), (12, 24), 16, (0, 20), ["TRAVERSAL"]),
+    *pieces([9, 11, 13, 15]),
+])
 
 if __name__ == "__main__":
     print(b"".join(JOBS).decode(), end="")

@@ -243,6 +243,9 @@ static int largest_gap(int j) {
     return 1;
 }
 
+/* More aisles lie to the left of the depot than to its right (request #107). */
+static int door_on_the_right(void) { return d - 1 > m - d; }
+
 /* What the policy asks of all the actions together. */
 static int allowed(void) {
     int entered = 0, first = 0, last = 0;
@@ -252,9 +255,11 @@ static int allowed(void) {
             if (!entered++) first = j;
             last = j;
         }
+    /* under TRAVERSAL, where their number is odd, one is not walked through */
+    int walked_back = entered % 2 == 0 ? 0 : door_on_the_right() ? first : last;
     for (int j = 1; j <= m; j++) {
         if (has(j, VOID)) continue;
-        if (is("TRAVERSAL") && !has(j, entered % 2 && j == last ? BOTTOM : ONCE)) return 0;
+        if (is("TRAVERSAL") && !has(j, j == walked_back ? BOTTOM : ONCE)) return 0;
         if (is("MIDPOINT") || is("LARGEST")) {
             if (entered == 1 ? !has(j, BOTTOM) : (j == first || j == last) != has(j, ONCE)) return 0;
             if (j == first || j == last) continue;

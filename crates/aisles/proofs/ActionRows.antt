@@ -19,7 +19,7 @@ use Rattle.aisles.specs.declared.candidates.Candidate.{Candidate}
 use Rattle.aisles.specs.declared.layers.Aisle.{Aisle}
 use Rattle.aisles.specs.Candidates.{candidateOf, candidateLength, candidateBetween}
 use Rattle.machine.specs.States.{stateCode, stateOf}
-use Rattle.machine.specs.Steps.{policyOf, sampleAction, bit, stepOf}
+use Rattle.machine.specs.Steps.{policyOf, walkBackEndOf, sampleAction, bit, stepOf}
 use Rattle.rows.specs.Rows.{nextAt}
 use Rattle.aisles.specs.Layers.{asksBetween, stepWith, stepCode, leftCode, throughCandidate, throughAction, wayWith}
 use Rattle.machine.proofs.StepLaws.{state-small}
@@ -70,10 +70,10 @@ module _ (x : Aisle) (after fronts backs : List ℕ) (s q : ℕ) where
   -- the answer 'no' leads where the answer 'yes' does, or nowhere
   way-no : (a : Action) → (way false a ≡ way true a) ⊎ (way false a ≡ 65535)
   unfolding wayWith stepWith
-  way-no a = go (step-no (policyOf (x .policy)) (sampleAction (candidateOf (x .layout .cells) a .kind)) (bit (x .may)) (stateOf s))
+  way-no a = go (step-no (policyOf (x .policy)) (walkBackEndOf (x .policy)) (sampleAction (candidateOf (x .layout .cells) a .kind)) (bit (x .may)) (stateOf s))
     where
       to : Bool → State
-      to b = stepOf (policyOf (x .policy)) (sampleAction (candidateOf (x .layout .cells) a .kind)) (bit (x .may)) b (stateOf s)
+      to b = stepOf (policyOf (x .policy)) (walkBackEndOf (x .policy)) (sampleAction (candidateOf (x .layout .cells) a .kind)) (bit (x .may)) b (stateOf s)
 
       go : (to false ≡ to true) ⊎ (to false ≡ dead) → (way false a ≡ way true a) ⊎ (way false a ≡ 65535)
       go (inl e) =
@@ -97,7 +97,7 @@ module _ (x : Aisle) (after fronts backs : List ℕ) (s q : ℕ) where
       same : way false a ≡ way true a
       same =
           ap (λ t. sat (candidateLength (x .layout) (candidateOf (x .layout .cells) a)) (nextAt after (stateCode t) (leftCode fronts backs (candidateOf (x .layout .cells) a) q)))
-          (step-same (policyOf (x .policy)) (candidateOf (x .layout .cells) a .kind) free (bit (x .may)) (stateOf s))
+          (step-same (policyOf (x .policy)) (walkBackEndOf (x .policy)) (candidateOf (x .layout .cells) a .kind) free (bit (x .may)) (stateOf s))
 
       go : (b : Bool) → candidateBetween (x .between) (candidateOf (x .layout .cells) a) ≡ b → way false a ≡ through a
       go true e = same ∙ sym (way-is x after fronts backs s q a ∙ ap (λ b. way b a) e)
@@ -106,4 +106,5 @@ module _ (x : Aisle) (after fronts backs : List ℕ) (s q : ℕ) where
 -- the numbers of states after a candidate are at most 8
 pub step-small : (x : Aisle) (c : Candidate) (s : ℕ) → stepCode x c s ≤ 8
 unfolding stepCode
-step-small x c s = state-small (stepOf (policyOf (x .policy)) (sampleAction (c .kind)) (bit (x .may)) (candidateBetween (x .between) c) (stateOf s))
+step-small x c s =
+    state-small (stepOf (policyOf (x .policy)) (walkBackEndOf (x .policy)) (sampleAction (c .kind)) (bit (x .may)) (candidateBetween (x .between) c) (stateOf s))

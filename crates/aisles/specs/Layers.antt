@@ -17,7 +17,7 @@ use Rattle.aisles.specs.declared.layers.Lane.{Lane}
 use Rattle.aisles.specs.declared.layers.Turns.{Turns}
 use Rattle.between.specs.Between.{Graded}
 use Rattle.machine.specs.States.{stateCode, stateOf}
-use Rattle.machine.specs.Steps.{policyOf, sampleAction, bit, stepOf}
+use Rattle.machine.specs.Steps.{policyOf, walkBackEndOf, sampleAction, bit, stepOf}
 use Rattle.machine.specs.Tables.{automatonOf}
 use Rattle.aisles.specs.Candidates.{candidateOf, candidateLength, candidateBetween}
 use Rattle.demand.specs.Digits.{demands}
@@ -29,7 +29,7 @@ use Rattle.aisles.specs.Turns.{frontTurn, backTurn, leastBack}
 -- an aisle's numbers are in range
 pub record InRange (x : Aisle) : Type 0 where
   pub bounds : layoutInBounds (x .layout) ≡ true
-  pub policy-below : x .policy < 6
+  pub policy-below : x .policy < 7
   pub may-below : x .may < 2
   pub small : x .weight ≤ demands
   pub side-below : x .side < 3
@@ -39,12 +39,12 @@ pub record InRange (x : Aisle) : Type 0 where
 -- the number of the state after a kind of action, with the answer of the test for aisles between given
 unfoldable pub stepWith : Aisle → ℕ → Bool → ℕ → ℕ
 stepWith x kind between s =
-    stateCode (stepOf (policyOf (x .policy)) (sampleAction kind) (bit (x .may)) between (stateOf s))
+    stateCode (stepOf (policyOf (x .policy)) (walkBackEndOf (x .policy)) (sampleAction kind) (bit (x .may)) between (stateOf s))
 
 -- the number of the state after a candidate
 unfoldable pub stepCode : Aisle → Candidate → ℕ → ℕ
 stepCode x c s =
-    stateCode (stepOf (policyOf (x .policy)) (sampleAction (c .kind)) (bit (x .may)) (candidateBetween (x .between) c) (stateOf s))
+    stateCode (stepOf (policyOf (x .policy)) (walkBackEndOf (x .policy)) (sampleAction (c .kind)) (bit (x .may)) (candidateBetween (x .between) c) (stateOf s))
 
 -- the number of the demand after a candidate
 unfoldable pub leftCode : List ℕ → List ℕ → Candidate → ℕ → ℕ
@@ -94,7 +94,7 @@ passKind pass = pass - passBetween pass * 5
 
 -- whether a policy, by its number, asks the test for aisles between: whether its automaton does
 abbrev pub asksBetween : ℕ → Bool
-asksBetween policy = eqb (automatonOf (policyOf policy)) 2
+asksBetween policy = eqb (automatonOf (policyOf policy) (walkBackEndOf policy)) 2
 
 -- how many of them a policy needs: the last three where it asks the test
 abbrev pub passesOf : ℕ → ℕ

@@ -290,7 +290,7 @@ fn lane_of<'a>(x: Aisle, fronts: &'a [u16], backs: &'a [u16]) -> Lane
 
 // The number of passes under a policy: the last three where its automaton asks the test for aisles between.
 fn passes_of(policy: usize) -> usize
-    requires { ⌜ policy < 6 ⌝ }
+    requires { ⌜ policy < 7 ⌝ }
     ensures { λ r. ⌜ r ≡ passesOf policy ⌝ }
 {
     if asks_between(policy) { 9 } else { 6 }

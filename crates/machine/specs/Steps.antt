@@ -8,26 +8,38 @@ use Rattle.rules.specs.declared.Action.the-variants.{Void, Bottom, Top, Gap, On
 use Rattle.rules.specs.declared.Passage.{Passage}
 use Rattle.rules.specs.declared.Passage.the-variants.{P00, P02, P11, P20, P22}
 use Rattle.rules.specs.Plans.{kindOf, kindRank}
-use Rattle.rules.specs.Policies.{actionNamed, passageNamed}
+use Rattle.rules.specs.Policies.{actionNamed, passageNamed, End, leftmost, rightmost}
 use Rattle.rules.specs.Machine.{State, dead, policyBy, crossStep, isVoid}
 
--- the policies by number, in document 01's order, then LARGEST
+-- the policies by number, in document 01's order, then LARGEST; 6 and above is TRAVERSAL that walks back at the left end
 abbrev pub policyOf : ℕ → Policy
 policyOf zero = Exact
 policyOf (suc zero) = Return
 policyOf (suc (suc zero)) = Traversal
 policyOf (suc (suc (suc zero))) = Midpoint
 policyOf (suc (suc (suc (suc zero)))) = Composite
-policyOf (suc (suc (suc (suc (suc n))))) = Largest
+policyOf (suc (suc (suc (suc (suc zero))))) = Largest
+policyOf (suc (suc (suc (suc (suc (suc n)))))) = Traversal
 
--- the number of a policy
-abbrev pub policyCode : Policy → ℕ
-policyCode Exact = 0
-policyCode Return = 1
-policyCode Traversal = 2
-policyCode Midpoint = 3
-policyCode Composite = 4
-policyCode Largest = 5
+-- the end at which TRAVERSAL walks an aisle back, by the same number
+abbrev pub walkBackEndOf : ℕ → End
+walkBackEndOf zero = rightmost
+walkBackEndOf (suc zero) = rightmost
+walkBackEndOf (suc (suc zero)) = rightmost
+walkBackEndOf (suc (suc (suc zero))) = rightmost
+walkBackEndOf (suc (suc (suc (suc zero)))) = rightmost
+walkBackEndOf (suc (suc (suc (suc (suc zero))))) = rightmost
+walkBackEndOf (suc (suc (suc (suc (suc (suc n)))))) = leftmost
+
+-- the number of a policy, with TRAVERSAL's end: the others have one number at either
+abbrev pub policyCode : Policy → End → ℕ
+policyCode Exact end = 0
+policyCode Return end = 1
+policyCode Traversal leftmost = 6
+policyCode Traversal rightmost = 2
+policyCode Midpoint end = 3
+policyCode Composite end = 4
+policyCode Largest end = 5
 
 -- the passages by number, in document 01's order
 abbrev pub passageOf : ℕ → Passage
@@ -55,9 +67,9 @@ abbrev pub bit : ℕ → Bool
 bit zero = false
 bit (suc n) = true
 
--- the state after an action, with the answers of 'the aisle may be entered' and of the test for aisles between
-unfoldable pub stepOf : Policy → Action → Bool → Bool → State → State
-stepOf policy a may between s = cond (actionNamed policy a && (isVoid a || may)) (policyBy policy between a s) dead
+-- the state after an action, with TRAVERSAL's end and the answers of 'the aisle may be entered' and of the test for aisles between
+unfoldable pub stepOf : Policy → End → Action → Bool → Bool → State → State
+stepOf policy end a may between s = cond (actionNamed policy a && (isVoid a || may)) (policyBy policy end between a s) dead
 
 -- the state after the passage behind an aisle left of the depot (0), at it (1) or right of it (2)
 unfoldable pub crossOf : Policy → Passage → ℕ → State → State

@@ -5,25 +5,28 @@ use lib.Dec.{ltb, eqb}
 use Rattle.rules.specs.declared.Policy.{Policy}
 use Rattle.rules.specs.declared.Policy.the-variants.{Exact, Return, Traversal, Midpoint, Composite, Largest}
 use Rattle.rules.specs.declared.Action.{Action}
-use Rattle.rules.specs.Policies.{actionNamed, passageNamed}
+use Rattle.rules.specs.Policies.{actionNamed, passageNamed, End, leftmost, rightmost}
 use Rattle.rules.specs.Machine.{State, lawfulStep, traversalStep, midpointBy, crossStep, mayEnter}
 use Rattle.machine.specs.States.{stateCode, stateOf}
 use Rattle.machine.specs.Steps.{passageOf, sampleAction}
 
--- the automaton of a policy: 0 the lawful one, 1 TRAVERSAL's, 2 that of MIDPOINT and LARGEST
-abbrev pub automatonOf : Policy → ℕ
-automatonOf Exact = 0
-automatonOf Return = 0
-automatonOf Traversal = 1
-automatonOf Midpoint = 2
-automatonOf Composite = 0
-automatonOf Largest = 2
+-- the automaton of a policy: 0 the lawful one, 1 TRAVERSAL's that walks back at the right end, 2 that of MIDPOINT and LARGEST,
+-- 3 TRAVERSAL's that walks back at the left end
+abbrev pub automatonOf : Policy → End → ℕ
+automatonOf Exact end = 0
+automatonOf Return end = 0
+automatonOf Traversal leftmost = 3
+automatonOf Traversal rightmost = 1
+automatonOf Midpoint end = 2
+automatonOf Composite end = 0
+automatonOf Largest end = 2
 
 -- the state after an action by an automaton's rows
 abbrev pub automatonBy : ℕ → Bool → Action → State → State
 automatonBy zero between a s = lawfulStep a s
-automatonBy (suc zero) between a s = traversalStep a s
-automatonBy (suc (suc n)) between a s = midpointBy between a s
+automatonBy (suc zero) between a s = traversalStep rightmost a s
+automatonBy (suc (suc zero)) between a s = midpointBy between a s
+automatonBy (suc (suc (suc n))) between a s = traversalStep leftmost a s
 
 -- a digit, or '-' for what a policy lacks
 abbrev pub digitIf : Bool → ℕ → ℕ
@@ -39,19 +42,19 @@ asksGap Composite = false
 asksGap Largest = true
 
 -- 'h' where a policy asks the halves of aisles between, 'g' where it asks the largest gap, '-' where it asks nothing
-abbrev pub testMark : Policy → ℕ
-testMark policy = cond (eqb (automatonOf policy) 2) (cond (asksGap policy) 103 104) 45
+abbrev pub testMark : Policy → End → ℕ
+testMark policy end = cond (eqb (automatonOf policy end) 2) (cond (asksGap policy) 103 104) 45
 
 -- a policy's row: its kinds, a space, its passages, a space, its automaton, a space, '+' or '-' for open aisles that hold no listed article,
 -- a space, its test for aisles between
-unfoldable pub policyMark : Policy → ℕ → ℕ
-policyMark policy c =
+unfoldable pub policyMark : Policy → End → ℕ → ℕ
+policyMark policy end c =
     cond (ltb c 6) (digitIf (actionNamed policy (sampleAction c)) c)
     (cond (ltb c 7) 32
     (cond (ltb c 12) (digitIf (passageNamed policy (passageOf (c - 7))) (c - 7))
-    (cond (eqb c 13) (48 + automatonOf policy)
+    (cond (eqb c 13) (48 + automatonOf policy end)
     (cond (eqb c 15) (cond (mayEnter policy false) 43 45)
-    (cond (eqb c 17) (testMark policy)
+    (cond (eqb c 17) (testMark policy end)
     32)))))
 
 -- the next state by an automaton's rows, or 9 where the test for aisles between decides

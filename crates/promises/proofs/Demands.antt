@@ -4,8 +4,8 @@
 -- lent work area: the reply, and what sheet and work area hold after it. The public contracts are equations with it, and with
 -- `pageAnswer` (rules/specs/PageAnswers) where a page is lent too.
 -- The words of the statements are in specs/: the causes of the table (Causes), what a sheet says (Contents), what calls give (Calls),
--- and of the requests #101 (EmptyLists), #102 (Uprights), #103 (Pages), #105 (StockTests) and #106 (OpeningHours). Request #104 has its
--- words in rules/specs/Policies.
+-- and of the requests #101 (EmptyLists), #102 (Uprights), #103 (Pages), #105 (StockTests), #106 (OpeningHours) and #107 (Doors). Request #104 has
+-- its words in rules/specs/Policies.
 use Prim.Native.Nat.{ℕ, _+_, _*_, _-_, _/_, _≤_, _<_}
 use mathlib.Core.Path.{_≡_, refl, sym, _∙_, ap, subst}
 use mathlib.Core.Logic.{_⊎_, _↔_}
@@ -15,7 +15,7 @@ use mathlib.Core.Option.{some}
 use lib.ListN.{length, take, drop}
 use Rattle.rules.specs.declared.Layout.{Layout}
 use Rattle.rules.specs.declared.Policy.{Policy}
-use Rattle.rules.specs.declared.Policy.the-variants.{Exact, Midpoint, Largest}
+use Rattle.rules.specs.declared.Policy.the-variants.{Exact, Traversal, Midpoint, Largest}
 use Rattle.rules.specs.declared.Posts.the-variants.{NoPosts, Every}
 use Rattle.rules.specs.declared.OrderLine.{OrderLine}
 use Rattle.rules.specs.declared.Pick.{Pick}
@@ -26,20 +26,20 @@ use Rattle.rules.specs.Store.{WithoutPosts, aisleLength, position, Edge, InStor
 use Rattle.rules.specs.Hours.{Hours, NoHours}
 use Rattle.rules.specs.Jobs.{Job, jobWithPosts, jobUnder, jobWithHours}
 use Rattle.rules.specs.JobFile.{lineFeed, header, field, jobText, jobFileLimit}
-use Rattle.rules.specs.Plans.{Plan}
+use Rattle.rules.specs.Plans.{Plan, planLength}
 use Rattle.rules.specs.Lawful.{Lawful}
 use Rattle.rules.specs.Walks.{Walk, ClosedWalk, KeepsToOpen, walkTreads}
 use Rattle.rules.specs.Picks.{picksOf}
-use Rattle.rules.specs.BestPlan.{emptyPlan}
+use Rattle.rules.specs.BestPlan.{emptyPlan, BestAmong, IsBest}
 use Rattle.rules.specs.Refusals.{numberOf, workLimit, cleared, Admitted}
 use Rattle.rules.specs.Looked.{lookedFor, looked, lookedIn}
 use Rattle.rules.specs.Sheet.{sheetText}
 use Rattle.rules.specs.Answers.{answer, hostAnswer, sheetLimit, letterR, output}
 use Rattle.rules.specs.PageAnswers.{pageAnswer, hostPageAnswer, pageLimit, pageOutput}
-use Rattle.rules.specs.Policies.{inFrontHalf, inBackHalf, Follows, ShutVoid, Allowed}
+use Rattle.rules.specs.Policies.{First, Last, WalkedBack, inFrontHalf, inBackHalf, Follows, ShutVoid, Allowed}
 use Rattle.rules.specs.Serving.{PlanServes}
 use Rattle.rules.specs.Examples.{_⨯_, alpha, AllHold, AllSame, cases, ownCases, fourBetween, largestCases, stopLists, workedJob, workedPage}
-use Rattle.rules.specs.Examples.{AllLooked, lookedCases, lookedTexts, sevenAt, hoursCases, hoursLooked, hoursTexts}
+use Rattle.rules.specs.Examples.{AllLooked, lookedCases, lookedTexts, sevenAt, hoursCases, hoursLooked, hoursTexts, HasTour, doorAt, doorCases}
 use Rattle.rules.proofs.Cases as Cases
 use Rattle.closedwalks.proofs.Statements.{walk-reads-open, plain-keeps, plan-determined}
 use Rattle.promises.specs.Causes.{JobFileOf, LineOutOfStock, OfJob, Cause, tableRow, FirstCause}
@@ -49,12 +49,15 @@ use Rattle.promises.specs.EmptyLists.{NothingToFetch, emptySheet, ShowsN
 use Rattle.promises.specs.Uprights.{PostsOfNothing}
 use Rattle.promises.specs.Pages.{PageCause, FirstPageCause, RefusedPageCall, ServedPageCall, AlongTheWalk, ShowsPage, HostPageCall, PrintsPage, PrintsPageRefusal}
 use Rattle.promises.specs.OpeningHours.{SameAnswers, AllOpen, shutGone, PassesToHours}
+use Rattle.promises.specs.Doors.{AllowedBefore}
 use Rattle.promises.specs.StockTests.{InStock, LineShort, LeastHolding, AddedUp, LookedBounds}
 use Rattle.promises.proofs.EmptyLists
 use Rattle.promises.proofs.Uprights
 use Rattle.promises.proofs.LargestGap
 use Rattle.promises.proofs.StockTest
 use Rattle.promises.proofs.OpeningHours
+use Rattle.promises.proofs.Doors.{lastWalkedBack}
+use Rattle.promises.proofs.Doors
 use Rattle.promises.proofs.PageCalls
 use Rattle.promises.proofs.Clipboard
 use Rattle.promises.proofs.PageHost
@@ -430,3 +433,37 @@ shut-is-gone-met = OpeningHours.gone-files
 -- cases of its own, texts and numbers of records looked at
 pub hours-cases-hold : AllHold hoursCases × AllLooked hoursLooked × AllSame hoursTexts
 hours-cases-hold = Cases.hours-cases-hold
+
+-- Request #107: "Where 2·d exceeds m + 1, the aisle walked back is the leftmost entered"; otherwise the rightmost, as document 01 has it
+pub walked-back-left : (z : Layout) → z .aisles + 1 < 2 * z .depot → (plan : Plan) (j : ℕ) → WalkedBack z plan j ↔ First plan j
+walked-back-left = Doors.walked-back-left
+
+pub walked-back-right : (z : Layout) → 2 * z .depot ≤ z .aisles + 1 → (plan : Plan) (j : ℕ) → WalkedBack z plan j ↔ Last plan j
+walked-back-right = Doors.walked-back-right
+
+-- "Jobs with smaller d keep their tours." Where 2·d is at most m + 1, the same plans are allowed as by document 01's rule before the request,
+-- and the same one is the first of the shortest
+pub door-left-unchanged : (job : Job) → job .policy ≡ Traversal → 2 * job .layout .depot ≤ job .layout .aisles + 1
+    → ((plan : Plan) → AllowedBefore job plan ↔ Allowed job plan) × ((plan : Plan) → BestAmong (AllowedBefore job) job plan ↔ IsBest job plan)
+door-left-unchanged job word low = (Doors.same-allowed job word low, Doors.same-best job word low)
+
+-- so the plan on the sheet of such a job is the first of the shortest by that rule, and no other plan is
+pub door-left-shown : (job : Job) → job .policy ≡ Traversal → 2 * job .layout .depot ≤ job .layout .aisles + 1
+    → (bytes sheet work : List ℕ) (c : Content) → Shows bytes sheet work job c
+    → (plan : Plan) → BestAmong (AllowedBefore job) job plan ↔ (plan ≡ c .plan)
+door-left-shown = Doors.same-shown
+
+-- there are such calls: the request's own store with its depot in the middle aisle of three
+pub door-left-met : (sheet work : List ℕ) → sheetLimit ≤ length sheet → workLimit ≤ length work
+    → Shows (jobText (doorAt 2 Traversal)) sheet work (doorAt 2 Traversal) (best (doorAt 2 Traversal))
+door-left-met = Doors.met
+
+-- with the depot in the last one the rules differ: before a tour of 18 was allowed, now the shortest is 26
+pub door-right-moves : AllowedBefore (doorAt 3 Traversal) lastWalkedBack × PlanServes (doorAt 3 Traversal) lastWalkedBack
+    × (planLength (doorAt 3 Traversal .layout) lastWalkedBack ≡ 18) × HasTour (doorAt 3 Traversal) 26
+door-right-moves = (Doors.allowed-before, Doors.moved .0, Doors.moved .1, Doors.moved .2)
+
+-- which aisle is walked back from which doors, with an odd and an even number of entered aisles, and that MIDPOINT has no such rule is pinned
+-- by cases of its own
+pub door-cases-hold : AllHold doorCases
+door-cases-hold = Cases.door-cases-hold

@@ -1,7 +1,7 @@
 -- Walking by the largest gap: the LARGEST tour of a job is at most as long as its MIDPOINT tour.
 use Prim.Native.Nat.{ℕ, _≤_}
 use native.Mathlib.Omega.{arith}
-use mathlib.Core.Path.{_≡_, refl, ap, subst}
+use mathlib.Core.Path.{_≡_, refl, ap}
 use mathlib.Core.List.{List}
 use mathlib.Core.Option.{some}
 use lib.ListN.{length}
@@ -10,17 +10,15 @@ use Rattle.rules.specs.Jobs.{Job, jobUnder}
 use Rattle.rules.specs.JobFile.{numeral, field, header, layoutText, layoutSectionText, recordText, lineText, sectionText, jobText}
 use Rattle.rules.specs.JobFile.{isDigit, isNumber, readField, readHeader, readPolicyAs, readPolicy, readLayout, readPosts}
 use Rattle.rules.specs.JobFile.{readRecord, readLine, readSection, readLayoutSection, readSections, readJob}
-use Rattle.rules.specs.Refusals.{workLimit, Admitted}
+use Rattle.rules.specs.Refusals.{workLimit}
 use Rattle.rules.specs.Answers.{sheetLimit}
 use Rattle.rules.specs.Examples.{stocked, _⨯_, ownJob, betaWith, cellsBetween, fourBetween, largestCases}
 use Rattle.rules.proofs.Admission.{admitted, admitted-under}
 use Rattle.rules.proofs.Cases.{largest-cases-hold}
 use Rattle.optimum.proofs.Compared.{largest-no-longer}
-use Rattle.planner.proofs.Space.{sheet-suffices}
 use Rattle.promises.specs.Contents.{Content, contentOf}
 use Rattle.promises.specs.Calls.{Shows}
-use Rattle.promises.proofs.Table.{job-file-read, served-for, admitted-served}
-use Rattle.promises.proofs.Shown.{best, shown, shown-best}
+use Rattle.promises.proofs.Shown.{best, shown-best, job-shown}
 
 -- both sheets show best plans of the job, under the one word and under the other
 pub at-most : (job : Job) (bytes sheet work others space area : List ℕ) (c d : Content)
@@ -40,16 +38,6 @@ unfolding _⨯_ stocked ownJob betaWith cellsBetween fourBetween jobText layoutS
 four-read = (refl, refl)
 
 module _ (sheet work : List ℕ) (space : sheetLimit ≤ length sheet) (numbers : workLimit ≤ length work) where
-  -- in space enough a call shows the sheet of an admitted job whose text is read
-  job-shown : (job : Job) → readJob (jobText job) ≡ some job → Admitted job → Shows (jobText job) sheet work job (best job)
-  job-shown job read a =
-      let none-applies = admitted-served (jobText job) sheet work job read a numbers (omega (arith, sheet-suffices job a)) in
-      let (other, e, t) = served-for (jobText job) sheet work none-applies in
-      let (found, s) = shown (jobText job) sheet work _ (ap (λ x. x .reply) t) in
-      let own = job-file-read (jobText job) found .1 (s .file) in
-      let same : found ≡ job = cc in
-      subst (λ (j : Job). Shows (jobText job) sheet work j (best j)) same s
-
   -- they are served, with 26 and 24
   pub met : (c : Content) × (d : Content) × Shows (jobText (fourBetween Midpoint)) sheet work (jobUnder Midpoint (fourBetween Midpoint)) c
       × Shows (jobText (fourBetween Largest)) sheet work (jobUnder Largest (fourBetween Midpoint)) d × (c .length ≡ 26) × (d .length ≡ 24)
@@ -59,8 +47,8 @@ module _ (sheet work : List ℕ) (space : sheetLimit ≤ length sheet) (numbers 
       let largest = largest-cases-hold .1 .0 .0 in (
         best (fourBetween Midpoint),
         best (fourBetween Largest),
-        job-shown (fourBetween Midpoint) (four-read .0) (admitted (fourBetween Midpoint) .0 (midpoint .admitted)),
-        job-shown (fourBetween Largest) (four-read .1) (admitted (fourBetween Largest) .0 (largest .admitted)),
+        job-shown sheet work space numbers (fourBetween Midpoint) (four-read .0) (admitted (fourBetween Midpoint) .0 (midpoint .admitted)),
+        job-shown sheet work space numbers (fourBetween Largest) (four-read .1) (admitted (fourBetween Largest) .0 (largest .admitted)),
         midpoint .length,
         largest .length,
       )

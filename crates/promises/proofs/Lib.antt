@@ -13,6 +13,7 @@ pub mod Uprights
 pub mod LargestGap
 pub mod StockTest
 pub mod OpeningHours
+pub mod Doors
 pub mod PageCalls
 pub mod Clipboard
 pub mod PageHost

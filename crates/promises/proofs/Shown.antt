@@ -1,5 +1,5 @@
 -- What calls give, and what the sheet of a served call shows: the sheet of the best plan, and nothing else.
-use Prim.Native.Nat.{ℕ}
+use Prim.Native.Nat.{ℕ, _≤_}
 use native.Mathlib.Omega.{arith}
 use mathlib.Core.Path.{_≡_, refl, sym, _∙_, ap, subst}
 use mathlib.Core.List.{List, _++_}
@@ -10,19 +10,20 @@ use Rattle.rules.specs.declared.Refusal.{Refusal}
 use Rattle.rules.specs.declared.Refusal.the-variants.{WorkArea, NotAJobFile, LayoutBounds, StockBounds, CellTwice, HoursBounds, ListBounds, ArticleTwice, TooHeavy, ShortOfStock, SheetSpace, PageSpace}
 use Rattle.rules.specs.declared.Reply.the-variants.{Served, Refused}
 use Rattle.rules.specs.Jobs.{Job}
-use Rattle.rules.specs.JobFile.{readJob}
+use Rattle.rules.specs.JobFile.{jobText, readJob}
 use Rattle.rules.specs.Plans.{planLength}
 use Rattle.rules.specs.BestPlan.{bestPlan}
-use Rattle.rules.specs.Refusals.{Admitted, cleared, workAfter}
+use Rattle.rules.specs.Refusals.{Admitted, cleared, workLimit, workAfter}
 use Rattle.rules.specs.Sheet.{sheetOf, sheetText}
-use Rattle.rules.specs.Answers.{answer}
+use Rattle.rules.specs.Answers.{answer, sheetLimit}
 use Rattle.rules.proofs.Admission.{layout-within}
 use Rattle.closedwalks.proofs.Statements.{first-walk, walk-keeps}
 use Rattle.optimum.proofs.Best.{best-plan}
+use Rattle.planner.proofs.Space.{sheet-suffices}
 use Rattle.promises.specs.Causes.{OfJob, Cause}
 use Rattle.promises.specs.Contents.{Content, contentText, contentOf}
 use Rattle.promises.specs.Calls.{RefusedCall, ServedCall, Shows, Obeys, Shortest}
-use Rattle.promises.proofs.Table.{job-file-read, NoCause, refused-for, refused-by, served-for, served-by, served-admitted}
+use Rattle.promises.proofs.Table.{job-file-read, NoCause, refused-for, refused-by, served-for, served-by, served-admitted, admitted-served}
 use Rattle.promises.proofs.Picks.{picks-meet, pick-listed}
 use Rattle.rules.proofs.Taken.{pick-taken, picks-ordered}
 use Rattle.promises.proofs.PickRule.{picks-rule}
@@ -142,3 +143,14 @@ module _ (bytes sheet work : List ℕ) where
           let count : length (contentText (best j)) ≡ length (contentText c) = cc in
           let text = sym (take-at (contentText (best j)) (drop (length (contentText (best j))) sheet) (length (contentText c)) count) ∙ ap (λ a. take (length (contentText c)) (a .sheet)) (sym t) ∙ s .text in
           ap best (sym same) ∙ content-determined (best j) c text
+
+-- in space enough a call shows the sheet of an admitted job whose text is read
+pub job-shown : (sheet work : List ℕ) → sheetLimit ≤ length sheet → workLimit ≤ length work
+    → (job : Job) → readJob (jobText job) ≡ some job → Admitted job → Shows (jobText job) sheet work job (best job)
+job-shown sheet work space numbers job read a =
+    let none-applies = admitted-served (jobText job) sheet work job read a numbers (omega (arith, sheet-suffices job a)) in
+    let (other, e, t) = served-for (jobText job) sheet work none-applies in
+    let (found, s) = shown (jobText job) sheet work _ (ap (λ x. x .reply) t) in
+    let own = job-file-read (jobText job) found .1 (s .file) in
+    let same : found ≡ job = cc in
+    subst (λ (j : Job). Shows (jobText job) sheet work j (best j)) same s

@@ -6,3 +6,4 @@ pub mod Uprights
 pub mod Pages
 pub mod StockTests
 pub mod OpeningHours
+pub mod Doors

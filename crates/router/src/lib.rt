@@ -31,7 +31,7 @@ fn order_of(job: JobValue, shelf: Shelf) -> Order
 {
     let layout = job.layout;
     let word = job.policy;
-    let policy = table::filling::policy_number(word);
+    let policy = table::filling::policy_number(word, layout);
     let digits = demand::digits::digits_of(job);
     Order {
         layout,

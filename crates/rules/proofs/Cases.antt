@@ -25,7 +25,7 @@ use Rattle.rules.specs.BestPlan.{actionsOf, passagesInOrder, single, pre
 use Rattle.rules.specs.Examples.{stocked, _⨯_, alpha, beta, steps, roundTrip, cases, ownJob, oneEach, midwayFront, midwayBack, farBack, nearBack, bothEnds, bottomOrTop, topOrGap, gapOrOnce, frontOrBack, leftFirst, topTie, withOthers, gapByFront, gapByBack, posted, thirdCells, beforeMiddle, behindMiddle, wrongLayout, wrongStock, sharedCell, sharedArticle, bothBottom, bothOnce, eightLines, nineLines, frontOnly, awayFromDepot, ownCases, twoLines, counted, fromTheBack, pageFromTheBack, texts, overfull, RefusedWith, workedJob, workedSheet, workedPage}
 use Rattle.rules.specs.Examples.{betaWith, cellsBetween, fourBetween, besideUnlisted, listedInGap, oneAisle, betweenEnds, largestCases, stopLists}
 use Rattle.rules.specs.Examples.{restocked, lookedCases, lookedTexts, AllLooked}
-use Rattle.rules.specs.Examples.{window, timed, sevenAt, inAisleOne, inAisleTwo, overstocked, hoursCases, hoursLooked, beforeList, noJobFile, hoursTexts}
+use Rattle.rules.specs.Examples.{window, timed, sevenAt, inAisleOne, inAisleTwo, overstocked, hoursCases, hoursLooked, beforeList, noJobFile, hoursTexts, doorAt, wantedIn, threePlaces, spareAisle, doorCases}
 use Rattle.rules.specs.Hours.{openAt, windowInBounds}
 use Rattle.rules.specs.FirstWalk.{without, stepsOf, firstWalk}
 use Rattle.rules.specs.JobFile.{numeral, field, header, sectionText, jobText, layoutText, layoutSectionText, recordText, windowText, lineText, isDigit, isNumber, readField, readHeader, readPolicyAs, readPolicy, readLayout, readPostsLine, readPosts, readRecord, readWindow, readMinute, readClock, readLine, readSection, readLayoutSection, readSections, readJob}
@@ -288,6 +288,37 @@ hours-cases-hold = (
   refl ▸ refl ▸ refl ▸ tt,
   refl ▸ refl ▸ refl ▸ refl ▸ refl ▸ refl ▸ refl ▸ refl ▸ refl ▸ tt,
 )
+
+-- the rows of request #107
+door-cases-computed : AllComputed doorCases
+unfolding actionsOf passagesInOrder single prepend shorterOf stocked _⨯_ listed holdsListed actionPossible actionStep passageStep accepts actionAt
+    passageAt multiplicity lengthOf planLength planPasses inFrontHalf inBackHalf supply serves aisleLength position backHeight depotPoint distance edgesOf
+    boundedBest actionLength passageLength recordInBounds stockInBounds sameCell lineInBounds listInBounds sameArticle weight allStock shortOfStock jobRows
+    jobRefusal within layoutInBounds ownJob treadsNothing doorAt wantedIn threePlaces spareAisle doorCases
+door-cases-computed =
+    (refl, refl, refl, refl)
+    ▸ (refl, refl, refl, refl)
+    ▸ (refl, refl, refl, refl)
+    ▸ (refl, refl, refl, refl)
+    ▸ (refl, refl, refl, refl)
+    ▸ (refl, refl, refl, refl)
+    ▸ (refl, refl, refl, refl)
+    ▸ (refl, refl, refl, refl)
+    ▸ (refl, refl, refl, refl)
+    ▸ (refl, refl, refl, refl)
+    ▸ (refl, refl, refl, refl)
+    ▸ (refl, refl, refl, refl)
+    ▸ (refl, refl, refl, refl)
+    ▸ (refl, refl)
+    ▸ (refl, refl)
+    ▸ (refl, refl)
+    ▸ (refl, refl)
+    ▸ (refl, refl, refl, refl)
+    ▸ tt
+
+-- the table of request #107
+pub door-cases-hold : AllHold doorCases
+door-cases-hold = all-hold doorCases door-cases-computed
 
 -- the table of request #105, what its program prints, and the numbers that are handed on
 pub looked-cases-hold : AllLooked lookedCases × AllSame lookedTexts

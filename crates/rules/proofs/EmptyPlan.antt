@@ -22,7 +22,7 @@ use Rattle.rules.specs.Jobs.{Job}
 use Rattle.rules.specs.Plans.{Plan, WellFormed, Fits, actionAt, passageAt, aisleTreads, backTreads, frontTreads, multiplicity, lengthOf, planLength, entered}
 use Rattle.rules.specs.Lawful.{TreadsNothing}
 use Rattle.rules.specs.Lengths.{actionLength, passageLength}
-use Rattle.rules.specs.Policies.{actionNamed, passageNamed, Entered, First, Last, TraversalRule, MidpointRule, OwnRule, PolicyRules, Follows}
+use Rattle.rules.specs.Policies.{actionNamed, passageNamed, Entered, First, Last, End, leftmost, rightmost, EnteredAt, walkBackEnd, TraversalRule, MidpointRule, OwnRule, PolicyRules, Follows}
 use Rattle.rules.specs.Machine.{isVoid, is00, treadsNothing}
 use Rattle.rules.specs.FirstWalk.{firstFrom, stepsOf, firstWalk}
 use Rattle.rules.specs.BestPlan.{emptyPlan}
@@ -198,12 +198,17 @@ module _ (job : Job) where
   unfolding Entered
   empty-entered j e = true≢false (sym e ∙ ap entered (empty-action (job .layout) j))
 
-  empty-traversal : TraversalRule idle
-  unfolding Last
+  -- none is at an end of those entered
+  empty-end : (end : End) (j : ℕ) → EnteredAt end idle j → ⊥
+  unfolding First Last
+  empty-end leftmost j f = empty-entered j (f .0)
+  empty-end rightmost j l = empty-entered j (l .0)
+
+  empty-traversal : TraversalRule (job .layout) idle
   empty-traversal =
       record {
         even = λ e j i. absurd (empty-entered j i);
-        odd-last = λ e j l. absurd (empty-entered j (l .0));
+        odd-walked-back = λ e j b. absurd (empty-end (walkBackEnd (job .layout)) j b);
         odd-others = λ e j i l. absurd (empty-entered j i);
       }
 
@@ -225,7 +230,7 @@ module _ (job : Job) where
   empty-own Composite = tt
   empty-own Largest = empty-midpoint
 
-  empty-rules : PolicyRules job idle
+  empty-rules : PolicyRules (OwnRule (job .policy) job idle) job idle
   empty-rules =
       let named = named-void (job .policy) in
       record {

@@ -24,7 +24,7 @@ use Rattle.rules.specs.Lists.{from, sumOf, allOf, select, headOr}
 use Rattle.rules.specs.Store.{Point, Edge, along, front, back, withPosts, cellPosition, aisleLength, position, backHeight, depotPoint, distance, edgesOf, within, layoutInBounds}
 use Rattle.rules.specs.Jobs.{Job, emptyList, jobWithPosts, listed, holdsListed, cellHoldsListed}
 use Rattle.rules.specs.Plans.{Plan, aisleTreads, multiplicity, lengthOf, planLength, planPasses}
-use Rattle.rules.specs.Policies.{inFrontHalf, inBackHalf, halved, Part, fromFront, fromBack, partsOf, listedCells, stopsOn, untrodden, through}
+use Rattle.rules.specs.Policies.{walkBackEnd, inFrontHalf, inBackHalf, halved, Part, fromFront, fromBack, partsOf, listedCells, stopsOn, untrodden, through}
 use Rattle.rules.specs.Machine.{State, policyBy, actionPossible, actionStep, passageStep, runFrom, isClosed, treadsNothing, accepts, nothing, dead}
 use Rattle.rules.specs.Machine.{stopsWithin, partKeeps, keepsLargestGap, betweenTest}
 use Rattle.rules.specs.Serving.{serves}
@@ -149,7 +149,7 @@ module _ (k : ℕ) (job : Job) where
   same-step : (j : ℕ) (a : Action) (s : State) → actionStep lined j a s ≡ actionStep plain j a s
   unfolding actionStep actionPossible holdsListed listed
   same-step j a s =
-      ap (λ between. cond (actionPossible plain j a) (policyBy (job .policy) between a s) dead) (same-between (job .policy) j a)
+      ap (λ between. cond (actionPossible plain j a) (policyBy (job .policy) (walkBackEnd (job .layout)) between a s) dead) (same-between (job .policy) j a)
 
   same-run : (actions : List Action) (passages : List Passage) (j : ℕ) (s : State) → runFrom lined j s actions passages ≡ runFrom plain j s actions passages
   unfolding passageStep

@@ -25,7 +25,7 @@ use Rattle.rules.specs.Plans.{Plan, planLength, planPasses}
 use Rattle.rules.specs.Policies.{Part, fromFront, fromBack, partPasses, partsOf, listedCells, untrodden, through}
 use Rattle.rules.specs.Machine.{State, policyBy, enterable, actionPossible, actionStep, passageStep, runFrom, isClosed, isVoid, treadsNothing, accepts, nothing, dead}
 use Rattle.rules.specs.Machine.{stopsWithin, partKeeps, keepsLargestGap, betweenTest}
-use Rattle.rules.specs.Policies.{actionNamed}
+use Rattle.rules.specs.Policies.{actionNamed, walkBackEnd}
 use Rattle.rules.specs.Serving.{supply, serves}
 use Rattle.rules.specs.BestPlan.{plansOf, firstShortest, servingPlans, emptyPlan, bestPlan}
 use Rattle.rules.specs.Picks.{cellsOf, recordAt, found, picksFrom, passedRecords, picksOf}
@@ -83,7 +83,7 @@ module _ (job : Job) (stock : List StockRecord) (hours : Hours) where
     same-step : (j : ℕ) (a : Action) (s : State) → actionStep changed j a s ≡ actionStep job j a s
     unfolding actionStep actionPossible
     same-step j a s =
-        ap₂ (λ enter between. cond (actionNamed (job .policy) a && (isVoid a || enter)) (policyBy (job .policy) between a s) dead)
+        ap₂ (λ enter between. cond (actionNamed (job .policy) a && (isVoid a || enter)) (policyBy (job .policy) (walkBackEnd (job .layout)) between a s) dead)
         (alike .enters j) (same-between (job .policy) j a)
 
     same-run : (actions : List Action) (passages : List Passage) (j : ℕ) (s : State) → runFrom changed j s actions passages ≡ runFrom job j s actions passages

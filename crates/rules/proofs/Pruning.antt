@@ -21,9 +21,9 @@ use Rattle.rules.specs.Lists.{headOr, select, concatOf, sumOf, allOf}
 use Rattle.rules.specs.Lengths.{actionLength, passageLength}
 use Rattle.rules.specs.Jobs.{Job, emptyList}
 use Rattle.rules.specs.Plans.{Plan, Fits, WellFormed, planLength, planPasses}
-use Rattle.rules.specs.Policies.{passageNamed}
+use Rattle.rules.specs.Policies.{passageNamed, End, leftmost, rightmost, walkBackEnd}
 use Rattle.rules.specs.Machine.{State, nothing, closed, atFront, atBack, odd, joined, split, ending, dead, runFrom, isClosed, treadsNothing, accepts}
-use Rattle.rules.specs.Machine.{lawfulStep, traversalStep, midpointStep, policyStep, betweenTest, actionPossible, actionStep, crossStep, passageStep}
+use Rattle.rules.specs.Machine.{lawfulStep, traversalOnce, traversalStep, midpointStep, policyStep, betweenTest, actionPossible, actionStep, crossStep, passageStep}
 use Rattle.rules.specs.Serving.{serves}
 use Rattle.rules.proofs.Lengths.{plan-length}
 use Rattle.rules.proofs.Listing.{listed-sound}
@@ -39,13 +39,17 @@ lawful-dead (Gap h i) = refl
 lawful-dead Once = refl
 lawful-dead Twice = refl
 
-traversal-dead : (a : Action) → traversalStep a dead ≡ dead
-traversal-dead Void = refl
-traversal-dead (Bottom i) = refl
-traversal-dead (Top i) = refl
-traversal-dead (Gap h i) = refl
-traversal-dead Once = refl
-traversal-dead Twice = refl
+through-dead : (end : End) → traversalOnce end dead ≡ dead
+through-dead leftmost = refl
+through-dead rightmost = refl
+
+traversal-dead : (end : End) (a : Action) → traversalStep end a dead ≡ dead
+traversal-dead end Void = refl
+traversal-dead end (Bottom i) = refl
+traversal-dead end (Top i) = refl
+traversal-dead end (Gap h i) = refl
+traversal-dead end Once = through-dead end
+traversal-dead end Twice = refl
 
 midpoint-dead : (between : Action → Bool) (a : Action) → midpointStep between a dead ≡ dead
 midpoint-dead between Void = refl
@@ -55,13 +59,13 @@ midpoint-dead between (Gap h i) = refl
 midpoint-dead between Once = refl
 midpoint-dead between Twice = refl
 
-policy-dead : (policy : Policy) (between : Action → Bool) (a : Action) → policyStep policy between a dead ≡ dead
-policy-dead Exact between a = lawful-dead a
-policy-dead Return between a = lawful-dead a
-policy-dead Traversal between a = traversal-dead a
-policy-dead Midpoint between a = midpoint-dead between a
-policy-dead Composite between a = lawful-dead a
-policy-dead Largest between a = midpoint-dead between a
+policy-dead : (policy : Policy) (end : End) (between : Action → Bool) (a : Action) → policyStep policy end between a dead ≡ dead
+policy-dead Exact end between a = lawful-dead a
+policy-dead Return end between a = lawful-dead a
+policy-dead Traversal end between a = traversal-dead end a
+policy-dead Midpoint end between a = midpoint-dead between a
+policy-dead Composite end between a = lawful-dead a
+policy-dead Largest end between a = midpoint-dead between a
 
 cross-dead : (d j : ℕ) (p : Passage) → crossStep d j p dead ≡ dead
 cross-dead d j P00 = refl
@@ -76,7 +80,7 @@ cond-dead false s e = refl
 
 pub action-dead : (job : Job) (j : ℕ) (a : Action) → actionStep job j a dead ≡ dead
 unfolding actionStep
-action-dead job j a = cond-dead (actionPossible job j a) _ (policy-dead (job .policy) (betweenTest (job .policy) job j) a)
+action-dead job j a = cond-dead (actionPossible job j a) _ (policy-dead (job .policy) (walkBackEnd (job .layout)) (betweenTest (job .policy) job j) a)
 
 pub passage-dead : (job : Job) (j : ℕ) (p : Passage) → passageStep job j p dead ≡ dead
 unfolding passageStep

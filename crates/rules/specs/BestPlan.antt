@@ -107,12 +107,15 @@ emptyPlan z = record { actions = replicate (z .aisles) Void; passages = replicat
 unfoldable pub bestPlan : Job → Plan
 bestPlan job = Option·getD (firstShortest (planLength (job .layout)) (servingPlans job)) (emptyPlan (job .layout))
 
--- its declarative twin: the policy allows the plan and it serves the list; no other such plan is shorter;
--- and of those that are no longer it is the first in the order of plans.
--- That this is `bestPlan`, and no other plan, for every job that is not refused is proved (optimum/proofs/Best, `best-plan`,
--- `best-plan-only`)
-pub record IsBest (job : Job) (plan : Plan) : Type 0 where
-  pub allowed : Allowed job plan
+-- its declarative twin, among the plans that are allowed: the plan is and serves the list; no other such plan is shorter;
+-- and of those that are no longer it is the first in the order of plans
+pub record BestAmong (Allows : Plan → Type 0) (job : Job) (plan : Plan) : Type 0 where
+  pub allowed : Allows plan
   pub serving : PlanServes job plan
-  pub least : (other : Plan) → Allowed job other → PlanServes job other → planLength (job .layout) plan ≤ planLength (job .layout) other
-  pub first : (other : Plan) → Allowed job other → PlanServes job other → planLength (job .layout) other ≤ planLength (job .layout) plan → (other ≡ plan) ⊎ PlanBefore (job .layout .cells) plan other
+  pub least : (other : Plan) → Allows other → PlanServes job other → planLength (job .layout) plan ≤ planLength (job .layout) other
+  pub first : (other : Plan) → Allows other → PlanServes job other → planLength (job .layout) other ≤ planLength (job .layout) plan → (other ≡ plan) ⊎ PlanBefore (job .layout .cells) plan other
+
+-- among those that the job's policy allows: that this is `bestPlan`, and no other plan, for every job that is not refused is proved
+-- (optimum/proofs/Best, `best-plan`, `best-plan-only`)
+abbrev pub IsBest : Job → Plan → Type 0
+IsBest job plan = BestAmong (Allowed job) job plan

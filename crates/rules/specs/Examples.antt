@@ -519,6 +519,47 @@ hoursTexts =
     ∷ (output (beforeList (72 ∷ 32 ∷ 48 ∷ 10 ∷ 77 ∷ 32 ∷ 49 ∷ 10 ∷ 53 ∷ 10 ∷ [])), noJobFile)  -- H 0, M 1, 5
     ∷ []
 
+-- request #107's own store, with its depot at aisle d
+unfoldable pub doorAt : ℕ → Policy → Job
+doorAt d = ownJob 3 5 1 1 1 1 d (stocked 1 5 3 1 ∷ stocked 2 1 1 1 ∷ stocked 3 1 4 1 ∷ []) ((1 ⨯ 1) ∷ (3 ⨯ 1) ∷ (4 ⨯ 1) ∷ [])
+
+-- a store like it with m aisles: in each of these aisles this cell is wanted, for an article that has the aisle's number
+unfoldable pub wantedIn : (m d : ℕ) → List (ℕ × ℕ) → Policy → Job
+wantedIn m d places =
+    ownJob m 5 1 1 1 1 d (map (λ (x : ℕ × ℕ). stocked (x .0) (x .1) (x .0) 1) places) (map (λ (x : ℕ × ℕ). (x .0) ⨯ 1) places)
+
+-- the last cell of aisle 1 and the first of the two beside it
+unfoldable pub threePlaces : List (ℕ × ℕ)
+threePlaces = (1, 5) ∷ (2, 1) ∷ (3, 1) ∷ []
+
+-- four aisles, the depot at the last; aisle 1 has what the list wants of aisle 2
+unfoldable pub spareAisle : Policy → Job
+spareAisle =
+    ownJob 4 5 1 1 1 1 4 (stocked 1 5 2 1 ∷ stocked 2 5 2 1 ∷ stocked 3 1 3 1 ∷ stocked 4 1 4 1 ∷ []) ((2 ⨯ 1) ∷ (3 ⨯ 1) ∷ (4 ⨯ 1) ∷ [])
+
+-- cases of request #107; each row against a misreading
+unfoldable pub doorCases : List Case
+doorCases =
+    under Traversal (doorAt 3) (tour 26 (Bottom 5 ∷ Once ∷ Once ∷ []) (P02 ∷ P11 ∷ []))  -- from the right-hand door the leftmost is walked back
+    ∷ under Traversal (doorAt 2) (tour 18 (Once ∷ Once ∷ Bottom 1 ∷ []) (P11 ∷ P02 ∷ []))  -- the middle aisle of an odd m keeps the rightmost rule
+    ∷ under Traversal (doorAt 1) (tour 18 (Once ∷ Once ∷ Bottom 1 ∷ []) (P11 ∷ P02 ∷ []))  -- and so does the left-hand door
+    ∷ under Traversal (wantedIn 4 3 ((1, 5) ∷ (2, 1) ∷ (4, 1) ∷ [])) (tour 28 (Bottom 5 ∷ Once ∷ Void ∷ Once ∷ []) (P02 ∷ P11 ∷ P11 ∷ []))  -- d need not be m: 6 exceeds 5
+    ∷ under Traversal (wantedIn 4 2 ((1, 5) ∷ (2, 1) ∷ (4, 1) ∷ [])) (tour 20 (Once ∷ Once ∷ Void ∷ Bottom 1 ∷ []) (P11 ∷ P02 ∷ P02 ∷ []))  -- 4 does not
+    ∷ under Traversal (wantedIn 16 9 threePlaces) (tour 38 (Bottom 5 ∷ Once ∷ Once ∷ replicate 13 Void) (P02 ∷ P11 ∷ replicate 6 P02 ++ replicate 7 P00))  -- 18 exceeds 17
+    ∷ under Traversal (wantedIn 16 8 threePlaces) (tour 28 (Once ∷ Once ∷ Bottom 1 ∷ replicate 13 Void) (P11 ∷ replicate 6 P02 ++ replicate 8 P00))  -- 16 does not exceed 17
+    ∷ under Traversal spareAisle (tour 26 (Void ∷ Bottom 5 ∷ Once ∷ Once ∷ []) (P00 ∷ P02 ∷ P11 ∷ []))  -- the leftmost entered, not the leftmost that could be
+    ∷ under Traversal (wantedIn 3 3 ((1, 1) ∷ (2, 1) ∷ [])) (tour 16 (Once ∷ Once ∷ Void ∷ []) (P11 ∷ P02 ∷ []))  -- an even number: all are ONCE
+    ∷ under Traversal (wantedIn 4 4 ((1, 1) ∷ (2, 1) ∷ (3, 1) ∷ (4, 1) ∷ [])) (tour 30 (Once ∷ Once ∷ Once ∷ Once ∷ []) (P11 ∷ P02 ∷ P11 ∷ []))  -- two rounds
+    ∷ under Traversal (wantedIn 5 4 ((1, 2) ∷ (2, 1) ∷ (3, 1) ∷ (4, 1) ∷ (5, 1) ∷ [])) (tour 36 (Bottom 2 ∷ Once ∷ Once ∷ Once ∷ Once ∷ []) (P02 ∷ P11 ∷ P02 ∷ P11 ∷ []))  -- the others ONCE
+    ∷ under Traversal (wantedIn 3 3 ((1, 5) ∷ [])) (tour 14 (Bottom 5 ∷ Void ∷ Void ∷ []) (P02 ∷ P02 ∷ []))  -- a single aisle is walked back
+    ∷ under Traversal (wantedIn 4 3 ((4, 2) ∷ [])) (tour 6 (Void ∷ Void ∷ Void ∷ Bottom 2 ∷ []) (P00 ∷ P00 ∷ P02 ∷ []))  -- also right of the depot
+    ∷ under Traversal (doorAt 3) (allowing false (Once ∷ Once ∷ Bottom 1 ∷ []) (P11 ∷ P02 ∷ []))  -- not the rightmost: 18 before the request
+    ∷ under Traversal (doorAt 3) (allowing false (Once ∷ Bottom 1 ∷ Once ∷ []) (P11 ∷ P11 ∷ []))  -- nor one between
+    ∷ under Traversal (doorAt 3) (allowing false (Bottom 5 ∷ Bottom 1 ∷ Bottom 1 ∷ []) (P02 ∷ P02 ∷ []))  -- and only one
+    ∷ under Traversal (doorAt 2) (allowing false (Bottom 5 ∷ Once ∷ Once ∷ []) (P02 ∷ P11 ∷ []))  -- from the middle not the leftmost
+    ∷ under Midpoint (doorAt 3) (tour 18 (Once ∷ Bottom 1 ∷ Once ∷ []) (P11 ∷ P11 ∷ []))  -- TRAVERSAL's rule alone
+    ∷ []
+
 -- an L section with posts
 unfoldable pub twoLines : List ℕ
 twoLines =

@@ -16,7 +16,7 @@ use Rattle.rules.specs.Store.{position}
 use Rattle.rules.specs.Hours.{isOpen}
 use Rattle.rules.specs.Jobs.{Job, emptyList, holdsListed, cellHoldsListed}
 use Rattle.rules.specs.Plans.{Plan}
-use Rattle.rules.specs.Policies.{actionNamed, passageNamed, halved, Part, partsOf, turnOf, stopsOn, untrodden, through}
+use Rattle.rules.specs.Policies.{actionNamed, passageNamed, End, leftmost, rightmost, walkBackEnd, halved, Part, partsOf, turnOf, stopsOn, untrodden, through}
 
 -- what has been trodden so far, seen from the right
 pub data State : Type 0 where
@@ -27,20 +27,24 @@ pub data State : Type 0 where
   odd : State  -- at both ends, each with an odd number of treads (uu1c)
   joined : State  -- at both ends, even, one component (ee1c)
   split : State  -- at both ends, even, two components (ee2c)
-  ending : State  -- goes on at the front, and no aisle may be entered any more (TRAVERSAL, MIDPOINT and LARGEST)
+  ending : State  -- goes on at the front, and no aisle may be entered any more (TRAVERSAL, MIDPOINT and LARGEST); or ONCE alone (TRAVERSAL, left end)
   dead : State  -- no plan goes on from here
 
 -- a row of the table: the next state for each state in which an aisle may be entered
+abbrev pub wideRow : (nothing atFront atBack odd joined split ending : State) → State → State
+wideRow n f k t j s e nothing = n
+wideRow n f k t j s e closed = dead
+wideRow n f k t j s e atFront = f
+wideRow n f k t j s e atBack = k
+wideRow n f k t j s e odd = t
+wideRow n f k t j s e joined = j
+wideRow n f k t j s e split = s
+wideRow n f k t j s e ending = e
+wideRow n f k t j s e dead = dead
+
+-- a row by which none may be entered in `ending`
 abbrev pub row : (nothing atFront atBack odd joined split : State) → State → State
-row n f k t j s nothing = n
-row n f k t j s closed = dead
-row n f k t j s atFront = f
-row n f k t j s atBack = k
-row n f k t j s odd = t
-row n f k t j s joined = j
-row n f k t j s split = s
-row n f k t j s ending = dead
-row n f k t j s dead = dead
+row n f k t j s = wideRow n f k t j s dead
 
 -- the state after an action, for EXACT, RETURN and COMPOSITE
 abbrev pub lawfulStep : Action → State → State
@@ -51,14 +55,19 @@ lawfulStep (Gap h i) s = row split split split odd joined split s
 lawfulStep Once s = row odd odd odd joined odd odd s
 lawfulStep Twice s = row joined joined joined odd joined joined s
 
--- TRAVERSAL: aisles are walked through; BOTTOM only in the last one
-abbrev pub traversalStep : Action → State → State
-traversalStep Void s = s
-traversalStep (Bottom i) s = row ending ending dead dead dead dead s
-traversalStep (Top i) s = dead
-traversalStep (Gap h i) s = dead
-traversalStep Once s = row odd odd dead joined dead dead s
-traversalStep Twice s = dead
+-- the state after ONCE under TRAVERSAL, by the end at which it walks an aisle back
+abbrev pub traversalOnce : End → State → State
+traversalOnce leftmost s = wideRow odd odd dead ending dead dead odd s
+traversalOnce rightmost s = row odd odd dead joined dead dead s
+
+-- TRAVERSAL: aisles are walked through; BOTTOM only in the first one or in the last one
+abbrev pub traversalStep : End → Action → State → State
+traversalStep end Void s = s
+traversalStep end (Bottom i) s = row ending ending dead dead dead dead s
+traversalStep end (Top i) s = dead
+traversalStep end (Gap h i) s = dead
+traversalStep end Once s = traversalOnce end s
+traversalStep end Twice s = dead
 
 -- MIDPOINT and LARGEST: a single BOTTOM, or ONCE, aisles between, ONCE; with the answer of the test for aisles between
 abbrev pub midpointBy : Bool → Action → State → State
@@ -73,18 +82,18 @@ midpointBy between Twice s = dead
 abbrev pub midpointStep : (Action → Bool) → Action → State → State
 midpointStep between a s = midpointBy (between a) a s
 
--- the state after an action that the policy names, with the answer of the test for aisles between
-abbrev pub policyBy : Policy → Bool → Action → State → State
-policyBy Exact between a s = lawfulStep a s
-policyBy Return between a s = lawfulStep a s
-policyBy Traversal between a s = traversalStep a s
-policyBy Midpoint between a s = midpointBy between a s
-policyBy Composite between a s = lawfulStep a s
-policyBy Largest between a s = midpointBy between a s
+-- the state after an action that the policy names, with TRAVERSAL's end and the answer of the test for aisles between
+abbrev pub policyBy : Policy → End → Bool → Action → State → State
+policyBy Exact end between a s = lawfulStep a s
+policyBy Return end between a s = lawfulStep a s
+policyBy Traversal end between a s = traversalStep end a s
+policyBy Midpoint end between a s = midpointBy between a s
+policyBy Composite end between a s = lawfulStep a s
+policyBy Largest end between a s = midpointBy between a s
 
 -- the same with the test itself
-abbrev pub policyStep : Policy → (Action → Bool) → Action → State → State
-policyStep policy between a s = policyBy policy (between a) a s
+abbrev pub policyStep : Policy → End → (Action → Bool) → Action → State → State
+policyStep policy end between a s = policyBy policy end (between a) a s
 
 -- whether the distances between neighbouring stops are at most n, by the positions of heights
 abbrev pub stopsWithin : (ℕ → ℕ) → ℕ → List ℕ → Bool
@@ -137,7 +146,7 @@ actionPossible job j a = actionNamed (job .policy) a && (isVoid a || enterable j
 
 -- the state after the action of aisle j
 unfoldable pub actionStep : Job → ℕ → Action → State → State
-actionStep job j a s = cond (actionPossible job j a) (policyStep (job .policy) (betweenTest (job .policy) job j) a s) dead
+actionStep job j a s = cond (actionPossible job j a) (policyStep (job .policy) (walkBackEnd (job .layout)) (betweenTest (job .policy) job j) a s) dead
 
 -- the state after a passage behind an aisle; whether the depot is here, has been reached, has been passed
 abbrev pub crossBy : (here reached passed : Bool) → Passage → State → State

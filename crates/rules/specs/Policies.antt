@@ -1,9 +1,10 @@
--- Document 01, "Policies", request #104, LARGEST, and request #106, shut aisles: the plans that a job's policy allows.
+-- Document 01, "Policies", request #104, LARGEST, request #106, shut aisles, and request #107, TRAVERSAL from the right-hand door: the plans
+-- that a job's policy allows.
 use Prim.Native.Nat.{ℕ, zero, suc, _+_, _*_, _-_, _%_, _≤_, _<_}
 use mathlib.Core.Path.{_≡_}
 use mathlib.Core.List.{List, [], _∷_, _++_, List·Memᴰ}
 use mathlib.Core.Bool.{Bool, true, false, cond, _&&_}
-use lib.Dec.{leb, eqb}
+use lib.Dec.{ltb, leb, eqb}
 use Rattle.rules.specs.declared.Layout.{Layout}
 use Rattle.rules.specs.declared.Policy.{Policy}
 use Rattle.rules.specs.declared.Policy.the-variants.{Exact, Return, Traversal, Midpoint, Composite, Largest}
@@ -53,7 +54,7 @@ enteredAisles plan = sumOf (λ a. cond (entered a) 1 0) (plan .actions)
 unfoldable pub Entered : Plan → ℕ → Type 0
 Entered plan j = entered (actionAt plan j) ≡ true
 
--- the first entered aisle: none before it is entered
+-- the first ("leftmost") entered aisle: none before it is entered
 unfoldable pub First : Plan → ℕ → Type 0
 First plan j = Entered plan j × ((i : ℕ) → i < j → Entered plan i → ⊥)
 
@@ -65,12 +66,29 @@ Last plan j = Entered plan j × ((i : ℕ) → j < i → Entered plan i → ⊥)
 unfoldable pub IsBottom : Action → Type 0
 IsBottom a = (i : ℕ) × (a ≡ Bottom i)
 
--- TRAVERSAL: with an even number of entered aisles all are ONCE; with an odd number
--- the rightmost entered is BOTTOM and the others ONCE
-pub record TraversalRule (plan : Plan) : Type 0 where
+-- an end of the row of entered aisles
+pub data End : Type 0 where
+  leftmost : End
+  rightmost : End
+
+-- the entered aisle at an end
+abbrev pub EnteredAt : End → Plan → ℕ → Type 0
+EnteredAt leftmost plan j = First plan j
+EnteredAt rightmost plan j = Last plan j
+
+-- the end at which TRAVERSAL walks an aisle back: the left one where 2·d exceeds m + 1 (the depot lies to the right), otherwise the right one
+abbrev pub walkBackEnd : Layout → End
+walkBackEnd z = cond (ltb (z .aisles + 1) (2 * z .depot)) leftmost rightmost
+
+-- the aisle walked back under TRAVERSAL
+abbrev pub WalkedBack : Layout → Plan → ℕ → Type 0
+WalkedBack z plan j = EnteredAt (walkBackEnd z) plan j
+
+-- TRAVERSAL: with an even number of entered aisles all are ONCE; with an odd number the aisle walked back is BOTTOM and the others ONCE
+pub record TraversalRule (z : Layout) (plan : Plan) : Type 0 where
   pub even : enteredAisles plan % 2 ≡ 0 → (j : ℕ) → Entered plan j → actionAt plan j ≡ Once
-  pub odd-last : enteredAisles plan % 2 ≡ 1 → (j : ℕ) → Last plan j → IsBottom (actionAt plan j)
-  pub odd-others : enteredAisles plan % 2 ≡ 1 → (j : ℕ) → Entered plan j → (Last plan j → ⊥) → actionAt plan j ≡ Once
+  pub odd-walked-back : enteredAisles plan % 2 ≡ 1 → (j : ℕ) → WalkedBack z plan j → IsBottom (actionAt plan j)
+  pub odd-others : enteredAisles plan % 2 ≡ 1 → (j : ℕ) → Entered plan j → (WalkedBack z plan j → ⊥) → actionAt plan j ≡ Once
 
 -- the cell is no nearer to the back crossing than to the front one
 unfoldable pub inFrontHalf : Layout → ℕ → Bool
@@ -162,33 +180,37 @@ pub record MidpointRule (Between : ℕ → Action → Type 0) (plan : Plan) : Ty
 abbrev pub OwnRule : Policy → Job → Plan → Type 0
 OwnRule Exact job plan = Unit {0}
 OwnRule Return job plan = Unit {0}
-OwnRule Traversal job plan = TraversalRule plan
+OwnRule Traversal job plan = TraversalRule (job .layout) plan
 OwnRule Midpoint job plan = MidpointRule (λ j a. halved (job .layout) a ≡ true) plan
 OwnRule Composite job plan = Unit {0}
 OwnRule Largest job plan = MidpointRule (LargestGap job) plan
 
 -- the rules of a policy: its actions and passages only, an aisle holding no article of the list is VOID, and its own rule
-pub record PolicyRules (job : Job) (plan : Plan) : Type 0 where
+pub record PolicyRules (Own : Type 0) (job : Job) (plan : Plan) : Type 0 where
   pub actions : (j : ℕ) → actionNamed (job .policy) (actionAt plan j) ≡ true
   pub passages : (j : ℕ) → passageNamed (job .policy) (passageAt plan j) ≡ true
   pub void : (j : ℕ) → holdsListed job j ≡ false → actionAt plan j ≡ Void
-  pub own : OwnRule (job .policy) job plan
+  pub own : Own
 
 -- EXACT adds nothing; the other policies add their rules
 abbrev pub Follows : Policy → Job → Plan → Type 0
 Follows Exact job plan = Unit {0}
-Follows Return job plan = PolicyRules job plan
-Follows Traversal job plan = PolicyRules job plan
-Follows Midpoint job plan = PolicyRules job plan
-Follows Composite job plan = PolicyRules job plan
-Follows Largest job plan = PolicyRules job plan
+Follows Return job plan = PolicyRules (OwnRule (job .policy) job plan) job plan
+Follows Traversal job plan = PolicyRules (OwnRule (job .policy) job plan) job plan
+Follows Midpoint job plan = PolicyRules (OwnRule (job .policy) job plan) job plan
+Follows Composite job plan = PolicyRules (OwnRule (job .policy) job plan) job plan
+Follows Largest job plan = PolicyRules (OwnRule (job .policy) job plan) job plan
 
 -- a shut aisle is VOID
 unfoldable pub ShutVoid : Hours → Plan → Type 0
 ShutVoid hours plan = (j : ℕ) → isOpen hours j ≡ false → actionAt plan j ≡ Void
 
--- the plans that the job's policy allows: those that are lawful for its list, follow it and keep out of shut aisles
-pub record Allowed (job : Job) (plan : Plan) : Type 0 where
+-- a plan that is lawful for the job's list, follows these rules and keeps out of shut aisles
+pub record AllowedBy (Rules : Type 0) (job : Job) (plan : Plan) : Type 0 where
   pub lawful : LawfulFor (job .layout) (job .lines) plan
-  pub follows : Follows (job .policy) job plan
+  pub follows : Rules
   pub shut : ShutVoid (job .hours) plan
+
+-- the plans that the job's policy allows
+abbrev pub Allowed : Job → Plan → Type 0
+Allowed job plan = AllowedBy (Follows (job .policy) job plan) job plan

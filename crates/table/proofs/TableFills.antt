@@ -13,6 +13,7 @@ use Rattle.rules.specs.declared.Action.the-variants.{Bottom, Top}
 use Rattle.rules.specs.Hours.{isOpen}
 use Rattle.rules.specs.Jobs.{Job, holdsListed}
 use Rattle.rules.specs.Refusals.{weight, Admitted}
+use Rattle.rules.specs.Policies.{walkBackEnd}
 use Rattle.rules.specs.Machine.{isClosed, mayEnter, enterable}
 use Rattle.optimum.specs.Routing.{noTour}
 use Rattle.machine.specs.States.{stateOf}
@@ -107,7 +108,7 @@ unfolding aisleOf
 aisle-range job ok j =
     record {
       bounds = ok .layout;
-      policy-below = policy-code-below (job .policy);
+      policy-below = policy-code-below (job .policy) (walkBackEnd (job .layout));
       may-below = flag-below (enterable job j);
       small = ok .light;
       side-below = side-below (job .layout .depot) j;
@@ -165,7 +166,8 @@ module _ (job : Job) (o : Order) (of : OrderOf job o) where
     pub enter-open : getD (o .shelf .open) (j - 1) false ≡ true → (any : Bool) → any ≡ mayEnter (policyOf (o .policy)) false
         → enterable job j ≡ (any || holdsListed job j)
     enter-open e any a =
-        let known : any ≡ mayEnter (job .policy) false = a ∙ ap (λ p. mayEnter p false) (ap policyOf (of .policy) ∙ policy-of-code (job .policy)) in
+        let named = ap policyOf (of .policy) ∙ policy-of-code (job .policy) (walkBackEnd (job .layout)) in
+        let known : any ≡ mayEnter (job .policy) false = a ∙ ap (λ p. mayEnter p false) named in
         rw (sym flag-open ∙ e, known) (entered (job .policy) (holdsListed job j))
 
   -- the numbers of an aisle, one by one

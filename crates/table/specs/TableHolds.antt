@@ -6,6 +6,7 @@ use mathlib.Core.Bool.{Bool, cond}
 use lib.Dec.{ltb, eqb}
 use lib.ListN.{length, getD, set, replicate}
 use Rattle.rules.specs.Jobs.{Job}
+use Rattle.rules.specs.Policies.{walkBackEnd}
 use Rattle.rules.specs.Machine.{State, enterable}
 use Rattle.rules.specs.Refusals.{Admitted, weight}
 use Rattle.optimum.specs.Table.{afterAction, value}
@@ -39,7 +40,7 @@ triedAt (suc n) = 5
 pub record OrderOf (job : Job) (o : Order) : Type 0 where
   pub admitted : Admitted job
   pub layout : o .layout ≡ job .layout
-  pub policy : o .policy ≡ policyCode (job .policy)
+  pub policy : o .policy ≡ policyCode (job .policy) (walkBackEnd (job .layout))
   pub shelf : ShelfOf job (o .shelf)
   pub digits : DigitsOf job (o .digits)
 
@@ -48,7 +49,7 @@ unfoldable pub aisleOf : Job → ℕ → Aisle
 aisleOf job j =
     record {
       layout = job .layout;
-      policy = policyCode (job .policy);
+      policy = policyCode (job .policy) (walkBackEnd (job .layout));
       may = flagOf (enterable job j);
       weight = weight (job .lines);
       side = sideOf (job .layout .depot) j;

@@ -18,6 +18,8 @@ use values::Shelf;
 ghost use Prim.Native.Nat.{_+_, _-_, _<_, _≤_};
 ghost use Rattle.machine.specs.Steps.{bit, policyCode};
 ghost use Rattle.rules.specs.Jobs.{Job};
+ghost use Rattle.rules.specs.declared.Policy.the-variants.{Traversal};
+ghost use Rattle.rules.specs.Policies.{walkBackEnd};
 ghost use Rattle.rules.specs.Machine.{enterable};
 ghost use Rattle.rows.specs.Rows.{workArea};
 ghost use Rattle.table.specs.TableHolds.{BehindAsked, BehindFilled, LayerAsked, LayerFilled, OrderOf, TableFrom, aisleOf, endRow, sideOf, triedAt};
@@ -91,14 +93,24 @@ fn side_of(depot: usize, j: usize) -> usize
     2
 }
 
-// The number of a policy.
-pub fn policy_number(policy: Policy) -> usize
-    ensures { λ r. ⌜ r ≡ policyCode policy ⌝ }
+// The number of TRAVERSAL: 6, at the left end, where the depot lies right of the middle (2·d > m + 1), otherwise 2, at the right
+// end. The middle is half of m + 1, rounded down.
+fn traversal_number(layout: Layout) -> usize
+    ensures { λ r. ⌜ r ≡ policyCode Traversal (walkBackEnd layout) ⌝ }
+{
+    let aisles = layout.aisles;
+    let middle = aisles - aisles / 2;
+    if middle < layout.depot { 6 } else { 2 }
+}
+
+// The number of a policy in a store.
+pub fn policy_number(policy: Policy, layout: Layout) -> usize
+    ensures { λ r. ⌜ r ≡ policyCode policy (walkBackEnd layout) ⌝ }
 {
     match policy {
         Policy::Exact => 0,
         Policy::Return => 1,
-        Policy::Traversal => 2,
+        Policy::Traversal => traversal_number(layout),
         Policy::Midpoint => 3,
         Policy::Composite => 4,
         Policy::Largest => 5,

@@ -1,13 +1,14 @@
 -- A serving plan exists: where no line exceeds all the stock of its article, some plan that the policy allows serves the list.
 -- It enters every aisle that holds a listed article and passes all its cells. From aisle to aisle it goes on at the front, or at
--- both ends while a round is open, and is closed off behind the last aisle. LARGEST's is MIDPOINT's with its gaps moved.
+-- both ends while a round is open, and is closed off behind the last aisle; whether a round is opened goes by the number of aisles
+-- still to be entered. LARGEST's is MIDPOINT's with its gaps moved.
 use Prim.Native.Nat.{ℕ, zero, suc, _+_, _*_, _≤_, _<_}
 use native.Mathlib.Omega.{arith}
 use mathlib.Core.Path.{_≡_, refl, sym, _∙_, ap, subst}
 use mathlib.Core.Logic.{_⊎_, inl, inr}
 use mathlib.Core.List.{List, [], _∷_, List·Memᴰ, List·Memᴰ·head, List·Memᴰ·tail}
-use mathlib.Core.Bool.{Bool, true, false, cond, _&&_, _||_}
-use borrow.Author.Tests.{le-leb, leb-false, eqb-true, eq-eqb}
+use mathlib.Core.Bool.{Bool, true, false, cond, not, _&&_, _||_}
+use borrow.Author.Tests.{le-leb, leb-false, eqb-true, eq-eqb, not-true, not-false}
 use lib.Dec.{leb, eqb}
 use lib.ListN.{length}
 use Rattle.rules.specs.declared.Layout.{Layout}
@@ -20,15 +21,15 @@ use Rattle.rules.specs.declared.Passage.the-variants.{P00, P02, P11}
 use Rattle.rules.specs.declared.StockRecord.{StockRecord}
 use Rattle.rules.specs.declared.OrderLine.{OrderLine}
 use Rattle.rules.specs.Store.{position, aisleLength, LayoutWithin}
-use Rattle.rules.specs.Lists.{from, nth, sumOf, anyOf}
+use Rattle.rules.specs.Lists.{from, nth, sumOf, select}
 use Rattle.rules.specs.Jobs.{Job, jobUnder, openStock, listed, holdsListed}
 use Rattle.rules.specs.Plans.{Plan, WellFormed, Fits, actionAt, passesCell, planPasses}
-use Rattle.rules.specs.Policies.{Allowed, actionNamed, passageNamed, inFrontHalf, inBackHalf, halved}
+use Rattle.rules.specs.Policies.{Allowed, actionNamed, passageNamed, End, leftmost, rightmost, walkBackEnd, inFrontHalf, inBackHalf, halved}
 use Rattle.rules.specs.Serving.{supply, Serves, PlanServes}
 use Rattle.rules.specs.Refusals.{Admitted, allStock, RecordWithin}
 use Rattle.rules.specs.Machine.{State, nothing, closed, atFront, odd, joined, ending, dead, lawfulStep, midpointStep, policyStep, betweenTest, crossStep}
 use Rattle.rules.specs.Machine.{isVoid, mayEnter, actionPossible, actionStep, passageStep, runFrom, isClosed, closesOff, accepts}
-use Rattle.rules.proofs.Lists.{any-true, from-member, sum-agree}
+use Rattle.rules.proofs.Lists.{any-true, from-member, member-select, sum-agree}
 use Rattle.rules.specs.BestPlan.{emptyPlan}
 use Rattle.rules.proofs.Admission.{layout-within, stock-within, list-within, lines-in-stock, admitted-under, open-in-stock}
 use Rattle.rules.proofs.Jobs.{holding-open}
@@ -106,14 +107,25 @@ between z some = let t = half-of z (z .cells) in go (t .0) (t .1) (split-at (t .
         let f : inFrontHalf z (z .cells) ≡ true = rw e at (t .front (omega arith)) in
         (Bottom (z .cells), record { whole = bottom-whole (z .cells) some; named = refl; step = rw f })
 
--- the policies under which an aisle is walked through and another one later closes the round
-abbrev Pairs : Policy → Type 0
-Pairs Exact = ⊥
-Pairs Return = ⊥
-Pairs Traversal = Unit {0}
-Pairs Midpoint = Unit {0}
-Pairs Composite = ⊥
-Pairs Largest = Unit {0}
+-- whether a round is open with n aisles still to be entered: with any, if an aisle is walked back at the right end, with an odd number, if at the left
+abbrev stillOpen : ℕ → End → Bool
+stillOpen zero end = false
+stillOpen (suc n) leftmost = not (stillOpen n leftmost)
+stillOpen (suc n) rightmost = true
+
+-- an open round has an aisle that closes it
+one-closes : (n : ℕ) (end : End) → stillOpen n end ≡ true → 1 ≤ n
+one-closes zero end e = absurd (true-not-false (sym e))
+one-closes (suc n) end e = omega arith
+
+-- whether a round is open, by the policy: under those that walk aisles through; MIDPOINT and LARGEST walk back a single aisle, as at the right end
+abbrev Round : Policy → End → ℕ → Bool → Type 0
+Round Exact end n b = ⊥
+Round Return end n b = ⊥
+Round Traversal end n b = stillOpen n end ≡ b
+Round Midpoint end n b = stillOpen n rightmost ≡ b
+Round Composite end n b = ⊥
+Round Largest end n b = stillOpen n rightmost ≡ b
 
 -- the policies whose plan is built aisle by aisle
 abbrev Direct : Policy → Type 0
@@ -133,68 +145,71 @@ direct? Midpoint = inl tt
 direct? Composite = inl tt
 direct? Largest = inr refl
 
--- the states before an aisle from which the plan can go on; `more`: the aisle or one behind it is entered
-data Ready (policy : Policy) (more : Bool) : State → Type 0 where
-  none-yet : more ≡ true → Ready policy more nothing
-  on-front : Ready policy more atFront
-  on-both : Pairs policy → more ≡ true → Ready policy more odd
-  none-left : more ≡ false → Ready policy more ending
+-- the states before an aisle from which the plan can go on, with n aisles to enter from this one on
+data Ready (policy : Policy) (end : End) (n : ℕ) : State → Type 0 where
+  none-yet : 1 ≤ n → Ready policy end n nothing
+  on-front : Ready policy end n atFront
+  on-both : Round policy end n true → Ready policy end n odd
+  none-open : Round policy end n false → Ready policy end n ending
 
--- the states behind an aisle; `more`: an aisle behind it is entered
-data Behind (policy : Policy) (more : Bool) : State → Type 0 where
-  as-before : {s : State} → Ready policy more s → Behind policy more s
-  met-again : Behind policy more joined
+-- the states behind an aisle, with n aisles to enter behind it
+data Behind (policy : Policy) (end : End) (n : ℕ) : State → Type 0 where
+  as-before : {s : State} → Ready policy end n s → Behind policy end n s
+  met-again : Behind policy end n joined
 
 -- the state behind an aisle that may be entered
-abbrev enterStep : Job → ℕ → Policy → Action → State → State
-enterStep job j policy a s = cond (actionNamed policy a && (isVoid a || mayEnter policy true)) (policyStep policy (betweenTest policy job j) a s) dead
+abbrev enterStep : Job → ℕ → Policy → End → Action → State → State
+enterStep job j policy end a s = cond (actionNamed policy a && (isVoid a || mayEnter policy true)) (policyStep policy end (betweenTest policy job j) a s) dead
 
 module _ (job : Job) (some : 1 ≤ job .layout .cells) (j : ℕ) where
   -- an aisle is entered so that all its cells are passed
-  abbrev Entering : Policy → Bool → State → Type 0
-  Entering policy more s = (a : Action) × Whole (job .layout .cells) a × Behind policy more (enterStep job j policy a s)
+  abbrev Entering : Policy → End → ℕ → State → Type 0
+  Entering policy end n s = (a : Action) × Whole (job .layout .cells) a × Behind policy end n (enterStep job j policy end a s)
 
   -- by ONCE
-  by-once : (policy : Policy) (more : Bool) (s : State) → Behind policy more (enterStep job j policy Once s) → Entering policy more s
-  by-once policy more s behind = (Once, once-whole (job .layout .cells), behind)
+  by-once : (policy : Policy) (end : End) (n : ℕ) (s : State) → Behind policy end n (enterStep job j policy end Once s) → Entering policy end n s
+  by-once policy end n s behind = (Once, once-whole (job .layout .cells), behind)
 
   -- by BOTTOM up to the last cell
-  by-bottom : (policy : Policy) (more : Bool) (s : State) → Behind policy more (enterStep job j policy (Bottom (job .layout .cells)) s) → Entering policy more s
-  by-bottom policy more s behind = (Bottom (job .layout .cells), bottom-whole (job .layout .cells) some, behind)
+  by-bottom : (policy : Policy) (end : End) (n : ℕ) (s : State) → Behind policy end n (enterStep job j policy end (Bottom (job .layout .cells)) s) → Entering policy end n s
+  by-bottom policy end n s behind = (Bottom (job .layout .cells), bottom-whole (job .layout .cells) some, behind)
 
   -- every aisle by BOTTOM, where no round is opened
-  all-bottom : (policy : Policy) (more : Bool) {s : State} → (Pairs policy → ⊥)
-      → ((r : State) → enterStep job j policy (Bottom (job .layout .cells)) r ≡ lawfulStep (Bottom (job .layout .cells)) r)
-      → Ready policy true s → Entering policy more s
-  all-bottom policy more alone e (none-yet l) = by-bottom policy more nothing (rw (e nothing) (as-before on-front))
-  all-bottom policy more alone e on-front = by-bottom policy more atFront (rw (e atFront) (as-before on-front))
-  all-bottom policy more alone e (on-both p l) = absurd (alone p)
-  all-bottom policy more alone e (none-left l) = absurd (true-not-false l)
+  all-bottom : (policy : Policy) (end : End) (n : ℕ) {s : State} → ((b : Bool) → Round policy end (suc n) b → ⊥)
+      → ((r : State) → enterStep job j policy end (Bottom (job .layout .cells)) r ≡ lawfulStep (Bottom (job .layout .cells)) r)
+      → Ready policy end (suc n) s → Entering policy end n s
+  all-bottom policy end n never e (none-yet l) = by-bottom policy end n nothing (rw (e nothing) (as-before on-front))
+  all-bottom policy end n never e on-front = by-bottom policy end n atFront (rw (e atFront) (as-before on-front))
+  all-bottom policy end n never e (on-both r) = absurd (never true r)
+  all-bottom policy end n never e (none-open r) = absurd (never false r)
+
+  -- where a round may be opened: by ONCE if it is to be open behind the aisle, otherwise by BOTTOM none is
+  opening : (policy : Policy) (end : End) (n : ℕ) (s : State) (b : Bool) → Round policy end n b
+      → enterStep job j policy end Once s ≡ odd → enterStep job j policy end (Bottom (job .layout .cells)) s ≡ ending → Entering policy end n s
+  opening policy end n s true r once bottom = by-once policy end n s (rw once (as-before (on-both r)))
+  opening policy end n s false r once bottom = by-bottom policy end n s (rw bottom (as-before (none-open r)))
 
   -- from each state in which the plan is ready
-  enter : (policy : Policy) (more : Bool) {s : State} → Direct policy → Ready policy true s → Entering policy more s
-  enter Exact more direct r = all-bottom Exact more (λ p. p) (λ s. refl) r
-  enter Return more direct r = all-bottom Return more (λ p. p) (λ s. refl) r
-  enter Composite more direct r = all-bottom Composite more (λ p. p) (λ s. refl) r
-  enter Traversal true direct (none-yet l) = by-once Traversal true nothing (as-before (on-both tt refl))
-  enter Traversal false direct (none-yet l) = by-bottom Traversal false nothing (as-before (none-left refl))
-  enter Traversal true direct on-front = by-once Traversal true atFront (as-before (on-both tt refl))
-  enter Traversal false direct on-front = by-bottom Traversal false atFront (as-before (none-left refl))
-  enter Traversal true direct (on-both p l) = by-once Traversal true odd met-again
-  enter Traversal false direct (on-both p l) = by-once Traversal false odd met-again
-  enter Traversal true direct (none-left l) = absurd (true-not-false l)
-  enter Traversal false direct (none-left l) = absurd (true-not-false l)
-  enter Midpoint true direct (none-yet l) = by-once Midpoint true nothing (as-before (on-both tt refl))
-  enter Midpoint false direct (none-yet l) = by-bottom Midpoint false nothing (as-before (none-left refl))
-  enter Midpoint true direct on-front = by-once Midpoint true atFront (as-before (on-both tt refl))
-  enter Midpoint false direct on-front = by-bottom Midpoint false atFront (as-before (none-left refl))
-  enter Midpoint true direct (on-both p l) =
+  enter : (policy : Policy) (end : End) (n : ℕ) {s : State} → Direct policy → Ready policy end (suc n) s → Entering policy end n s
+  enter Exact end n direct r = all-bottom Exact end n (λ b p. p) (λ s. refl) r
+  enter Return end n direct r = all-bottom Return end n (λ b p. p) (λ s. refl) r
+  enter Composite end n direct r = all-bottom Composite end n (λ b p. p) (λ s. refl) r
+  enter Traversal leftmost n direct (none-yet l) = opening Traversal leftmost n nothing (stillOpen n leftmost) refl refl refl
+  enter Traversal leftmost n direct on-front = opening Traversal leftmost n atFront (stillOpen n leftmost) refl refl refl
+  enter Traversal leftmost n direct (on-both r) = by-once Traversal leftmost n odd (as-before (none-open (not-true (stillOpen n leftmost) r)))
+  enter Traversal leftmost n direct (none-open r) = by-once Traversal leftmost n ending (as-before (on-both (not-false (stillOpen n leftmost) r)))
+  enter Traversal rightmost n direct (none-yet l) = opening Traversal rightmost n nothing (stillOpen n rightmost) refl refl refl
+  enter Traversal rightmost n direct on-front = opening Traversal rightmost n atFront (stillOpen n rightmost) refl refl refl
+  enter Traversal rightmost n direct (on-both r) = by-once Traversal rightmost n odd met-again
+  enter Traversal rightmost n direct (none-open r) = absurd (true-not-false r)
+  enter Midpoint end n direct (none-yet l) = opening Midpoint end n nothing (stillOpen n rightmost) refl refl refl
+  enter Midpoint end n direct on-front = opening Midpoint end n atFront (stillOpen n rightmost) refl refl refl
+  enter Midpoint end zero direct (on-both r) = by-once Midpoint end zero odd (as-before (none-open refl))
+  enter Midpoint end (suc n) direct (on-both r) =
       let t = between (job .layout) some in
-      (t .0, t .1 .whole, rw (t .1 .named, or-true (isVoid (t .0)), t .1 .step) (as-before (on-both tt refl)))
-  enter Midpoint false direct (on-both p l) = by-once Midpoint false odd (as-before (none-left refl))
-  enter Midpoint true direct (none-left l) = absurd (true-not-false l)
-  enter Midpoint false direct (none-left l) = absurd (true-not-false l)
-  enter Largest more direct r = absurd direct
+      (t .0, t .1 .whole, rw (t .1 .named, or-true (isVoid (t .0)), t .1 .step) (as-before (on-both refl)))
+  enter Midpoint end n direct (none-open r) = absurd (true-not-false r)
+  enter Largest end n direct r = absurd direct
 
 -- every policy names 00 and 02
 front-named : (policy : Policy) → (passageNamed policy P00 ≡ true) × (passageNamed policy P02 ≡ true)
@@ -205,34 +220,34 @@ front-named Midpoint = (refl, refl)
 front-named Composite = (refl, refl)
 front-named Largest = (refl, refl)
 
--- those of a round that is closed later name 11
-both-named : (policy : Policy) → Pairs policy → passageNamed policy P11 ≡ true
-both-named Exact p = absurd p
-both-named Return p = absurd p
-both-named Traversal p = refl
-both-named Midpoint p = refl
-both-named Composite p = absurd p
-both-named Largest p = refl
+-- where a round is open, 11 is named and an aisle is to be entered
+round-open : (policy : Policy) (end : End) (n : ℕ) → Round policy end n true → (passageNamed policy P11 ≡ true) × (1 ≤ n)
+round-open Exact end n r = absurd r
+round-open Return end n r = absurd r
+round-open Traversal end n r = (refl, one-closes n end r)
+round-open Midpoint end n r = (refl, one-closes n rightmost r)
+round-open Composite end n r = absurd r
+round-open Largest end n r = (refl, one-closes n rightmost r)
 
-module _ (policy : Policy) (d j : ℕ) where
+module _ (policy : Policy) (end : End) (d j : ℕ) where
   -- the state behind a passage
   abbrev crossed : Passage → State → State
   crossed p s = cond (passageNamed policy p) (crossStep d j p s) dead
 
   -- the plan goes on to the next aisle
-  cross : (more : Bool) {s : State} → Behind policy more s → (p : Passage) × Ready policy more (crossed p s)
-  cross more (as-before (none-yet l)) = (P02, rw (front-named policy .1) on-front)
-  cross more (as-before on-front) = (P02, rw (front-named policy .1) on-front)
-  cross more (as-before (on-both p l)) = (P11, rw (both-named policy p) (on-both p l))
-  cross more (as-before (none-left l)) = (P02, rw (front-named policy .1) (none-left l))
-  cross more met-again = (P02, rw (front-named policy .1) on-front)
+  cross : (n : ℕ) {s : State} → Behind policy end n s → (p : Passage) × Ready policy end n (crossed p s)
+  cross n (as-before (none-yet l)) = (P02, rw (front-named policy .1) on-front)
+  cross n (as-before on-front) = (P02, rw (front-named policy .1) on-front)
+  cross n (as-before (on-both r)) = (P11, rw (round-open policy end n r .0) (on-both r))
+  cross n (as-before (none-open r)) = (P02, rw (front-named policy .1) (none-open r))
+  cross n met-again = (P02, rw (front-named policy .1) on-front)
 
   -- or is closed off behind the last
-  close : {s : State} → d ≤ j → Behind policy false s → crossed P00 s ≡ closed
-  close h (as-before (none-yet l)) = absurd (true-not-false (sym l))
+  close : {s : State} → d ≤ j → Behind policy end 0 s → crossed P00 s ≡ closed
+  close h (as-before (none-yet l)) = absurd (omega arith)
   close h (as-before on-front) = rw (front-named policy .0, le-leb d j h)
-  close h (as-before (on-both p l)) = absurd (true-not-false (sym l))
-  close h (as-before (none-left l)) = rw (front-named policy .0, le-leb d j h)
+  close h (as-before (on-both r)) = absurd (omega (arith, round-open policy end 0 r .1))
+  close h (as-before (none-open r)) = rw (front-named policy .0, le-leb d j h)
   close h met-again = rw (front-named policy .0, le-leb d j h)
 
 -- all cells of the aisles from j on that hold a listed article are passed
@@ -251,20 +266,28 @@ record Rest (job : Job) (n j : ℕ) (s : State) : Type 0 where
   passes : PassedFrom job j actions
   closes : runFrom job j s actions passages ≡ closed
 
+-- the aisles to enter: those of the n from j on that hold a listed article
+abbrev toEnter : Job → ℕ → ℕ → List ℕ
+toEnter job j n = select (holdsListed job) (from j n)
+
+-- the states before an aisle of the job from which the plan can go on, with the aisles js to enter from this one on
+abbrev ReadyFor : Job → List ℕ → State → Type 0
+ReadyFor job js s = Ready (job .policy) (walkBackEnd (job .layout)) (length js) s
+
 module _ (job : Job) (direct : Direct (job .policy)) (within : LayoutWithin (job .layout)) where
-  -- what is done in aisle j
-  record Done (j : ℕ) (more : Bool) (s : State) : Type 0 where
+  -- what is done in aisle j, with the aisles js to enter behind it
+  record Done (j : ℕ) (js : List ℕ) (s : State) : Type 0 where
     action : Action
     fits : Fits (job .layout .cells) action
     passes : holdsListed job j ≡ true → Whole (job .layout .cells) action
-    behind : Behind (job .policy) more (actionStep job j action s)
+    behind : Behind (job .policy) (walkBackEnd (job .layout)) (length js) (actionStep job j action s)
 
   -- what is done depends on whether the aisle holds a listed article
-  done : (j : ℕ) (more : Bool) (s : State) → Ready (job .policy) (holdsListed job j || more) s → Done j more s
+  done : (j : ℕ) (js : List ℕ) (s : State) → ReadyFor job (cond (holdsListed job j) (j ∷ js) js) s → Done j js s
   unfolding actionStep actionPossible
-  done j more s r = go (holdsListed job j) refl r
+  done j js s r = go (holdsListed job j) refl r
     where
-      by-void : (policy : Policy) → cond (actionNamed policy Void && true) (policyStep policy (betweenTest policy job j) Void s) dead ≡ s
+      by-void : (policy : Policy) → cond (actionNamed policy Void && true) (policyStep policy (walkBackEnd (job .layout)) (betweenTest policy job j) Void s) dead ≡ s
       by-void Exact = refl
       by-void Return = refl
       by-void Traversal = refl
@@ -272,9 +295,9 @@ module _ (job : Job) (direct : Direct (job .policy)) (within : LayoutWithin (job
       by-void Composite = refl
       by-void Largest = refl
 
-      go : (b : Bool) → holdsListed job j ≡ b → Ready (job .policy) (b || more) s → Done j more s
+      go : (b : Bool) → holdsListed job j ≡ b → ReadyFor job (cond b (j ∷ js) js) s → Done j js s
       go true e r =
-          let t = enter job (within .cells .0) j (job .policy) more direct r in
+          let t = enter job (within .cells .0) j (job .policy) (walkBackEnd (job .layout)) (length js) direct r in
           record { action = t .0; fits = t .1 .fits; passes = λ h. t .1; behind = rw (holding-open job j e, e) (t .2) }
       go false e r =
           record { action = Void; fits = tt; passes = λ h. absurd (true-not-false (sym h ∙ e)); behind = rw (by-void (job .policy)) (as-before r) }
@@ -297,10 +320,10 @@ module _ (job : Job) (direct : Direct (job .policy)) (within : LayoutWithin (job
   void-fits (suc k) = tt
 
   -- from a state that is ready the plan goes on to the last aisle
-  rest : (n j : ℕ) (s : State) → j + n ≡ job .layout .aisles → Ready (job .policy) (anyOf (holdsListed job) (from j (suc n))) s → Rest job n j s
+  rest : (n j : ℕ) (s : State) → j + n ≡ job .layout .aisles → ReadyFor job (toEnter job j (suc n)) s → Rest job n j s
   unfolding passageStep
   rest zero j s e r =
-      let t = done j false s r in
+      let t = done j [] s r in
       let d = within .depot .1 in
       record {
         actions = t .action ∷ [];
@@ -309,11 +332,11 @@ module _ (job : Job) (direct : Direct (job .policy)) (within : LayoutWithin (job
         gaps = refl;
         fits = fits-first (t .action) [] (t .fits) void-fits;
         passes = passes-first j (t .action) [] (t .passes) (λ k i p l h. absurd (omega arith));
-        closes = close (job .policy) (job .layout .depot) j (omega arith) (t .behind);
+        closes = close (job .policy) (walkBackEnd (job .layout)) (job .layout .depot) j (omega arith) (t .behind);
       }
   rest (suc n) j s e r =
-      let t = done j (anyOf (holdsListed job) (from (suc j) (suc n))) s r in
-      let c = cross (job .policy) (job .layout .depot) j (anyOf (holdsListed job) (from (suc j) (suc n))) (t .behind) in
+      let t = done j (toEnter job (suc j) (suc n)) s r in
+      let c = cross (job .policy) (walkBackEnd (job .layout)) (job .layout .depot) j (length (toEnter job (suc j) (suc n))) (t .behind) in
       let u = rest n (suc j) (passageStep job j (c .0) (actionStep job j (t .action) s)) (omega arith) (c .1) in
       record {
         actions = t .action ∷ u .actions;
@@ -364,8 +387,8 @@ module _ (job : Job) (a : Admitted job) where
   in-stock : (l : OrderLine) → List·Memᴰ l (job .lines) → l .quantity ≤ allStock job (l .article)
   in-stock = lines-in-stock job .0 (a .in-stock)
 
-  -- where the list has a line some aisle holds a listed article
-  some-aisle : 1 ≤ length (job .lines) → anyOf (holdsListed job) (from 1 (job .layout .aisles)) ≡ true
+  -- where the list has a line some aisle is to be entered
+  some-aisle : 1 ≤ length (job .lines) → 1 ≤ length (toEnter job 1 (job .layout .aisles))
   unfolding allStock
   some-aisle some-line =
       let list = list-within job .0 (a .list) in
@@ -373,8 +396,12 @@ module _ (job : Job) (a : Admitted job) where
       let (r, n, t) = some-term (λ (r : StockRecord). cond (eqb (r .article) (l .article)) (r .quantity) 0) (openStock job) (omega (arith, in-stock l m, list .lines l m .quantity .0)) in
       let e = eqb-true (r .article) (l .article) (told (eqb (r .article) (l .article)) (r .quantity) t) in
       let w = record-in r n .aisle in
-      any-true (holdsListed job) (from 1 (job .layout .aisles)) .1 (r .aisle, from-member (r .aisle) 1 (job .layout .aisles) (w .0) (omega arith), holds l r m n e)
+      counted (member-select (holdsListed job) (from 1 (job .layout .aisles)) .1 (from-member (r .aisle) 1 (job .layout .aisles) (w .0) (omega arith), holds l r m n e))
     where
+      counted : {A : Type 0} {x : A} {xs : List A} → List·Memᴰ x xs → 1 ≤ length xs
+      counted (List·Memᴰ·head e) = omega arith
+      counted (List·Memᴰ·tail m) = omega arith
+
       first : {A : Type 0} (xs : List A) → 1 ≤ length xs → (x : A) × List·Memᴰ x xs
       first [] h = absurd (omega arith)
       first (x ∷ xs) h = (x, List·Memᴰ·head refl)
@@ -403,7 +430,7 @@ module _ (job : Job) (a : Admitted job) where
       go : (m : ℕ) → job .layout .aisles ≡ m → 1 ≤ m → ClosedServing job
       go zero e some = absurd (omega arith)
       go (suc n) e some =
-          let t = rest job direct within n 1 nothing (omega arith) (none-yet (subst (λ (k : ℕ). anyOf (holdsListed job) (from 1 k) ≡ true) e (some-aisle some-line))) in
+          let t = rest job direct within n 1 nothing (omega arith) (none-yet (subst (λ (k : ℕ). 1 ≤ length (toEnter job 1 k)) e (some-aisle some-line))) in
           let plan : Plan = record { actions = t .actions; passages = t .passages } in
           (plan, record { aisles = t .aisles ∙ sym e; passages = ap suc (t .gaps) ∙ sym e; fits = t .fits }, ap isClosed (t .closes), whole-stock plan (at-aisle (t .actions) (t .passes)))
         where

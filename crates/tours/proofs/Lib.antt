@@ -8,6 +8,7 @@ pub mod Exact
 pub mod Runs
 pub mod Counting
 pub mod Simulation
+pub mod WalkBackEnds
 pub mod Traversal
 pub mod Midpoint
 pub mod OneAisle

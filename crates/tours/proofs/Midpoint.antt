@@ -10,7 +10,7 @@ use Rattle.rules.specs.declared.Action.{Action}
 use Rattle.rules.specs.declared.Action.the-variants.{Void, Bottom, Top, Gap, Once, Twice}
 use Rattle.rules.specs.declared.Passage.{Passage}
 use Rattle.rules.specs.Plans.{Plan, WellFormed, actionAt, passageAt}
-use Rattle.rules.specs.Policies.{Entered, First, Last, IsBottom, MidpointRule, enteredAisles}
+use Rattle.rules.specs.Policies.{Entered, First, Last, IsBottom, walkBackEnd, MidpointRule, enteredAisles}
 use Rattle.rules.specs.Machine.{State, nothing, closed, atFront, atBack, odd, joined, split, ending, dead, lawfulStep, midpointStep, crossStep}
 use Rattle.tours.specs.Prefixes.{lawfulState, policyState}
 use Rattle.tours.proofs.Basics.{below, split-at, same-number, true-not-false}
@@ -287,15 +287,15 @@ module _ {z : Layout} {plan : Plan} (wf : WellFormed z plan) {between : ℕ → 
     gone-passage d p o l (inr (inr (b, over))) = inr (inr (b, over-cross d (suc i) p o over))
 
   -- what the run has gone through up to aisle n
-  gone-run : (n : ℕ) → Live (policyState Midpoint between (z .depot) plan n) → GoneThrough between plan n (policyState Midpoint between (z .depot) plan n)
+  gone-run : (n : ℕ) → Live (policyState Midpoint between z plan n) → GoneThrough between plan n (policyState Midpoint between z plan n)
   gone-run zero l = inl ((λ j h e. let k = entered-inside wf j e in omega arith), refl)
   gone-run (suc i) l =
       let a = actionAt plan (suc i) in
       let p = passageAt plan (suc i) in
-      let o = policyState Midpoint between (z .depot) plan i in
+      let o = policyState Midpoint between z plan i in
       let behind = live-before-passage (z .depot) (suc i) p (midpointStep (between (suc i)) a o) l in
       gone-passage i (z .depot) p (midpointStep (between (suc i)) a o) l
-      (gone-action i a refl o behind (gone-run i (live-before-step Midpoint (between (suc i)) a o behind)))
+      (gone-action i a refl o behind (gone-run i (live-before-step Midpoint (walkBackEnd z) (between (suc i)) a o behind)))
 
   -- before the first entered aisle EXACT's run is not in the state `odd`
   even-run : (n : ℕ) → NoneEntered plan n → Live (lawfulState (z .depot) plan n) → oddness (lawfulState (z .depot) plan n) ≡ 0
@@ -310,54 +310,54 @@ module _ {z : Layout} {plan : Plan} (wf : WellFormed z plan) {between : ℕ → 
 
   module _ (plain : (j : ℕ) → Plain (passageAt plan j)) where
     -- before the first entered aisle the two runs are the same
-    tracks-run : (n : ℕ) → NoneEntered plan n → Tracks (policyState Midpoint between (z .depot) plan n) (lawfulState (z .depot) plan n)
+    tracks-run : (n : ℕ) → NoneEntered plan n → Tracks (policyState Midpoint between z plan n) (lawfulState (z .depot) plan n)
     tracks-run zero none = refl
     tracks-run (suc i) none =
         tracks-cross (z .depot) (suc i) (passageAt plan (suc i)) (plain (suc i)) _ _
         (rw (not-entered-void plan (suc i) (none (suc i) (omega arith)))
-        (tracks-void (policyState Midpoint between (z .depot) plan i) (lawfulState (z .depot) plan i) (tracks-run i (λ j l. none j (omega arith)))))
+        (tracks-void (policyState Midpoint between z plan i) (lawfulState (z .depot) plan i) (tracks-run i (λ j l. none j (omega arith)))))
 
     -- between the first and the last entered aisle both runs are in the state `odd`
     between-run : {m : ℕ} (d : Double between plan m) (n : ℕ) → d .first ≤ n → n < d .last
-        → Between (policyState Midpoint between (z .depot) plan n) (lawfulState (z .depot) plan n)
+        → Between (policyState Midpoint between z plan n) (lawfulState (z .depot) plan n)
     between-run d zero l h = absurd (let e = entered-inside wf (d .first) (once-entered plan (d .first) (d .first-once)) in omega arith)
     between-run d (suc i) l h =
         between-cross (z .depot) (suc i) (passageAt plan (suc i)) (plain (suc i)) _ _ (elim (below (d .first) i l) [
-          | inl g ↦ pass-step laws (suc i) (actionAt plan (suc i)) (d .pass (suc i) (omega arith) h) (policyState Midpoint between (z .depot) plan i) (lawfulState (z .depot) plan i)
+          | inl g ↦ pass-step laws (suc i) (actionAt plan (suc i)) (d .pass (suc i) (omega arith) h) (policyState Midpoint between z plan i) (lawfulState (z .depot) plan i)
               (between-run d i g (omega arith))
           | inr p ↦
               let none : NoneEntered plan i = λ j k. d .before j (omega arith) in
               rw (subst (λ (j : ℕ). actionAt plan j ≡ Once) p (d .first-once))
-              (first-once (between (suc i)) (policyState Midpoint between (z .depot) plan i) (lawfulState (z .depot) plan i) (tracks-run i none) (even-run i none))
+              (first-once (between (suc i)) (policyState Midpoint between z plan i) (lawfulState (z .depot) plan i) (tracks-run i none) (even-run i none))
         ])
 
     -- behind a single BOTTOM both runs go to their ends
-    single-ends : {m : ℕ} → Single plan m → Ends (policyState Midpoint between (z .depot) plan m) (lawfulState (z .depot) plan m)
+    single-ends : {m : ℕ} → Single plan m → Ends (policyState Midpoint between z plan m) (lawfulState (z .depot) plan m)
     unfolding IsBottom
     single-ends {m} s = go (s .place) refl
       where
-        go : (j : ℕ) → s .place ≡ j → Ends (policyState Midpoint between (z .depot) plan m) (lawfulState (z .depot) plan m)
+        go : (j : ℕ) → s .place ≡ j → Ends (policyState Midpoint between z plan m) (lawfulState (z .depot) plan m)
         go zero p = absurd (let e = entered-inside wf (s .place) (bottom-entered plan (s .place) (s .bottom)) in omega arith)
         go (suc i) p =
             let l = s .inside in
-            ends-run Midpoint between (z .depot) plan plain i m
+            ends-run Midpoint between z plan plain i m
             (rw (subst (λ (j : ℕ). actionAt plan j ≡ Bottom (s .bottom .0)) p (s .bottom .1))
-            (first-bottom (between (suc i)) (s .bottom .0) (policyState Midpoint between (z .depot) plan i) (lawfulState (z .depot) plan i)
+            (first-bottom (between (suc i)) (s .bottom .0) (policyState Midpoint between z plan i) (lawfulState (z .depot) plan i)
             (tracks-run i (λ j k. s .before j (omega arith)))))
             (λ j h. s .behind j (omega arith)) m (omega arith) (omega arith)
 
     -- behind the last ONCE both runs go to their ends
-    double-ends : {m : ℕ} → Double between plan m → Ends (policyState Midpoint between (z .depot) plan m) (lawfulState (z .depot) plan m)
+    double-ends : {m : ℕ} → Double between plan m → Ends (policyState Midpoint between z plan m) (lawfulState (z .depot) plan m)
     double-ends {m} d = go (d .last) refl
       where
-        go : (j : ℕ) → d .last ≡ j → Ends (policyState Midpoint between (z .depot) plan m) (lawfulState (z .depot) plan m)
+        go : (j : ℕ) → d .last ≡ j → Ends (policyState Midpoint between z plan m) (lawfulState (z .depot) plan m)
         go zero p = absurd (let l = d .order in omega arith)
         go (suc i) p =
             let l = d .inside in
             let h = d .order in
-            ends-run Midpoint between (z .depot) plan plain i m
+            ends-run Midpoint between z plan plain i m
             (rw (subst (λ (j : ℕ). actionAt plan j ≡ Once) p (d .last-once))
-            (last-once-ends (between (suc i)) (policyState Midpoint between (z .depot) plan i) (lawfulState (z .depot) plan i) (between-run d i (omega arith) (omega arith))))
+            (last-once-ends (between (suc i)) (policyState Midpoint between z plan i) (lawfulState (z .depot) plan i) (between-run d i (omega arith) (omega arith))))
             (λ j g. d .behind j (omega arith)) m (omega arith) (omega arith)
 
   -- the rule says how the entered aisles are gone through
@@ -455,23 +455,23 @@ module _ {z : Layout} {plan : Plan} (wf : WellFormed z plan) {between : ℕ → 
 
   -- MIDPOINT's table closes off a plan just when EXACT's does and the rule is kept
   pub midpoint-table : ((j : ℕ) → Plain (passageAt plan j))
-      → (policyState Midpoint between (z .depot) plan (z .aisles) ≡ closed) ↔ ((lawfulState (z .depot) plan (z .aisles) ≡ closed) × TestRule between plan)
+      → (policyState Midpoint between z plan (z .aisles) ≡ closed) ↔ ((lawfulState (z .depot) plan (z .aisles) ≡ closed) × TestRule between plan)
   midpoint-table plain = (
     (λ c. (
-      subst (λ (o : State). Fitting o (lawfulState (z .depot) plan (z .aisles))) c (midpoint-fits between (z .depot) plan (z .aisles)),
+      subst (λ (o : State). Fitting o (lawfulState (z .depot) plan (z .aisles))) c (midpoint-fits between z plan (z .aisles)),
       gone-rule (subst (GoneThrough between plan (z .aisles)) c (gone-run (z .aisles) (subst Live (sym c) tt))),
     )),
     (λ h. elim (rule-gone (h .1)) [
-      | inl none ↦ subst (λ (x : State). Tracks (policyState Midpoint between (z .depot) plan (z .aisles)) x) (h .0) (tracks-run plain (z .aisles) none)
-      | inr (inl s) ↦ subst (λ (x : State). Ends (policyState Midpoint between (z .depot) plan (z .aisles)) x) (h .0) (single-ends plain s)
-      | inr (inr d) ↦ subst (λ (x : State). Ends (policyState Midpoint between (z .depot) plan (z .aisles)) x) (h .0) (double-ends plain d)
+      | inl none ↦ subst (λ (x : State). Tracks (policyState Midpoint between z plan (z .aisles)) x) (h .0) (tracks-run plain (z .aisles) none)
+      | inr (inl s) ↦ subst (λ (x : State). Ends (policyState Midpoint between z plan (z .aisles)) x) (h .0) (single-ends plain s)
+      | inr (inr d) ↦ subst (λ (x : State). Ends (policyState Midpoint between z plan (z .aisles)) x) (h .0) (double-ends plain d)
     ]),
   )
 
 -- with the same test LARGEST's run is MIDPOINT's
-pub largest-run : (between : ℕ → Action → Bool) (d : ℕ) (plan : Plan) (n : ℕ) → policyState Largest between d plan n ≡ policyState Midpoint between d plan n
-largest-run between d plan zero = refl
-largest-run between d plan (suc i) = rw (largest-run between d plan i)
+pub largest-run : (between : ℕ → Action → Bool) (z : Layout) (plan : Plan) (n : ℕ) → policyState Largest between z plan n ≡ policyState Midpoint between z plan n
+largest-run between z plan zero = refl
+largest-run between z plan (suc i) = rw (largest-run between z plan i)
 
 -- what keeps the rule keeps it with every weaker demand on the aisles between
 pub weaker-rule : {Between Weaker : ℕ → Action → Type 0} {plan : Plan} → ((j : ℕ) (a : Action) → Between j a → Weaker j a)

@@ -14,7 +14,7 @@ use Rattle.rules.specs.Hours.{isOpen}
 use Rattle.rules.specs.Jobs.{Job, holdsListed}
 use Rattle.rules.specs.Plans.{Plan, WellFormed, actionAt, passageAt}
 use Rattle.rules.specs.Lawful.{Lawful}
-use Rattle.rules.specs.Policies.{actionNamed, passageNamed, halved, OwnRule, PolicyRules, Follows, ShutVoid}
+use Rattle.rules.specs.Policies.{actionNamed, passageNamed, End, walkBackEnd, halved, OwnRule, PolicyRules, Follows, ShutVoid}
 use Rattle.rules.specs.Machine.{State, closed, lawfulStep, policyStep, keepsLargestGap, betweenTest, isVoid, mayEnter, enterable, actionPossible}
 use Rattle.rules.proofs.EmptyPlan.{void-told}
 use Rattle.rules.proofs.Stops.{largest-gap}
@@ -26,12 +26,12 @@ use Rattle.tours.proofs.Traversal.{traversal-table}
 use Rattle.tours.proofs.Midpoint.{BetweenLaws, TestRule, midpoint-table, largest-run, weaker-rule}
 
 -- EXACT, RETURN and COMPOSITE share one table
-same-run : (policy : Policy) (between : ℕ → Action → Bool) (d : ℕ) (plan : Plan)
-    → ((test : Action → Bool) (a : Action) (s : State) → policyStep policy test a s ≡ lawfulStep a s)
-    → (n : ℕ) → policyState policy between d plan n ≡ lawfulState d plan n
-same-run policy between d plan same zero = refl
-same-run policy between d plan same (suc i) =
-    rw (same-run policy between d plan same i, same (between (suc i)) (actionAt plan (suc i)) (lawfulState d plan i))
+same-run : (policy : Policy) (between : ℕ → Action → Bool) (z : Layout) (plan : Plan)
+    → ((end : End) (test : Action → Bool) (a : Action) (s : State) → policyStep policy end test a s ≡ lawfulStep a s)
+    → (n : ℕ) → policyState policy between z plan n ≡ lawfulState (z .depot) plan n
+same-run policy between z plan same zero = refl
+same-run policy between z plan same (suc i) =
+    rw (same-run policy between z plan same i, same (walkBackEnd z) (between (suc i)) (actionAt plan (suc i)) (lawfulState (z .depot) plan i))
 
 -- MIDPOINT's test, the halves, keeps the laws of a test for aisles between
 halves-laws : (z : Layout) → BetweenLaws (λ j a. halved z a)
@@ -49,13 +49,13 @@ largest-rule job plan = (weaker-rule (λ j a. largest-gap job j a .0), weaker-ru
 module _ (job : Job) {plan : Plan} (wf : WellFormed (job .layout) plan) (depot-low : 1 ≤ job .layout .depot) where
   -- the policy's table, with its test for aisles between, closes off the plan
   abbrev Closed : Policy → Type 0
-  Closed policy = policyState policy (betweenTest policy job) (job .layout .depot) plan (job .layout .aisles) ≡ closed
+  Closed policy = policyState policy (betweenTest policy job) (job .layout) plan (job .layout .aisles) ≡ closed
 
   -- a policy with EXACT's table has no rule of its own
-  shared-table : (policy : Policy) → ((test : Action → Bool) (a : Action) (s : State) → policyStep policy test a s ≡ lawfulStep a s)
+  shared-table : (policy : Policy) → ((end : End) (test : Action → Bool) (a : Action) (s : State) → policyStep policy end test a s ≡ lawfulStep a s)
       → Closed policy ↔ (Lawful (job .layout) plan × Unit {0})
   shared-table policy same =
-      let r = same-run policy (betweenTest policy job) (job .layout .depot) plan same (job .layout .aisles) in
+      let r = same-run policy (betweenTest policy job) (job .layout) plan same (job .layout .aisles) in
       let e = closed-iff-lawful wf depot-low in
       ((λ c. (e .0 (sym r ∙ c), tt)), (λ h. r ∙ e .1 (h .0)))
 
@@ -70,7 +70,7 @@ module _ (job : Job) {plan : Plan} (wf : WellFormed (job .layout) plan) (depot-l
   -- LARGEST's table is MIDPOINT's with the largest gap as the test
   largest-table : ((j : ℕ) → passageNamed Largest (passageAt plan j) ≡ true) → Closed Largest ↔ (Lawful (job .layout) plan × OwnRule Largest job plan)
   largest-table named =
-      let r = largest-run (keepsLargestGap job) (job .layout .depot) plan (job .layout .aisles) in
+      let r = largest-run (keepsLargestGap job) (job .layout) plan (job .layout .aisles) in
       let t = midpoint-table wf (largest-laws job) named in
       let rule = largest-rule job plan in
       own-table Largest (OwnRule Largest job plan) ((λ c. let h = t .0 (sym r ∙ c) in (h .0, rule .0 (h .1))), (λ h. r ∙ t .1 (h .0, rule .1 (h .1))))
@@ -78,11 +78,11 @@ module _ (job : Job) {plan : Plan} (wf : WellFormed (job .layout) plan) (depot-l
   -- a policy's table closes off just the lawful plans that keep the policy's own rule
   pub policy-table : (policy : Policy) → ((j : ℕ) → passageNamed policy (passageAt plan j) ≡ true)
       → Closed policy ↔ (Lawful (job .layout) plan × OwnRule policy job plan)
-  policy-table Exact named = shared-table Exact (λ test a s. refl)
-  policy-table Return named = shared-table Return (λ test a s. refl)
+  policy-table Exact named = shared-table Exact (λ end test a s. refl)
+  policy-table Return named = shared-table Return (λ end test a s. refl)
   policy-table Traversal named = own-table Traversal (OwnRule Traversal job plan) (traversal-table wf (betweenTest Traversal job) named)
   policy-table Midpoint named = own-table Midpoint (OwnRule Midpoint job plan) (midpoint-table wf (halves-laws (job .layout)) named)
-  policy-table Composite named = shared-table Composite (λ test a s. refl)
+  policy-table Composite named = shared-table Composite (λ end test a s. refl)
   policy-table Largest named = largest-table named
 
 -- both parts of a true conjunction
@@ -135,7 +135,7 @@ module _ (job : Job) (plan : Plan) where
   -- a policy that lets only aisles with a listed article be entered
   module _ (listed-only : (b : Bool) → mayEnter (job .policy) b ≡ b) where
     -- what the tests ask and its own rule are the rules of the policy
-    listed-rules : ((j : ℕ) → Possible job plan j) × OwnRule (job .policy) job plan → PolicyRules job plan
+    listed-rules : ((j : ℕ) → Possible job plan j) × OwnRule (job .policy) job plan → PolicyRules (OwnRule (job .policy) job plan) job plan
     listed-rules (possible, own) =
         record {
           actions = λ j. parts j (possible j) .0;
@@ -145,7 +145,7 @@ module _ (job : Job) (plan : Plan) where
         }
 
     -- the rules of the policy, and VOID in shut aisles, answer the tests
-    rules-listed : PolicyRules job plan → ShutVoid (job .hours) plan → ((j : ℕ) → Possible job plan j) × OwnRule (job .policy) job plan
+    rules-listed : PolicyRules (OwnRule (job .policy) job plan) job plan → ShutVoid (job .hours) plan → ((j : ℕ) → Possible job plan j) × OwnRule (job .policy) job plan
     unfolding actionPossible
     rules-listed rules shut = (
       (λ j. record {
@@ -160,7 +160,7 @@ module _ (job : Job) (plan : Plan) where
         enter j false e = rw (rules .void j e)
 
     -- the two together
-    listed-follows : (((j : ℕ) → Possible job plan j) × OwnRule (job .policy) job plan) ↔ (PolicyRules job plan × ShutVoid (job .hours) plan)
+    listed-follows : (((j : ℕ) → Possible job plan j) × OwnRule (job .policy) job plan) ↔ (PolicyRules (OwnRule (job .policy) job plan) job plan × ShutVoid (job .hours) plan)
     listed-follows = ((λ h. (listed-rules h, possible-shut (h .0))), (λ h. rules-listed (h .0) (h .1)))
 
   -- what the machine's tests ask, with the policy's own rule, is what the policy asks, and that shut aisles are VOID

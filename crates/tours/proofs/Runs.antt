@@ -16,7 +16,7 @@ use Rattle.rules.specs.declared.Passage.the-variants.{P00}
 use Rattle.rules.specs.Lists.{nth, headOr}
 use Rattle.rules.specs.Jobs.{Job}
 use Rattle.rules.specs.Plans.{Plan, WellFormed, actionAt, passageAt}
-use Rattle.rules.specs.Policies.{passageNamed}
+use Rattle.rules.specs.Policies.{passageNamed, End, leftmost, rightmost, walkBackEnd}
 use Rattle.rules.specs.Machine.{State, nothing, closed, atFront, atBack, odd, joined, split, ending, dead}
 use Rattle.rules.specs.Machine.{midpointStep, policyStep, betweenTest, crossStep, actionPossible, actionStep, passageStep, runFrom, isClosed, closesOff}
 use Rattle.rules.proofs.EmptyPlan.{named-void}
@@ -85,26 +85,27 @@ live-before-midpoint between Once l = l
 live-before-midpoint between Twice l = l
 
 -- the policy's step from `dead` leads to `dead`
-pub live-before-step : (policy : Policy) (between : Action → Bool) (a : Action) (s : State) → Live (policyStep policy between a s) → Live s
-live-before-step policy between a nothing l = tt
-live-before-step policy between a closed l = tt
-live-before-step policy between a atFront l = tt
-live-before-step policy between a atBack l = tt
-live-before-step policy between a odd l = tt
-live-before-step policy between a joined l = tt
-live-before-step policy between a split l = tt
-live-before-step policy between a ending l = tt
-live-before-step Exact between a dead l = live-before-action a dead l
-live-before-step Return between a dead l = live-before-action a dead l
-live-before-step Composite between a dead l = live-before-action a dead l
-live-before-step Traversal between Void dead l = l
-live-before-step Traversal between (Bottom i) dead l = l
-live-before-step Traversal between (Top i) dead l = l
-live-before-step Traversal between (Gap h i) dead l = l
-live-before-step Traversal between Once dead l = l
-live-before-step Traversal between Twice dead l = l
-live-before-step Midpoint between a dead l = live-before-midpoint between a l
-live-before-step Largest between a dead l = live-before-midpoint between a l
+pub live-before-step : (policy : Policy) (end : End) (between : Action → Bool) (a : Action) (s : State) → Live (policyStep policy end between a s) → Live s
+live-before-step policy end between a nothing l = tt
+live-before-step policy end between a closed l = tt
+live-before-step policy end between a atFront l = tt
+live-before-step policy end between a atBack l = tt
+live-before-step policy end between a odd l = tt
+live-before-step policy end between a joined l = tt
+live-before-step policy end between a split l = tt
+live-before-step policy end between a ending l = tt
+live-before-step Exact end between a dead l = live-before-action a dead l
+live-before-step Return end between a dead l = live-before-action a dead l
+live-before-step Composite end between a dead l = live-before-action a dead l
+live-before-step Traversal end between Void dead l = l
+live-before-step Traversal end between (Bottom i) dead l = l
+live-before-step Traversal end between (Top i) dead l = l
+live-before-step Traversal end between (Gap h i) dead l = l
+live-before-step Traversal leftmost between Once dead l = l
+live-before-step Traversal rightmost between Once dead l = l
+live-before-step Traversal end between Twice dead l = l
+live-before-step Midpoint end between a dead l = live-before-midpoint between a l
+live-before-step Largest end between a dead l = live-before-midpoint between a l
 
 -- a test that does not lead to `dead` has passed
 pub live-test : (b : Bool) (s : State) → Live (cond b s dead) → (b ≡ true) × Live s
@@ -119,7 +120,7 @@ pub record Possible (job : Job) (plan : Plan) (j : ℕ) : Type 0 where
 module _ (job : Job) (j : ℕ) where
   -- an action that does not lead to `dead` is the policy's, and so is its step
   pub live-action : (a : Action) (s : State) → Live (actionStep job j a s)
-      → (actionPossible job j a ≡ true) × Live (policyStep (job .policy) (betweenTest (job .policy) job j) a s)
+      → (actionPossible job j a ≡ true) × Live (policyStep (job .policy) (walkBackEnd (job .layout)) (betweenTest (job .policy) job j) a s)
   unfolding actionStep
   live-action a s l = live-test (actionPossible job j a) _ l
 
@@ -134,7 +135,7 @@ module _ (job : Job) (j : ℕ) where
   -- an aisle and the passage behind it that do not lead to `dead` begin at a live state
   live-before-both : (a : Action) (p : Passage) (s : State) → Live (passageStep job j p (actionStep job j a s)) → Live s
   live-before-both a p s l =
-      live-before-step (job .policy) (betweenTest (job .policy) job j) a s
+      live-before-step (job .policy) (walkBackEnd (job .layout)) (betweenTest (job .policy) job j) a s
       (live-action a s (live-passage p (actionStep job j a s) l .1) .1)
 
 -- a run that does not lead to `dead` begins at a live state
@@ -166,7 +167,7 @@ module _ (job : Job) (plan : Plan) where
 
   -- where all is the policy's, the tests fall away
   tests-pass : ((j : ℕ) → Possible job plan j) → (n : ℕ)
-      → stateAt job plan n ≡ policyState (job .policy) (betweenTest (job .policy) job) (job .layout .depot) plan n
+      → stateAt job plan n ≡ policyState (job .policy) (betweenTest (job .policy) job) (job .layout) plan n
   unfolding actionStep passageStep
   tests-pass f zero = refl
   tests-pass f (suc i) = rw (f (suc i) .action, f (suc i) .passage, tests-pass f i)
@@ -190,7 +191,7 @@ module _ (job : Job) {plan : Plan} (wf : WellFormed (job .layout) plan) where
 
   -- the machine closes off a plan whose actions and passages are the policy's and which the policy's table closes off
   pub closes-by-table : (closesOff job plan ≡ true)
-      ↔ (((j : ℕ) → Possible job plan j) × (policyState (job .policy) (betweenTest (job .policy) job) (job .layout .depot) plan (job .layout .aisles) ≡ closed))
+      ↔ (((j : ℕ) → Possible job plan j) × (policyState (job .policy) (betweenTest (job .policy) job) (job .layout) plan (job .layout .aisles) ≡ closed))
   closes-by-table = (
     (λ h.
         let c = closes-off job wf .0 h in

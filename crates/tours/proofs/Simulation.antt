@@ -5,7 +5,8 @@ use native.Mathlib.Omega.{arith}
 use mathlib.Core.Path.{_≡_, refl, subst}
 use mathlib.Core.Logic.{_⊎_, inl, inr}
 use mathlib.Core.Bool.{Bool, true, false, cond}
-use lib.Dec.{leb, eqb}
+use lib.Dec.{ltb, leb, eqb}
+use Rattle.rules.specs.declared.Layout.{Layout}
 use Rattle.rules.specs.declared.Policy.{Policy}
 use Rattle.rules.specs.declared.Policy.the-variants.{Exact, Return, Traversal, Midpoint, Composite, Largest}
 use Rattle.rules.specs.declared.Action.{Action}
@@ -13,13 +14,13 @@ use Rattle.rules.specs.declared.Action.the-variants.{Void, Bottom, Top, Gap, On
 use Rattle.rules.specs.declared.Passage.{Passage}
 use Rattle.rules.specs.declared.Passage.the-variants.{P00, P02, P11, P20, P22}
 use Rattle.rules.specs.Plans.{Plan, actionAt, passageAt}
-use Rattle.rules.specs.Policies.{passageNamed, Entered}
-use Rattle.rules.specs.Machine.{State, nothing, closed, atFront, atBack, odd, joined, split, ending, dead, row, lawfulStep, traversalStep, midpointStep, policyStep, crossStep}
+use Rattle.rules.specs.Policies.{passageNamed, Entered, End, leftmost, rightmost, walkBackEnd}
+use Rattle.rules.specs.Machine.{State, nothing, closed, atFront, atBack, odd, joined, split, ending, dead, lawfulStep, traversalStep, midpointStep, policyStep, crossStep}
 use Rattle.tours.specs.Prefixes.{lawfulState, policyState}
 use Rattle.tours.proofs.Basics.{below, false-not-true}
 use Rattle.tours.proofs.Counting.{not-entered-void}
 
--- the state x of EXACT's run fits the state o of the policy's own run: the same, but `ending` may stand for two others
+-- the state x of EXACT's run fits the state o of the policy's own run: the same, but `ending` stands for two others
 abbrev pub Fitting : State → State → Type 0
 Fitting nothing x = x ≡ nothing
 Fitting closed x = x ≡ closed
@@ -28,52 +29,36 @@ Fitting atBack x = x ≡ atBack
 Fitting odd x = x ≡ odd
 Fitting joined x = x ≡ joined
 Fitting split x = x ≡ split
-Fitting ending x = (x ≡ atFront) ⊎ ((x ≡ joined) ⊎ (x ≡ ending))
+Fitting ending x = (x ≡ atFront) ⊎ (x ≡ joined)
 Fitting dead x = Unit {0}
 
--- a state fits itself
-fitting-same : (s : State) → Fitting s s
-fitting-same nothing = refl
-fitting-same closed = refl
-fitting-same atFront = refl
-fitting-same atBack = refl
-fitting-same odd = refl
-fitting-same joined = refl
-fitting-same split = refl
-fitting-same ending = inr (inr refl)
-fitting-same dead = tt
+-- two steps fit if they do state by state; the policy's from `ending` beside EXACT's from both that it stands for
+fitting-steps : (own exact : State → State)
+    → Fitting (own nothing) (exact nothing) → Fitting (own closed) (exact closed) → Fitting (own atFront) (exact atFront)
+    → Fitting (own atBack) (exact atBack) → Fitting (own odd) (exact odd) → Fitting (own joined) (exact joined)
+    → Fitting (own split) (exact split) → Fitting (own ending) (exact atFront) → Fitting (own ending) (exact joined) → own dead ≡ dead
+    → (o x : State) → Fitting o x → Fitting (own o) (exact x)
+fitting-steps own exact n c f k t j s ef ej d nothing x e = rw e n
+fitting-steps own exact n c f k t j s ef ej d closed x e = rw e c
+fitting-steps own exact n c f k t j s ef ej d atFront x e = rw e f
+fitting-steps own exact n c f k t j s ef ej d atBack x e = rw e k
+fitting-steps own exact n c f k t j s ef ej d odd x e = rw e t
+fitting-steps own exact n c f k t j s ef ej d joined x e = rw e j
+fitting-steps own exact n c f k t j s ef ej d split x e = rw e s
+fitting-steps own exact n c f k t j s ef ej d ending x (inl e) = rw e ef
+fitting-steps own exact n c f k t j s ef ej d ending x (inr e) = rw e ej
+fitting-steps own exact n c f k t j s ef ej d dead x e = rw d tt
 
--- no passage leads out of `dead`
-dead-stays : (d j : ℕ) (p : Passage) → crossStep d j p dead ≡ dead
-dead-stays d j P00 = refl
-dead-stays d j P02 = refl
-dead-stays d j P11 = refl
-dead-stays d j P20 = refl
-dead-stays d j P22 = refl
-
--- two rows fit if their entries do
-fitting-row : (step : State → State) (n f k t j s : State)
-    → Fitting n (step nothing) → Fitting f (step atFront) → Fitting k (step atBack)
-    → Fitting t (step odd) → Fitting j (step joined) → Fitting s (step split)
-    → (o x : State) → Fitting o x → Fitting (row n f k t j s o) (step x)
-fitting-row step _ _ _ _ _ _ n f k t j s nothing x e = rw e n
-fitting-row step _ _ _ _ _ _ n f k t j s closed x e = tt
-fitting-row step _ _ _ _ _ _ n f k t j s atFront x e = rw e f
-fitting-row step _ _ _ _ _ _ n f k t j s atBack x e = rw e k
-fitting-row step _ _ _ _ _ _ n f k t j s odd x e = rw e t
-fitting-row step _ _ _ _ _ _ n f k t j s joined x e = rw e j
-fitting-row step _ _ _ _ _ _ n f k t j s split x e = rw e s
-fitting-row step _ _ _ _ _ _ n f k t j s ending x e = tt
-fitting-row step _ _ _ _ _ _ n f k t j s dead x e = tt
-
--- TRAVERSAL's table fits EXACT's
-fitting-traversal : (a : Action) (o x : State) → Fitting o x → Fitting (traversalStep a o) (lawfulStep a x)
-fitting-traversal Void = λ o x e. e
-fitting-traversal (Bottom i) = fitting-row (lawfulStep (Bottom i)) ending ending dead dead dead dead (inl refl) (inl refl) tt tt tt tt
-fitting-traversal (Top i) = λ o x e. tt
-fitting-traversal (Gap h i) = λ o x e. tt
-fitting-traversal Once = fitting-row (lawfulStep Once) odd odd dead joined dead dead refl refl tt refl tt tt
-fitting-traversal Twice = λ o x e. tt
+-- TRAVERSAL's table fits EXACT's, whichever end it walks back at
+fitting-traversal : (end : End) (a : Action) (o x : State) → Fitting o x → Fitting (traversalStep end a o) (lawfulStep a x)
+fitting-traversal end Void = λ o x e. e
+fitting-traversal end (Bottom i) =
+    fitting-steps (traversalStep end (Bottom i)) (lawfulStep (Bottom i)) (inl refl) tt (inl refl) tt tt tt tt tt tt refl
+fitting-traversal end (Top i) = λ o x e. tt
+fitting-traversal end (Gap h i) = λ o x e. tt
+fitting-traversal leftmost Once = fitting-steps (traversalStep leftmost Once) (lawfulStep Once) refl tt refl tt (inr refl) tt tt refl refl refl
+fitting-traversal rightmost Once = fitting-steps (traversalStep rightmost Once) (lawfulStep Once) refl tt refl tt refl tt tt tt tt refl
+fitting-traversal end Twice = λ o x e. tt
 
 -- what the test refuses is `dead`, and fits all
 odd-if : (b : Bool) → Fitting (cond b odd dead) odd
@@ -84,51 +69,48 @@ odd-if false = tt
 fitting-midpoint : (between : Action → Bool) (a : Action) (o x : State) → Fitting o x → Fitting (midpointStep between a o) (lawfulStep a x)
 fitting-midpoint between Void = λ o x e. e
 fitting-midpoint between (Bottom i) =
-    fitting-row (lawfulStep (Bottom i)) ending ending dead (cond (between (Bottom i)) odd dead) dead dead
-    (inl refl) (inl refl) tt (odd-if (between (Bottom i))) tt tt
+    fitting-steps (midpointStep between (Bottom i)) (lawfulStep (Bottom i))
+    (inl refl) tt (inl refl) tt (odd-if (between (Bottom i))) tt tt tt tt refl
 fitting-midpoint between (Top i) =
-    fitting-row (lawfulStep (Top i)) dead dead dead (cond (between (Top i)) odd dead) dead dead
-    tt tt tt (odd-if (between (Top i))) tt tt
+    fitting-steps (midpointStep between (Top i)) (lawfulStep (Top i)) tt tt tt tt (odd-if (between (Top i))) tt tt tt tt refl
 fitting-midpoint between (Gap h i) =
-    fitting-row (lawfulStep (Gap h i)) dead dead dead (cond (between (Gap h i)) odd dead) dead dead
-    tt tt tt (odd-if (between (Gap h i))) tt tt
-fitting-midpoint between Once = fitting-row (lawfulStep Once) odd odd dead ending dead dead refl refl tt (inr (inl refl)) tt tt
+    fitting-steps (midpointStep between (Gap h i)) (lawfulStep (Gap h i)) tt tt tt tt (odd-if (between (Gap h i))) tt tt tt tt refl
+fitting-midpoint between Once = fitting-steps (midpointStep between Once) (lawfulStep Once) refl tt refl tt (inr refl) tt tt tt tt refl
 fitting-midpoint between Twice = λ o x e. tt
+
+-- where one test decides on both sides, each outcome is to fit itself
+fitting-choice : (b : Bool) (s t : State) → Fitting s s → Fitting t t → Fitting (cond b s t) (cond b s t)
+fitting-choice true s t f g = f
+fitting-choice false s t f g = g
 
 -- over a passage the states go on to fit
 fitting-cross : (d j : ℕ) (p : Passage) (o x : State) → Fitting o x → Fitting (crossStep d j p o) (crossStep d j p x)
-fitting-cross d j p nothing x e = rw e (fitting-same (crossStep d j p nothing))
-fitting-cross d j p closed x e = rw e (fitting-same (crossStep d j p closed))
-fitting-cross d j p atFront x e = rw e (fitting-same (crossStep d j p atFront))
-fitting-cross d j p atBack x e = rw e (fitting-same (crossStep d j p atBack))
-fitting-cross d j p odd x e = rw e (fitting-same (crossStep d j p odd))
-fitting-cross d j p joined x e = rw e (fitting-same (crossStep d j p joined))
-fitting-cross d j p split x e = rw e (fitting-same (crossStep d j p split))
-fitting-cross d j P00 ending x (inl e) = rw e (fitting-same (cond (leb d j) closed dead))
-fitting-cross d j P00 ending x (inr (inl e)) = rw e (fitting-same (cond (leb d j) closed dead))
-fitting-cross d j P00 ending x (inr (inr e)) = rw e (fitting-same (cond (leb d j) closed dead))
-fitting-cross d j P02 ending x (inl e) = rw e (inl refl)
-fitting-cross d j P02 ending x (inr (inl e)) = rw e (inl refl)
-fitting-cross d j P02 ending x (inr (inr e)) = rw e (inr (inr refl))
-fitting-cross d j P11 ending x e = tt
-fitting-cross d j P20 ending x e = tt
-fitting-cross d j P22 ending x e = tt
-fitting-cross d j p dead x e = rw (dead-stays d j p) tt
+fitting-cross d j P00 =
+    let reached = fitting-choice (leb d j) closed dead refl tt in
+    let passed = fitting-choice (ltb d j) closed dead refl tt in
+    fitting-steps (crossStep d j P00) (crossStep d j P00)
+    (fitting-choice (eqb j d) dead nothing tt refl) refl reached passed tt reached tt reached reached refl
+fitting-cross d j P02 = fitting-steps (crossStep d j P02) (crossStep d j P02) refl tt refl tt tt refl tt (inl refl) (inl refl) refl
+fitting-cross d j P11 = fitting-steps (crossStep d j P11) (crossStep d j P11) tt tt tt tt refl tt tt tt tt refl
+fitting-cross d j P20 =
+    let there = fitting-choice (eqb j d) dead atBack tt refl in
+    fitting-steps (crossStep d j P20) (crossStep d j P20) there tt tt there tt refl tt tt tt refl
+fitting-cross d j P22 = fitting-steps (crossStep d j P22) (crossStep d j P22) refl tt refl refl tt refl refl tt tt refl
 
-module _ (between : ℕ → Action → Bool) (d : ℕ) (plan : Plan) where
+module _ (between : ℕ → Action → Bool) (z : Layout) (plan : Plan) where
   -- what TRAVERSAL's table closes off, EXACT's does
-  pub traversal-fits : (n : ℕ) → Fitting (policyState Traversal between d plan n) (lawfulState d plan n)
+  pub traversal-fits : (n : ℕ) → Fitting (policyState Traversal between z plan n) (lawfulState (z .depot) plan n)
   traversal-fits zero = refl
   traversal-fits (suc i) =
-      fitting-cross d (suc i) (passageAt plan (suc i)) _ _
-      (fitting-traversal (actionAt plan (suc i)) (policyState Traversal between d plan i) (lawfulState d plan i) (traversal-fits i))
+      fitting-cross (z .depot) (suc i) (passageAt plan (suc i)) _ _
+      (fitting-traversal (walkBackEnd z) (actionAt plan (suc i)) (policyState Traversal between z plan i) (lawfulState (z .depot) plan i) (traversal-fits i))
 
   -- the same for MIDPOINT
-  pub midpoint-fits : (n : ℕ) → Fitting (policyState Midpoint between d plan n) (lawfulState d plan n)
+  pub midpoint-fits : (n : ℕ) → Fitting (policyState Midpoint between z plan n) (lawfulState (z .depot) plan n)
   midpoint-fits zero = refl
   midpoint-fits (suc i) =
-      fitting-cross d (suc i) (passageAt plan (suc i)) _ _
-      (fitting-midpoint (between (suc i)) (actionAt plan (suc i)) (policyState Midpoint between d plan i) (lawfulState d plan i) (midpoint-fits i))
+      fitting-cross (z .depot) (suc i) (passageAt plan (suc i)) _ _
+      (fitting-midpoint (between (suc i)) (actionAt plan (suc i)) (policyState Midpoint between z plan i) (lawfulState (z .depot) plan i) (midpoint-fits i))
 
 -- before the end: the policy's run is in the same state; x is one of those that 00, 02 and 11 lead to
 abbrev pub Tracks : State → State → Type 0
@@ -293,42 +275,64 @@ ends-cross d j P11 n o dead e = tt
 ends-cross d j P20 n o x e = absurd (false-not-true n)
 ends-cross d j P22 n o x e = absurd (false-not-true n)
 
--- no aisle may be entered any more
-abbrev pub Over : State → Type 0
-Over nothing = ⊥
-Over closed = Unit {0}
-Over atFront = ⊥
-Over atBack = ⊥
-Over odd = ⊥
-Over joined = ⊥
-Over split = ⊥
-Over ending = Unit {0}
-Over dead = Unit {0}
+-- no passage leads out of `dead`
+dead-stays : (d j : ℕ) (p : Passage) → crossStep d j p dead ≡ dead
+dead-stays d j P00 = refl
+dead-stays d j P02 = refl
+dead-stays d j P11 = refl
+dead-stays d j P20 = refl
+dead-stays d j P22 = refl
+
+-- no aisle may be walked back any more, and at the right end none may be entered
+abbrev pub Past : End → State → Type 0
+Past end nothing = ⊥
+Past end closed = Unit {0}
+Past end atFront = ⊥
+Past end atBack = ⊥
+Past leftmost odd = Unit {0}
+Past rightmost odd = ⊥
+Past end joined = ⊥
+Past end split = ⊥
+Past end ending = Unit {0}
+Past end dead = Unit {0}
 
 -- closed off, or dead
-over-when : (b : Bool) → Over (cond b closed dead)
-over-when true = tt
-over-when false = tt
+past-when : (end : End) (b : Bool) → Past end (cond b closed dead)
+past-when end true = tt
+past-when end false = tt
+
+-- and stays so over a passage
+pub past-cross : (end : End) (d j : ℕ) (p : Passage) (s : State) → Past end s → Past end (crossStep d j p s)
+past-cross end d j p nothing e = absurd e
+past-cross end d j P00 closed e = tt
+past-cross end d j P02 closed e = tt
+past-cross end d j P11 closed e = tt
+past-cross end d j P20 closed e = tt
+past-cross end d j P22 closed e = tt
+past-cross end d j p atFront e = absurd e
+past-cross end d j p atBack e = absurd e
+past-cross leftmost d j P00 odd e = tt
+past-cross leftmost d j P02 odd e = tt
+past-cross leftmost d j P11 odd e = tt
+past-cross leftmost d j P20 odd e = tt
+past-cross leftmost d j P22 odd e = tt
+past-cross rightmost d j p odd e = absurd e
+past-cross end d j p joined e = absurd e
+past-cross end d j p split e = absurd e
+past-cross end d j P00 ending e = past-when end (leb d j)
+past-cross end d j P02 ending e = tt
+past-cross end d j P11 ending e = tt
+past-cross end d j P20 ending e = tt
+past-cross end d j P22 ending e = tt
+past-cross end d j p dead e = rw (dead-stays d j p) tt
+
+-- no aisle may be entered any more
+abbrev pub Over : State → Type 0
+Over s = Past rightmost s
 
 -- and stays so over a passage
 pub over-cross : (d j : ℕ) (p : Passage) (s : State) → Over s → Over (crossStep d j p s)
-over-cross d j p nothing e = absurd e
-over-cross d j P00 closed e = tt
-over-cross d j P02 closed e = tt
-over-cross d j P11 closed e = tt
-over-cross d j P20 closed e = tt
-over-cross d j P22 closed e = tt
-over-cross d j p atFront e = absurd e
-over-cross d j p atBack e = absurd e
-over-cross d j p odd e = absurd e
-over-cross d j p joined e = absurd e
-over-cross d j p split e = absurd e
-over-cross d j P00 ending e = over-when (leb d j)
-over-cross d j P02 ending e = tt
-over-cross d j P11 ending e = tt
-over-cross d j P20 ending e = tt
-over-cross d j P22 ending e = tt
-over-cross d j p dead e = rw (dead-stays d j p) tt
+over-cross = past-cross rightmost
 
 -- VOID changes nothing
 pub tracks-void : (o x : State) → Tracks o x → TracksBehind o x
@@ -347,30 +351,30 @@ suc-injective : {i n : ℕ} → suc i ≡ suc n → i ≡ n
 suc-injective p = omega arith
 
 -- VOID changes no state
-void-step : (policy : Policy) (between : Action → Bool) (s : State) → policyStep policy between Void s ≡ s
-void-step Exact between s = refl
-void-step Return between s = refl
-void-step Traversal between s = refl
-void-step Midpoint between s = refl
-void-step Composite between s = refl
-void-step Largest between s = refl
+void-step : (policy : Policy) (end : End) (between : Action → Bool) (s : State) → policyStep policy end between Void s ≡ s
+void-step Exact end between s = refl
+void-step Return end between s = refl
+void-step Traversal end between s = refl
+void-step Midpoint end between s = refl
+void-step Composite end between s = refl
+void-step Largest end between s = refl
 
-module _ (policy : Policy) (between : ℕ → Action → Bool) (d : ℕ) (plan : Plan) where
+module _ (policy : Policy) (between : ℕ → Action → Bool) (z : Layout) (plan : Plan) where
   -- behind the action of aisle i + 1 both runs begin to end
   abbrev pub EndsBehind : ℕ → Type 0
   EndsBehind i =
-      Ends (policyStep policy (between (suc i)) (actionAt plan (suc i)) (policyState policy between d plan i))
-      (lawfulStep (actionAt plan (suc i)) (lawfulState d plan i))
+      Ends (policyStep policy (walkBackEnd z) (between (suc i)) (actionAt plan (suc i)) (policyState policy between z plan i))
+      (lawfulStep (actionAt plan (suc i)) (lawfulState (z .depot) plan i))
 
   -- behind the last entered aisle, i + 1, both runs go on to their ends
   pub ends-run : ((j : ℕ) → Plain (passageAt plan j)) → (i m : ℕ) → EndsBehind i
       → ((j : ℕ) → suc i < j → j ≤ m → Entered plan j → ⊥)
       → (n : ℕ) → n ≤ m → suc i ≤ n
-      → Ends (policyState policy between d plan n) (lawfulState d plan n)
+      → Ends (policyState policy between z plan n) (lawfulState (z .depot) plan n)
   ends-run plain i m last none zero l h = absurd (omega arith)
   ends-run plain i m last none (suc n) l h =
-      ends-cross d (suc n) (passageAt plan (suc n)) (plain (suc n)) _ _ (elim (below (suc i) n h) [
-        | inl g ↦ rw (not-entered-void plan (suc n) (none (suc n) (omega arith) l), void-step policy (between (suc n)) (policyState policy between d plan n))
+      ends-cross (z .depot) (suc n) (passageAt plan (suc n)) (plain (suc n)) _ _ (elim (below (suc i) n h) [
+        | inl g ↦ rw (not-entered-void plan (suc n) (none (suc n) (omega arith) l), void-step policy (walkBackEnd z) (between (suc n)) (policyState policy between z plan n))
             (ends-run plain i m last none n (omega arith) g)
         | inr p ↦ subst EndsBehind (suc-injective p) last
       ])

@@ -5,6 +5,7 @@ use mathlib.Core.Path.{_≡_, sym, _∙_, ap, ap₂, subst}
 use mathlib.Core.Bool.{true}
 use Rattle.rules.specs.declared.Layout.{Layout}
 use Rattle.rules.specs.Store.{layoutInBounds}
+use Rattle.rules.specs.Policies.{walkBackEnd}
 use Rattle.machine.specs.Steps.{policyOf}
 use Rattle.machine.specs.Tables.{asksGap}
 use Rattle.machine.proofs.StepLaws.{policy-of-code, policy-code-below}
@@ -33,7 +34,7 @@ listed-cells-requires c κs =
 asks-gap-requires : tie.Need-asks-gap-requires
 asks-gap-requires c κs =
     let r = c .before .before .before .before .before .pre in
-    subst (λ n. n < 6) (sym (r .0 .1 .policy)) (policy-code-below (r .0 .0 .policy))
+    subst (λ n. n < 7) (sym (r .0 .1 .policy)) (policy-code-below (r .0 .0 .policy) (walkBackEnd (r .0 .0 .layout)))
 
 between-of-requires : tie.Need-between-of-requires
 between-of-requires c κs =
@@ -52,7 +53,8 @@ returns c = λ job of.
     let may = at-may .may-enter in
     let cells = ap (λ (z : Layout). z .cells) (of .layout) in
     let flags = at-listed .listed-cells .ensures job (of .admitted) (of .shelf) cells in
-    let gap = at-gap .asks-gap .ensures ∙ ap (λ n. asksGap (policyOf n)) (of .policy) ∙ ap asksGap (policy-of-code (job .policy)) in
+    let named = ap policyOf (of .policy) ∙ policy-of-code (job .policy) (walkBackEnd (job .layout)) in
+    let gap = at-gap .asks-gap .ensures ∙ ap asksGap named in
     let gaps = asksGap (job .policy) in
     let few = within (job .layout) (of .admitted .layout) .cells .1 in
     let between = c .between-of .ensures

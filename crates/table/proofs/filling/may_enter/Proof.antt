@@ -9,6 +9,7 @@ use mathlib.Core.Bool.{Bool, true, false}
 use lib.ListN.{getD}
 use borrow.Author.Tests.{not-false}
 use Rattle.rules.specs.declared.Layout.{Layout}
+use Rattle.rules.specs.Policies.{walkBackEnd}
 use Rattle.machine.proofs.StepLaws.{policy-code-below}
 use Rattle.table.proofs.TableFills.{order-aisles, order-small, enter-shut, enter-open}
 use Rattle.table.proofs.filling.may_enter.Statement.{statement}
@@ -40,7 +41,7 @@ returns c =
 enters-any-requires : tie.Need-enters-any-requires
 enters-any-requires c κs =
     let r = c .before .before .before .pre in
-    subst (λ n. n < 6) (sym (r .0 .1 .policy)) (policy-code-below (r .0 .0 .policy))
+    subst (λ n. n < 7) (sym (r .0 .1 .policy)) (policy-code-below (r .0 .0 .policy) (walkBackEnd (r .0 .0 .layout)))
 
 returns-2 : tie.Need-returns-2
 returns-2 c =
