@@ -33,9 +33,9 @@ extern "C" {
    layout line the line `k u`, a post after every k cells (1 to 24), each u wide (0 to 10). It may have opening hours: between the
    sections S and D `M 1` with the minute of the day (0 to 1439), then `H n` (0 to 64) with lines aisle, from, to (from below to, to at
    most 1440). An aisle with lines is open when from <= minute < to for one of them; a shut aisle is not entered, and its stock counts
-   for nothing. The policy word is EXACT, RETURN, TRAVERSAL, MIDPOINT, COMPOSITE or LARGEST. Of an odd number of aisles TRAVERSAL walks
-   one back: the leftmost where the depot lies right of the middle (2 * d > m + 1), otherwise the rightmost. No tour is longer than
-   57,280.
+   for nothing. The policy word is EXACT, RETURN, TRAVERSAL, MIDPOINT, COMPOSITE or LARGEST. Of an odd number of entered aisles
+   TRAVERSAL walks one back: the leftmost where the depot lies right of the middle (2 * d > m + 1), otherwise the rightmost. No tour is
+   longer than 57,280.
    For a refused job it returns DIZHONDU_REFUSED plus the refusal's number, and every byte of the sheet is left as
    it was. The first cause of this list that applies gives the number:
 

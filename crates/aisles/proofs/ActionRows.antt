@@ -19,7 +19,7 @@ use Rattle.aisles.specs.declared.candidates.Candidate.{Candidate}
 use Rattle.aisles.specs.declared.layers.Aisle.{Aisle}
 use Rattle.aisles.specs.Candidates.{candidateOf, candidateLength, candidateBetween}
 use Rattle.machine.specs.States.{stateCode, stateOf}
-use Rattle.machine.specs.Steps.{policyOf, walkBackEndOf, sampleAction, bit, stepOf}
+use Rattle.machine.specs.Steps.{policyOf, walkBackEndOf, sampleAction, bit, stepBy}
 use Rattle.rows.specs.Rows.{nextAt}
 use Rattle.aisles.specs.Layers.{asksBetween, stepWith, stepCode, leftCode, throughCandidate, throughAction, wayWith}
 use Rattle.machine.proofs.StepLaws.{state-small}
@@ -73,7 +73,7 @@ module _ (x : Aisle) (after fronts backs : List ℕ) (s q : ℕ) where
   way-no a = go (step-no (policyOf (x .policy)) (walkBackEndOf (x .policy)) (sampleAction (candidateOf (x .layout .cells) a .kind)) (bit (x .may)) (stateOf s))
     where
       to : Bool → State
-      to b = stepOf (policyOf (x .policy)) (walkBackEndOf (x .policy)) (sampleAction (candidateOf (x .layout .cells) a .kind)) (bit (x .may)) b (stateOf s)
+      to b = stepBy (x .policy) (sampleAction (candidateOf (x .layout .cells) a .kind)) (bit (x .may)) b (stateOf s)
 
       go : (to false ≡ to true) ⊎ (to false ≡ dead) → (way false a ≡ way true a) ⊎ (way false a ≡ 65535)
       go (inl e) =
@@ -107,4 +107,4 @@ module _ (x : Aisle) (after fronts backs : List ℕ) (s q : ℕ) where
 pub step-small : (x : Aisle) (c : Candidate) (s : ℕ) → stepCode x c s ≤ 8
 unfolding stepCode
 step-small x c s =
-    state-small (stepOf (policyOf (x .policy)) (walkBackEndOf (x .policy)) (sampleAction (c .kind)) (bit (x .may)) (candidateBetween (x .between) c) (stateOf s))
+    state-small (stepBy (x .policy) (sampleAction (c .kind)) (bit (x .may)) (candidateBetween (x .between) c) (stateOf s))

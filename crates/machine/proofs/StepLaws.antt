@@ -10,7 +10,7 @@ use Rattle.rules.specs.declared.Action.the-variants.{Void, Bottom, Top, Gap, On
 use Rattle.rules.specs.Policies.{actionNamed, End, leftmost, rightmost}
 use Rattle.rules.specs.Machine.{State, nothing, closed, atFront, atBack, odd, joined, split, ending, dead, policyStep, isVoid}
 use Rattle.machine.specs.States.{stateCode, stateOf}
-use Rattle.machine.specs.Steps.{policyOf, walkBackEndOf, policyCode, kindCode, sampleAction, stepOf}
+use Rattle.machine.specs.Steps.{policyOf, policyCode, kindCode, sampleAction, stepOf, stepBy}
 
 -- the numbers of states and policies stand for them
 pub state-of-code : (s : State) → stateOf (stateCode s) ≡ s
@@ -44,7 +44,7 @@ policy-code-below Largest end = omega arith
 
 -- so a step by the number is the policy's: only TRAVERSAL looks at the end
 pub step-of-code : (policy : Policy) (end : End) (a : Action) (may between : Bool) (s : State)
-    → stepOf (policyOf (policyCode policy end)) (walkBackEndOf (policyCode policy end)) a may between s ≡ stepOf policy end a may between s
+    → stepBy (policyCode policy end) a may between s ≡ stepOf policy end a may between s
 unfolding stepOf
 step-of-code Exact end a may between s = refl
 step-of-code Return end a may between s = refl

@@ -1,6 +1,7 @@
 -- The machine's steps by kind of action, with numbers for policies, kinds and passages.
 use Prim.Native.Nat.{ℕ, zero, suc}
 use mathlib.Core.Bool.{Bool, true, false, cond, _&&_, _||_}
+use lib.Dec.{ltb}
 use Rattle.rules.specs.declared.Policy.{Policy}
 use Rattle.rules.specs.declared.Policy.the-variants.{Exact, Return, Traversal, Midpoint, Composite, Largest}
 use Rattle.rules.specs.declared.Action.{Action}
@@ -23,13 +24,7 @@ policyOf (suc (suc (suc (suc (suc (suc n)))))) = Traversal
 
 -- the end at which TRAVERSAL walks an aisle back, by the same number
 abbrev pub walkBackEndOf : ℕ → End
-walkBackEndOf zero = rightmost
-walkBackEndOf (suc zero) = rightmost
-walkBackEndOf (suc (suc zero)) = rightmost
-walkBackEndOf (suc (suc (suc zero))) = rightmost
-walkBackEndOf (suc (suc (suc (suc zero)))) = rightmost
-walkBackEndOf (suc (suc (suc (suc (suc zero))))) = rightmost
-walkBackEndOf (suc (suc (suc (suc (suc (suc n)))))) = leftmost
+walkBackEndOf policy = cond (ltb policy 6) rightmost leftmost
 
 -- the number of a policy, with TRAVERSAL's end: the others have one number at either
 abbrev pub policyCode : Policy → End → ℕ
@@ -70,6 +65,10 @@ bit (suc n) = true
 -- the state after an action, with TRAVERSAL's end and the answers of 'the aisle may be entered' and of the test for aisles between
 unfoldable pub stepOf : Policy → End → Action → Bool → Bool → State → State
 stepOf policy end a may between s = cond (actionNamed policy a && (isVoid a || may)) (policyBy policy end between a s) dead
+
+-- the same under the policy of a number
+abbrev pub stepBy : ℕ → Action → Bool → Bool → State → State
+stepBy policy a may between s = stepOf (policyOf policy) (walkBackEndOf policy) a may between s
 
 -- the state after the passage behind an aisle left of the depot (0), at it (1) or right of it (2)
 unfoldable pub crossOf : Policy → Passage → ℕ → State → State

@@ -15,7 +15,7 @@ ghost use lib.Dec.{eqb};
 ghost use Rattle.rules.specs.Policies.{actionNamed, passageNamed};
 ghost use Rattle.rules.specs.Machine.{mayEnter, isVoid};
 ghost use Rattle.machine.specs.States.{stateCode, stateOf};
-ghost use Rattle.machine.specs.Steps.{policyOf, walkBackEndOf, sampleAction, passageOf, bit, stepOf, crossOf};
+ghost use Rattle.machine.specs.Steps.{policyOf, walkBackEndOf, sampleAction, passageOf, bit, stepBy, crossOf};
 ghost use Rattle.machine.specs.Tables.{asksGap, automatonOf, automatonBy, policyMark, actionMark, passageMark, decided};
 
 // The states that `decide` and the steps name.
@@ -32,8 +32,8 @@ const ANYWHERE: usize = 15;
 
 const TEST: usize = 17;
 
-// A row for each policy: its kinds and its passages, '-' where it lacks one; its automaton; '+' if it may enter any open aisle,
-// '-' if only those that hold a listed article; its test for aisles between: 'h' the halves, 'g' the largest gap, '-' none.
+// A row for each policy, two for TRAVERSAL: its kinds and its passages, '-' where it lacks one; its automaton; '+' if it may enter any
+// open aisle, '-' if only those that hold a listed article; its test for aisles between: 'h' the halves, 'g' the largest gap, '-' none.
 const POLICIES: [u8; 126] = *b"\
     012345 01234 0 + -\
     01---- 01--- 0 - -\
@@ -157,7 +157,7 @@ fn next_state(automaton: usize, kind: usize, between: usize, state: usize) -> us
 // The state after an action; whether the aisle may be entered, and whether the action passes the test for aisles between.
 pub fn action_step(policy: usize, kind: usize, may: usize, between: usize, state: usize) -> usize
     requires { ⌜ (policy < 7) × (kind < 6) × (may < 2) × (between < 2) × (state < 9) ⌝ }
-    ensures { λ r. ⌜ r ≡ stateCode (stepOf (policyOf policy) (walkBackEndOf policy) (sampleAction kind) (bit may) (bit between) (stateOf state)) ⌝ }
+    ensures { λ r. ⌜ r ≡ stateCode (stepBy policy (sampleAction kind) (bit may) (bit between) (stateOf state)) ⌝ }
 {
     if possible(policy, kind, may) {
         let automaton = number(policy_mark(policy, AUTOMATON));

@@ -6,7 +6,7 @@
 -- The words of the statements are in specs/: the causes of the table (Causes), what a sheet says (Contents), what calls give (Calls),
 -- and of the requests #101 (EmptyLists), #102 (Uprights), #103 (Pages), #105 (StockTests), #106 (OpeningHours) and #107 (Doors). Request #104 has
 -- its words in rules/specs/Policies.
-use Prim.Native.Nat.{ℕ, _+_, _*_, _-_, _/_, _≤_, _<_}
+use Prim.Native.Nat.{ℕ, _+_, _*_, _-_, _/_, _%_, _≤_, _<_}
 use mathlib.Core.Path.{_≡_, refl, sym, _∙_, ap, subst}
 use mathlib.Core.Logic.{_⊎_, _↔_}
 use mathlib.Core.List.{List, [], _∷_, _++_}
@@ -16,6 +16,7 @@ use lib.ListN.{length, take, drop}
 use Rattle.rules.specs.declared.Layout.{Layout}
 use Rattle.rules.specs.declared.Policy.{Policy}
 use Rattle.rules.specs.declared.Policy.the-variants.{Exact, Traversal, Midpoint, Largest}
+use Rattle.rules.specs.declared.Action.the-variants.{Once}
 use Rattle.rules.specs.declared.Posts.the-variants.{NoPosts, Every}
 use Rattle.rules.specs.declared.OrderLine.{OrderLine}
 use Rattle.rules.specs.declared.Pick.{Pick}
@@ -26,17 +27,17 @@ use Rattle.rules.specs.Store.{WithoutPosts, aisleLength, position, Edge, InStor
 use Rattle.rules.specs.Hours.{Hours, NoHours}
 use Rattle.rules.specs.Jobs.{Job, jobWithPosts, jobUnder, jobWithHours}
 use Rattle.rules.specs.JobFile.{lineFeed, header, field, jobText, jobFileLimit}
-use Rattle.rules.specs.Plans.{Plan, planLength}
+use Rattle.rules.specs.Plans.{Plan, actionAt, planLength}
 use Rattle.rules.specs.Lawful.{Lawful}
 use Rattle.rules.specs.Walks.{Walk, ClosedWalk, KeepsToOpen, walkTreads}
 use Rattle.rules.specs.Picks.{picksOf}
-use Rattle.rules.specs.BestPlan.{emptyPlan, BestAmong, IsBest}
+use Rattle.rules.specs.BestPlan.{emptyPlan, BestAmong, IsBest, bestPlan}
 use Rattle.rules.specs.Refusals.{numberOf, workLimit, cleared, Admitted}
 use Rattle.rules.specs.Looked.{lookedFor, looked, lookedIn}
 use Rattle.rules.specs.Sheet.{sheetText}
 use Rattle.rules.specs.Answers.{answer, hostAnswer, sheetLimit, letterR, output}
 use Rattle.rules.specs.PageAnswers.{pageAnswer, hostPageAnswer, pageLimit, pageOutput}
-use Rattle.rules.specs.Policies.{First, Last, WalkedBack, inFrontHalf, inBackHalf, Follows, ShutVoid, Allowed}
+use Rattle.rules.specs.Policies.{enteredAisles, Entered, First, Last, IsBottom, WalkedBack, inFrontHalf, inBackHalf, Follows, ShutVoid, Allowed}
 use Rattle.rules.specs.Serving.{PlanServes}
 use Rattle.rules.specs.Examples.{_⨯_, alpha, AllHold, AllSame, cases, ownCases, fourBetween, largestCases, stopLists, workedJob, workedPage}
 use Rattle.rules.specs.Examples.{AllLooked, lookedCases, lookedTexts, sevenAt, hoursCases, hoursLooked, hoursTexts, HasTour, doorAt, doorCases}
@@ -441,6 +442,18 @@ walked-back-left = Doors.walked-back-left
 pub walked-back-right : (z : Layout) → 2 * z .depot ≤ z .aisles + 1 → (plan : Plan) (j : ℕ) → WalkedBack z plan j ↔ Last plan j
 walked-back-right = Doors.walked-back-right
 
+-- so on the sheet of a TRAVERSAL job whose depot lies to the right, of an odd number of entered aisles the leftmost is BOTTOM and the others are ONCE
+pub door-right-shown : (job : Job) → job .policy ≡ Traversal → job .layout .aisles + 1 < 2 * job .layout .depot
+    → (bytes sheet work : List ℕ) (c : Content) → Shows bytes sheet work job c → enteredAisles (c .plan) % 2 ≡ 1
+    → (j : ℕ) → (First (c .plan) j → IsBottom (actionAt (c .plan) j)) × (Entered (c .plan) j → (First (c .plan) j → ⊥) → actionAt (c .plan) j ≡ Once)
+door-right-shown = Doors.right-shown
+
+-- there are such calls: the request's own store
+pub door-right-met : (sheet work : List ℕ) → sheetLimit ≤ length sheet → workLimit ≤ length work
+    → Shows (jobText (doorAt 3 Traversal)) sheet work (doorAt 3 Traversal) (best (doorAt 3 Traversal))
+    × (enteredAisles (best (doorAt 3 Traversal) .plan) % 2 ≡ 1)
+door-right-met = Doors.right-met
+
 -- "Jobs with smaller d keep their tours." Where 2·d is at most m + 1, the same plans are allowed as by document 01's rule before the request,
 -- and the same one is the first of the shortest
 pub door-left-unchanged : (job : Job) → job .policy ≡ Traversal → 2 * job .layout .depot ≤ job .layout .aisles + 1
@@ -453,15 +466,16 @@ pub door-left-shown : (job : Job) → job .policy ≡ Traversal → 2 * job .lay
     → (plan : Plan) → BestAmong (AllowedBefore job) job plan ↔ (plan ≡ c .plan)
 door-left-shown = Doors.same-shown
 
--- there are such calls: the request's own store with its depot in the middle aisle of three
+-- there are such calls: that store with its depot in the middle aisle of three
 pub door-left-met : (sheet work : List ℕ) → sheetLimit ≤ length sheet → workLimit ≤ length work
     → Shows (jobText (doorAt 2 Traversal)) sheet work (doorAt 2 Traversal) (best (doorAt 2 Traversal))
-door-left-met = Doors.met
+door-left-met = Doors.left-met
 
--- with the depot in the last one the rules differ: before a tour of 18 was allowed, now the shortest is 26
+-- with the depot in the last one the rules differ: before a tour of 18 was allowed, now the shortest is 26, and by the rule before it is not the best
 pub door-right-moves : AllowedBefore (doorAt 3 Traversal) lastWalkedBack × PlanServes (doorAt 3 Traversal) lastWalkedBack
     × (planLength (doorAt 3 Traversal .layout) lastWalkedBack ≡ 18) × HasTour (doorAt 3 Traversal) 26
-door-right-moves = (Doors.allowed-before, Doors.moved .0, Doors.moved .1, Doors.moved .2)
+    × (BestAmong (AllowedBefore (doorAt 3 Traversal)) (doorAt 3 Traversal) (bestPlan (doorAt 3 Traversal)) → ⊥)
+door-right-moves = (Doors.allowed-before, Doors.moved .0, Doors.moved .1, Doors.moved .2, Doors.not-before)
 
 -- which aisle is walked back from which doors, with an odd and an even number of entered aisles, and that MIDPOINT has no such rule is pinned
 -- by cases of its own

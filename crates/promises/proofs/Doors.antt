@@ -1,6 +1,6 @@
 -- TRAVERSAL from the right-hand door: where the depot does not lie to the right, the rightmost aisle is walked back as before; where it
 -- does, the request's own store shows that the rules differ.
-use Prim.Native.Nat.{ℕ, zero, suc, _+_, _*_, _≤_, _<_}
+use Prim.Native.Nat.{ℕ, zero, suc, _+_, _*_, _%_, _≤_, _<_}
 use native.Mathlib.Omega.{arith}
 use mathlib.Core.Path.{_≡_, refl, sym, _∙_, ap, subst}
 use mathlib.Core.Logic.{_↔_}
@@ -20,7 +20,8 @@ use Rattle.rules.specs.JobFile.{numeral, field, header, layoutText, layoutSecti
 use Rattle.rules.specs.JobFile.{isDigit, isNumber, readField, readHeader, readPolicyAs, readPolicy, readLayout, readPosts}
 use Rattle.rules.specs.JobFile.{readRecord, readLine, readSection, readLayoutSection, readSections, readJob}
 use Rattle.rules.specs.Plans.{Plan, WellFormed, Fits, actionAt, passageAt, multiplicity, planPasses, lengthOf, planLength}
-use Rattle.rules.specs.Policies.{First, Last, End, leftmost, rightmost, EnteredAt, walkBackEnd, WalkedBack, TraversalRule, OwnRule, PolicyRules, AllowedBy, Follows, Allowed}
+use Rattle.rules.specs.Policies.{enteredAisles, Entered, First, Last, IsBottom, End, leftmost, rightmost, EnteredAt, walkBackEnd, WalkedBack}
+use Rattle.rules.specs.Policies.{TraversalRule, OwnRule, PolicyRules, AllowedBy, Follows, Allowed}
 use Rattle.rules.specs.Machine.{actionPossible, actionStep, passageStep, accepts}
 use Rattle.rules.specs.Serving.{supply, serves, PlanServes}
 use Rattle.rules.specs.BestPlan.{BestAmong, IsBest, bestPlan}
@@ -35,7 +36,7 @@ use Rattle.optimum.proofs.Best.{best-plan, best-plan-only}
 use Rattle.promises.specs.Contents.{Content, contentOf}
 use Rattle.promises.specs.Calls.{Shows}
 use Rattle.promises.specs.Doors.{RuleBefore, AllowedBefore}
-use Rattle.promises.proofs.Shown.{best, shown-best, job-shown}
+use Rattle.promises.proofs.Shown.{best, best-obeys, shown-best, job-shown}
 
 -- where 2·d exceeds m + 1, the left end is the one
 at-left : (z : Layout) → z .aisles + 1 < 2 * z .depot → walkBackEnd z ≡ leftmost
@@ -119,6 +120,17 @@ module _ (job : Job) (word : job .policy ≡ Traversal) (low : 2 * job .layout .
         λ p. same-best plan .1 (subst (IsBest job) (sym (p ∙ sym printed)) (best-plan job a)),
       )
 
+-- on the sheet of a job whose depot lies to the right the leftmost of an odd number of entered aisles is walked back
+pub right-shown : (job : Job) → job .policy ≡ Traversal → job .layout .aisles + 1 < 2 * job .layout .depot
+    → (bytes sheet work : List ℕ) (c : Content) → Shows bytes sheet work job c → enteredAisles (c .plan) % 2 ≡ 1
+    → (j : ℕ) → (First (c .plan) j → IsBottom (actionAt (c .plan) j)) × (Entered (c .plan) j → (First (c .plan) j → ⊥) → actionAt (c .plan) j ≡ Once)
+right-shown job word high bytes sheet work c s n j =
+    let (a, e) = shown-best bytes sheet work job c s in
+    let allowed : Allowed job (c .plan) = subst (λ (x : Content). Allowed job (x .plan)) e (best-obeys job a .allowed) in
+    let rule = follows-own job (c .plan) word .0 (allowed .follows) .own in
+    let back = walked-back-left (job .layout) high (c .plan) j in
+    (λ f. rule .odd-walked-back n j (back .1 f), λ i other. rule .odd-others n j i (λ w. other (back .0 w)))
+
 -- the tour that the request's own store had before: the rightmost aisle is walked back
 abbrev pub lastWalkedBack : Plan
 lastWalkedBack = record { actions = Once ∷ Once ∷ Bottom 1 ∷ []; passages = P11 ∷ P02 ∷ [] }
@@ -162,16 +174,28 @@ pub moved : PlanServes (doorAt 3 Traversal) lastWalkedBack × (planLength (doorA
 unfolding PlanServes doorCases doorAt ownJob stocked _⨯_ supply serves planPasses actionAt passageAt multiplicity lengthOf planLength edgesOf distance aisleLength position
 moved = (serves-test (doorAt 3 Traversal) (planPasses lastWalkedBack) .0 refl, refl, door-cases-hold .0 .0)
 
--- the text of the store with its depot in the middle is read
-middle-read : readJob (jobText (doorAt 2 Traversal)) ≡ some (doorAt 2 Traversal)
+-- so the tour of now is not the first of the shortest by the rule before
+pub not-before : BestAmong (AllowedBefore (doorAt 3 Traversal)) (doorAt 3 Traversal) (bestPlan (doorAt 3 Traversal)) → ⊥
+not-before b = omega (arith, b .least lastWalkedBack allowed-before (moved .0), moved .1, moved .2 .length)
+
+-- the texts of the store with its depot in the middle and in the last aisle are read
+doors-read : (readJob (jobText (doorAt 2 Traversal)) ≡ some (doorAt 2 Traversal)) × (readJob (jobText (doorAt 3 Traversal)) ≡ some (doorAt 3 Traversal))
 unfolding _⨯_ stocked ownJob doorAt jobText layoutSectionText numeral field header layoutText recordText lineText sectionText
     isDigit isNumber readField readHeader readPolicyAs readPolicy readLayout readPosts readRecord readLine readSection readLayoutSection readSections
     readJob
-middle-read = refl
+doors-read = (refl, refl)
 
--- so its sheet is shown
-pub met : (sheet work : List ℕ) → sheetLimit ≤ length sheet → workLimit ≤ length work
-    → Shows (jobText (doorAt 2 Traversal)) sheet work (doorAt 2 Traversal) (best (doorAt 2 Traversal))
-unfolding doorCases
-met sheet work space numbers =
-    job-shown sheet work space numbers (doorAt 2 Traversal) middle-read (admitted (doorAt 2 Traversal) .0 (door-cases-hold .1 .0 .0 .admitted))
+-- so their sheets are shown
+module _ (sheet work : List ℕ) (space : sheetLimit ≤ length sheet) (numbers : workLimit ≤ length work) where
+  pub left-met : Shows (jobText (doorAt 2 Traversal)) sheet work (doorAt 2 Traversal) (best (doorAt 2 Traversal))
+  unfolding doorCases
+  left-met = job-shown sheet work space numbers (doorAt 2 Traversal) (doors-read .0) (admitted (doorAt 2 Traversal) .0 (door-cases-hold .1 .0 .0 .admitted))
+
+  -- with the depot in the last aisle three are entered
+  pub right-met : Shows (jobText (doorAt 3 Traversal)) sheet work (doorAt 3 Traversal) (best (doorAt 3 Traversal))
+      × (enteredAisles (best (doorAt 3 Traversal) .plan) % 2 ≡ 1)
+  unfolding doorCases contentOf enteredAisles
+  right-met = (
+    job-shown sheet work space numbers (doorAt 3 Traversal) (doors-read .1) (admitted (doorAt 3 Traversal) .0 (door-cases-hold .0 .0 .admitted)),
+    ap (λ p. enteredAisles p % 2) (door-cases-hold .0 .1),
+  )

@@ -25,7 +25,8 @@ use Rattle.rules.specs.BestPlan.{actionsOf, passagesInOrder, single, pre
 use Rattle.rules.specs.Examples.{stocked, _⨯_, alpha, beta, steps, roundTrip, cases, ownJob, oneEach, midwayFront, midwayBack, farBack, nearBack, bothEnds, bottomOrTop, topOrGap, gapOrOnce, frontOrBack, leftFirst, topTie, withOthers, gapByFront, gapByBack, posted, thirdCells, beforeMiddle, behindMiddle, wrongLayout, wrongStock, sharedCell, sharedArticle, bothBottom, bothOnce, eightLines, nineLines, frontOnly, awayFromDepot, ownCases, twoLines, counted, fromTheBack, pageFromTheBack, texts, overfull, RefusedWith, workedJob, workedSheet, workedPage}
 use Rattle.rules.specs.Examples.{betaWith, cellsBetween, fourBetween, besideUnlisted, listedInGap, oneAisle, betweenEnds, largestCases, stopLists}
 use Rattle.rules.specs.Examples.{restocked, lookedCases, lookedTexts, AllLooked}
-use Rattle.rules.specs.Examples.{window, timed, sevenAt, inAisleOne, inAisleTwo, overstocked, hoursCases, hoursLooked, beforeList, noJobFile, hoursTexts, doorAt, wantedIn, threePlaces, spareAisle, doorCases}
+use Rattle.rules.specs.Examples.{window, timed, sevenAt, inAisleOne, inAisleTwo, overstocked, hoursCases, hoursLooked, beforeList, noJobFile, hoursTexts}
+use Rattle.rules.specs.Examples.{doorAt, wantedIn, threePlaces, spareAisle, doorCases}
 use Rattle.rules.specs.Hours.{openAt, windowInBounds}
 use Rattle.rules.specs.FirstWalk.{without, stepsOf, firstWalk}
 use Rattle.rules.specs.JobFile.{numeral, field, header, sectionText, jobText, layoutText, layoutSectionText, recordText, windowText, lineText, isDigit, isNumber, readField, readHeader, readPolicyAs, readPolicy, readLayout, readPostsLine, readPosts, readRecord, readWindow, readMinute, readClock, readLine, readSection, readLayoutSection, readSections, readJob}
@@ -297,6 +298,7 @@ unfolding actionsOf passagesInOrder single prepend shorterOf stocked _⨯_ liste
     jobRefusal within layoutInBounds ownJob treadsNothing doorAt wantedIn threePlaces spareAisle doorCases
 door-cases-computed =
     (refl, refl, refl, refl)
+    ▸ (refl, refl, refl, refl)
     ▸ (refl, refl, refl, refl)
     ▸ (refl, refl, refl, refl)
     ▸ (refl, refl, refl, refl)

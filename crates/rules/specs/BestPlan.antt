@@ -107,7 +107,7 @@ emptyPlan z = record { actions = replicate (z .aisles) Void; passages = replicat
 unfoldable pub bestPlan : Job → Plan
 bestPlan job = Option·getD (firstShortest (planLength (job .layout)) (servingPlans job)) (emptyPlan (job .layout))
 
--- its declarative twin, among the plans that are allowed: the plan is and serves the list; no other such plan is shorter;
+-- its declarative twin, among the plans that some rules allow: the plan is one of them and serves the list; no other such plan is shorter;
 -- and of those that are no longer it is the first in the order of plans
 pub record BestAmong (Allows : Plan → Type 0) (job : Job) (plan : Plan) : Type 0 where
   pub allowed : Allows plan

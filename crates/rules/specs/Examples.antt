@@ -549,6 +549,7 @@ doorCases =
     ∷ under Traversal (wantedIn 16 8 threePlaces) (tour 28 (Once ∷ Once ∷ Bottom 1 ∷ replicate 13 Void) (P11 ∷ replicate 6 P02 ++ replicate 8 P00))  -- 16 does not exceed 17
     ∷ under Traversal spareAisle (tour 26 (Void ∷ Bottom 5 ∷ Once ∷ Once ∷ []) (P00 ∷ P02 ∷ P11 ∷ []))  -- the leftmost entered, not the leftmost that could be
     ∷ under Traversal (wantedIn 3 3 ((1, 1) ∷ (2, 1) ∷ [])) (tour 16 (Once ∷ Once ∷ Void ∷ []) (P11 ∷ P02 ∷ []))  -- an even number: all are ONCE
+    ∷ under Traversal (wantedIn 6 4 ((5, 1) ∷ (6, 1) ∷ [])) (tour 16 (Void ∷ Void ∷ Void ∷ Void ∷ Once ∷ Once ∷ []) (P00 ∷ P00 ∷ P00 ∷ P02 ∷ P11 ∷ []))  -- two right of the depot
     ∷ under Traversal (wantedIn 4 4 ((1, 1) ∷ (2, 1) ∷ (3, 1) ∷ (4, 1) ∷ [])) (tour 30 (Once ∷ Once ∷ Once ∷ Once ∷ []) (P11 ∷ P02 ∷ P11 ∷ []))  -- two rounds
     ∷ under Traversal (wantedIn 5 4 ((1, 2) ∷ (2, 1) ∷ (3, 1) ∷ (4, 1) ∷ (5, 1) ∷ [])) (tour 36 (Bottom 2 ∷ Once ∷ Once ∷ Once ∷ Once ∷ []) (P02 ∷ P11 ∷ P02 ∷ P11 ∷ []))  -- the others ONCE
     ∷ under Traversal (wantedIn 3 3 ((1, 5) ∷ [])) (tour 14 (Bottom 5 ∷ Void ∷ Void ∷ []) (P02 ∷ P02 ∷ []))  -- a single aisle is walked back

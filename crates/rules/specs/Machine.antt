@@ -27,7 +27,7 @@ pub data State : Type 0 where
   odd : State  -- at both ends, each with an odd number of treads (uu1c)
   joined : State  -- at both ends, even, one component (ee1c)
   split : State  -- at both ends, even, two components (ee2c)
-  ending : State  -- goes on at the front, and no aisle may be entered any more (TRAVERSAL, MIDPOINT and LARGEST); or ONCE alone (TRAVERSAL, left end)
+  ending : State  -- goes on at the front; no aisle may be entered any more (MIDPOINT, LARGEST, TRAVERSAL at the right end), or only by ONCE (TRAVERSAL at the left end)
   dead : State  -- no plan goes on from here
 
 -- a row of the table: the next state for each state in which an aisle may be entered
@@ -60,7 +60,7 @@ abbrev pub traversalOnce : End → State → State
 traversalOnce leftmost s = wideRow odd odd dead ending dead dead odd s
 traversalOnce rightmost s = row odd odd dead joined dead dead s
 
--- TRAVERSAL: aisles are walked through; BOTTOM only in the first one or in the last one
+-- TRAVERSAL: aisles are walked through; BOTTOM only in the entered one at that end
 abbrev pub traversalStep : End → Action → State → State
 traversalStep end Void s = s
 traversalStep end (Bottom i) s = row ending ending dead dead dead dead s

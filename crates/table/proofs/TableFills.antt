@@ -134,6 +134,12 @@ module _ (job : Job) (o : Order) (of : OrderOf job o) where
   pub order-aisles : o .layout .aisles ≡ job .layout .aisles
   order-aisles = ap (λ (z : Layout). z .aisles) (of .layout)
 
+  -- its number is that of the job's policy
+  pub order-policy : (policyOf (o .policy) ≡ job .policy) × (o .policy < 7)
+  order-policy =
+      let end = walkBackEnd (job .layout) in
+      rw (of .policy) (policy-of-code (job .policy) end, policy-code-below (job .policy) end)
+
   pub order-few : o .layout .aisles ≤ 16
   order-few = omega (arith, order-aisles, within (job .layout) (of .admitted .layout) .aisles .1)
 
@@ -166,8 +172,7 @@ module _ (job : Job) (o : Order) (of : OrderOf job o) where
     pub enter-open : getD (o .shelf .open) (j - 1) false ≡ true → (any : Bool) → any ≡ mayEnter (policyOf (o .policy)) false
         → enterable job j ≡ (any || holdsListed job j)
     enter-open e any a =
-        let named = ap policyOf (of .policy) ∙ policy-of-code (job .policy) (walkBackEnd (job .layout)) in
-        let known : any ≡ mayEnter (job .policy) false = a ∙ ap (λ p. mayEnter p false) named in
+        let known : any ≡ mayEnter (job .policy) false = a ∙ ap (λ p. mayEnter p false) (order-policy .0) in
         rw (sym flag-open ∙ e, known) (entered (job .policy) (holdsListed job j))
 
   -- the numbers of an aisle, one by one

@@ -94,7 +94,7 @@ fn side_of(depot: usize, j: usize) -> usize
 }
 
 // The number of TRAVERSAL: 6, at the left end, where the depot lies right of the middle (2·d > m + 1), otherwise 2, at the right
-// end. The middle is half of m + 1, rounded down.
+// end. The middle is half of m + 1, rounded down, said so that no sum can overflow.
 fn traversal_number(layout: Layout) -> usize
     ensures { λ r. ⌜ r ≡ policyCode Traversal (walkBackEnd layout) ⌝ }
 {

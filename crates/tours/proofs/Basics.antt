@@ -3,7 +3,7 @@ use Prim.Native.Nat.{ℕ, suc, _≤_, _<_}
 use native.Mathlib.Omega.{arith}
 use mathlib.Core.Path.{_≡_, refl}
 use mathlib.Core.Logic.{_⊎_, inl, inr}
-use mathlib.Core.Bool.{Bool, true, false, _||_}
+use mathlib.Core.Bool.{Bool, true, false, cond, _||_}
 use lib.Dec.{ltb}
 use borrow.Author.Tests.{ltb-true, ltb-false}
 
@@ -40,3 +40,8 @@ false-not-true e = let c : _≡_ {A = ℕ} 0 1 = cc in omega arith
 pub or-true : (b : Bool) → b || true ≡ true
 or-true true = refl
 or-true false = refl
+
+-- what holds of both outcomes of a test holds of the one that it has
+pub either-outcome : {A : Type 0} (P : A → Type 0) (b : Bool) (s t : A) → P s → P t → P (cond b s t)
+either-outcome P true s t f g = f
+either-outcome P false s t f g = g

@@ -107,7 +107,7 @@ between z some = let t = half-of z (z .cells) in go (t .0) (t .1) (split-at (t .
         let f : inFrontHalf z (z .cells) ≡ true = rw e at (t .front (omega arith)) in
         (Bottom (z .cells), record { whole = bottom-whole (z .cells) some; named = refl; step = rw f })
 
--- whether a round is open with n aisles still to be entered: with any, if an aisle is walked back at the right end, with an odd number, if at the left
+-- whether a round may be open with n aisles still to be entered: with any, if an aisle is walked back at the right end, with an odd number, if at the left
 abbrev stillOpen : ℕ → End → Bool
 stillOpen zero end = false
 stillOpen (suc n) leftmost = not (stillOpen n leftmost)
@@ -118,7 +118,7 @@ one-closes : (n : ℕ) (end : End) → stillOpen n end ≡ true → 1 ≤ n
 one-closes zero end e = absurd (true-not-false (sym e))
 one-closes (suc n) end e = omega arith
 
--- whether a round is open, by the policy: under those that walk aisles through; MIDPOINT and LARGEST walk back a single aisle, as at the right end
+-- whether a round may be open, by the policy: under those that walk aisles through; MIDPOINT and LARGEST walk back a single aisle, as at the right end
 abbrev Round : Policy → End → ℕ → Bool → Type 0
 Round Exact end n b = ⊥
 Round Return end n b = ⊥

@@ -16,8 +16,8 @@ use Rattle.tours.specs.Prefixes.{lawfulState, policyState}
 use Rattle.tours.proofs.Basics.{below, split-at, same-number, true-not-false}
 use Rattle.tours.proofs.Parity.{Live, oddness, passage-parity, live-before-passage}
 use Rattle.tours.proofs.Runs.{live-before-step, live-test}
-use Rattle.tours.proofs.Counting.{not-entered-void, void-not-entered, bottom-entered, once-entered, entered-inside, first-entered, last-entered, count-one, count-two}
-use Rattle.tours.proofs.Simulation.{Plain, Fitting, Tracks, Between, Ends, Over, over-cross, tracks-void, tracks-cross, between-cross, ends-run, midpoint-fits}
+use Rattle.tours.proofs.Counting.{void-not-entered, bottom-entered, once-entered, entered-inside, first-entered, last-entered, count-one, count-two}
+use Rattle.tours.proofs.Simulation.{Plain, Fitting, Tracks, Between, Ends, Over, over-cross, between-cross, NoneEntered, even-run, tracks-run, ends-run, midpoint-fits}
 
 -- the laws of a test for aisles between, by aisle and action: VOID passes it, ONCE and TWICE do not
 pub record BetweenLaws (between : ℕ → Action → Bool) : Type 0 where
@@ -28,10 +28,6 @@ pub record BetweenLaws (between : ℕ → Action → Bool) : Type 0 where
 -- the rule of MIDPOINT and LARGEST, with a test for aisles between
 abbrev pub TestRule : (ℕ → Action → Bool) → Plan → Type 0
 TestRule between plan = MidpointRule (λ j a. between j a ≡ true) plan
-
--- none of the first n aisles is entered
-abbrev NoneEntered : Plan → ℕ → Type 0
-NoneEntered plan n = (j : ℕ) → j ≤ n → Entered plan j → ⊥
 
 -- the first entered of the first n aisles is ONCE, those behind it pass the test
 record Opened (between : ℕ → Action → Bool) (plan : Plan) (n : ℕ) : Type 0 where
@@ -297,26 +293,7 @@ module _ {z : Layout} {plan : Plan} (wf : WellFormed z plan) {between : ℕ → 
       gone-passage i (z .depot) p (midpointStep (between (suc i)) a o) l
       (gone-action i a refl o behind (gone-run i (live-before-step Midpoint (walkBackEnd z) (between (suc i)) a o behind)))
 
-  -- before the first entered aisle EXACT's run is not in the state `odd`
-  even-run : (n : ℕ) → NoneEntered plan n → Live (lawfulState (z .depot) plan n) → oddness (lawfulState (z .depot) plan n) ≡ 0
-  even-run zero none l = refl
-  even-run (suc i) none l =
-      let p = passageAt plan (suc i) in
-      let x = lawfulState (z .depot) plan i in
-      let e = not-entered-void plan (suc i) (none (suc i) (omega arith)) in
-      let k = subst (λ (a : Action). Live (crossStep (z .depot) (suc i) p (lawfulStep a x))) e l in
-      rw e (passage-parity (z .depot) (suc i) p x k .1
-      ∙ even-run i (λ j h. none j (omega arith)) (live-before-passage (z .depot) (suc i) p x k))
-
   module _ (plain : (j : ℕ) → Plain (passageAt plan j)) where
-    -- before the first entered aisle the two runs are the same
-    tracks-run : (n : ℕ) → NoneEntered plan n → Tracks (policyState Midpoint between z plan n) (lawfulState (z .depot) plan n)
-    tracks-run zero none = refl
-    tracks-run (suc i) none =
-        tracks-cross (z .depot) (suc i) (passageAt plan (suc i)) (plain (suc i)) _ _
-        (rw (not-entered-void plan (suc i) (none (suc i) (omega arith)))
-        (tracks-void (policyState Midpoint between z plan i) (lawfulState (z .depot) plan i) (tracks-run i (λ j l. none j (omega arith)))))
-
     -- between the first and the last entered aisle both runs are in the state `odd`
     between-run : {m : ℕ} (d : Double between plan m) (n : ℕ) → d .first ≤ n → n < d .last
         → Between (policyState Midpoint between z plan n) (lawfulState (z .depot) plan n)
@@ -328,7 +305,8 @@ module _ {z : Layout} {plan : Plan} (wf : WellFormed z plan) {between : ℕ → 
           | inr p ↦
               let none : NoneEntered plan i = λ j k. d .before j (omega arith) in
               rw (subst (λ (j : ℕ). actionAt plan j ≡ Once) p (d .first-once))
-              (first-once (between (suc i)) (policyState Midpoint between z plan i) (lawfulState (z .depot) plan i) (tracks-run i none) (even-run i none))
+              (first-once (between (suc i)) (policyState Midpoint between z plan i) (lawfulState (z .depot) plan i)
+              (tracks-run Midpoint between z plan plain i none) (even-run (z .depot) plan i none))
         ])
 
     -- behind a single BOTTOM both runs go to their ends
@@ -343,7 +321,7 @@ module _ {z : Layout} {plan : Plan} (wf : WellFormed z plan) {between : ℕ → 
             ends-run Midpoint between z plan plain i m
             (rw (subst (λ (j : ℕ). actionAt plan j ≡ Bottom (s .bottom .0)) p (s .bottom .1))
             (first-bottom (between (suc i)) (s .bottom .0) (policyState Midpoint between z plan i) (lawfulState (z .depot) plan i)
-            (tracks-run i (λ j k. s .before j (omega arith)))))
+            (tracks-run Midpoint between z plan plain i (λ j k. s .before j (omega arith)))))
             (λ j h. s .behind j (omega arith)) m (omega arith) (omega arith)
 
     -- behind the last ONCE both runs go to their ends
@@ -462,7 +440,7 @@ module _ {z : Layout} {plan : Plan} (wf : WellFormed z plan) {between : ℕ → 
       gone-rule (subst (GoneThrough between plan (z .aisles)) c (gone-run (z .aisles) (subst Live (sym c) tt))),
     )),
     (λ h. elim (rule-gone (h .1)) [
-      | inl none ↦ subst (λ (x : State). Tracks (policyState Midpoint between z plan (z .aisles)) x) (h .0) (tracks-run plain (z .aisles) none)
+      | inl none ↦ subst (λ (x : State). Tracks (policyState Midpoint between z plan (z .aisles)) x) (h .0) (tracks-run Midpoint between z plan plain (z .aisles) none)
       | inr (inl s) ↦ subst (λ (x : State). Ends (policyState Midpoint between z plan (z .aisles)) x) (h .0) (single-ends plain s)
       | inr (inr d) ↦ subst (λ (x : State). Ends (policyState Midpoint between z plan (z .aisles)) x) (h .0) (double-ends plain d)
     ]),

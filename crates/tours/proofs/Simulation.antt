@@ -2,7 +2,7 @@
 -- LARGEST has MIDPOINT's table. The test for aisles between may be any.
 use Prim.Native.Nat.{ℕ, zero, suc, _≤_, _<_}
 use native.Mathlib.Omega.{arith}
-use mathlib.Core.Path.{_≡_, refl, subst}
+use mathlib.Core.Path.{_≡_, refl, _∙_, subst}
 use mathlib.Core.Logic.{_⊎_, inl, inr}
 use mathlib.Core.Bool.{Bool, true, false, cond}
 use lib.Dec.{ltb, leb, eqb}
@@ -17,7 +17,8 @@ use Rattle.rules.specs.Plans.{Plan, actionAt, passageAt}
 use Rattle.rules.specs.Policies.{passageNamed, Entered, End, leftmost, rightmost, walkBackEnd}
 use Rattle.rules.specs.Machine.{State, nothing, closed, atFront, atBack, odd, joined, split, ending, dead, lawfulStep, traversalStep, midpointStep, policyStep, crossStep}
 use Rattle.tours.specs.Prefixes.{lawfulState, policyState}
-use Rattle.tours.proofs.Basics.{below, false-not-true}
+use Rattle.tours.proofs.Basics.{below, false-not-true, either-outcome}
+use Rattle.tours.proofs.Parity.{Live, oddness, passage-parity, live-before-passage}
 use Rattle.tours.proofs.Counting.{not-entered-void}
 
 -- the state x of EXACT's run fits the state o of the policy's own run: the same, but `ending` stands for two others
@@ -78,22 +79,17 @@ fitting-midpoint between (Gap h i) =
 fitting-midpoint between Once = fitting-steps (midpointStep between Once) (lawfulStep Once) refl tt refl tt (inr refl) tt tt tt tt refl
 fitting-midpoint between Twice = λ o x e. tt
 
--- where one test decides on both sides, each outcome is to fit itself
-fitting-choice : (b : Bool) (s t : State) → Fitting s s → Fitting t t → Fitting (cond b s t) (cond b s t)
-fitting-choice true s t f g = f
-fitting-choice false s t f g = g
-
 -- over a passage the states go on to fit
 fitting-cross : (d j : ℕ) (p : Passage) (o x : State) → Fitting o x → Fitting (crossStep d j p o) (crossStep d j p x)
 fitting-cross d j P00 =
-    let reached = fitting-choice (leb d j) closed dead refl tt in
-    let passed = fitting-choice (ltb d j) closed dead refl tt in
+    let reached = either-outcome (λ (s : State). Fitting s s) (leb d j) closed dead refl tt in
+    let passed = either-outcome (λ (s : State). Fitting s s) (ltb d j) closed dead refl tt in
     fitting-steps (crossStep d j P00) (crossStep d j P00)
-    (fitting-choice (eqb j d) dead nothing tt refl) refl reached passed tt reached tt reached reached refl
+    (either-outcome (λ (s : State). Fitting s s) (eqb j d) dead nothing tt refl) refl reached passed tt reached tt reached reached refl
 fitting-cross d j P02 = fitting-steps (crossStep d j P02) (crossStep d j P02) refl tt refl tt tt refl tt (inl refl) (inl refl) refl
 fitting-cross d j P11 = fitting-steps (crossStep d j P11) (crossStep d j P11) tt tt tt tt refl tt tt tt tt refl
 fitting-cross d j P20 =
-    let there = fitting-choice (eqb j d) dead atBack tt refl in
+    let there = either-outcome (λ (s : State). Fitting s s) (eqb j d) dead atBack tt refl in
     fitting-steps (crossStep d j P20) (crossStep d j P20) there tt tt there tt refl tt tt tt refl
 fitting-cross d j P22 = fitting-steps (crossStep d j P22) (crossStep d j P22) refl tt refl refl tt refl refl tt tt refl
 
@@ -296,11 +292,6 @@ Past end split = ⊥
 Past end ending = Unit {0}
 Past end dead = Unit {0}
 
--- closed off, or dead
-past-when : (end : End) (b : Bool) → Past end (cond b closed dead)
-past-when end true = tt
-past-when end false = tt
-
 -- and stays so over a passage
 pub past-cross : (end : End) (d j : ℕ) (p : Passage) (s : State) → Past end s → Past end (crossStep d j p s)
 past-cross end d j p nothing e = absurd e
@@ -319,7 +310,7 @@ past-cross leftmost d j P22 odd e = tt
 past-cross rightmost d j p odd e = absurd e
 past-cross end d j p joined e = absurd e
 past-cross end d j p split e = absurd e
-past-cross end d j P00 ending e = past-when end (leb d j)
+past-cross end d j P00 ending e = either-outcome (Past end) (leb d j) closed dead tt tt
 past-cross end d j P02 ending e = tt
 past-cross end d j P11 ending e = tt
 past-cross end d j P20 ending e = tt
@@ -359,7 +350,30 @@ void-step Midpoint end between s = refl
 void-step Composite end between s = refl
 void-step Largest end between s = refl
 
+-- none of the first n aisles is entered
+abbrev pub NoneEntered : Plan → ℕ → Type 0
+NoneEntered plan n = (j : ℕ) → j ≤ n → Entered plan j → ⊥
+
+-- before the first entered aisle EXACT's run is not in the state `odd`
+pub even-run : (d : ℕ) (plan : Plan) (n : ℕ) → NoneEntered plan n → Live (lawfulState d plan n) → oddness (lawfulState d plan n) ≡ 0
+even-run d plan zero none l = refl
+even-run d plan (suc i) none l =
+    let p = passageAt plan (suc i) in
+    let x = lawfulState d plan i in
+    let e = not-entered-void plan (suc i) (none (suc i) (omega arith)) in
+    let k = subst (λ (a : Action). Live (crossStep d (suc i) p (lawfulStep a x))) e l in
+    rw e (passage-parity d (suc i) p x k .1
+    ∙ even-run d plan i (λ j h. none j (omega arith)) (live-before-passage d (suc i) p x k))
+
 module _ (policy : Policy) (between : ℕ → Action → Bool) (z : Layout) (plan : Plan) where
+  -- before the first entered aisle the two runs are the same
+  pub tracks-run : ((j : ℕ) → Plain (passageAt plan j)) → (n : ℕ) → NoneEntered plan n → Tracks (policyState policy between z plan n) (lawfulState (z .depot) plan n)
+  tracks-run plain zero none = refl
+  tracks-run plain (suc i) none =
+      tracks-cross (z .depot) (suc i) (passageAt plan (suc i)) (plain (suc i)) _ _
+      (rw (not-entered-void plan (suc i) (none (suc i) (omega arith)), void-step policy (walkBackEnd z) (between (suc i)) (policyState policy between z plan i))
+      (tracks-void (policyState policy between z plan i) (lawfulState (z .depot) plan i) (tracks-run plain i (λ j l. none j (omega arith)))))
+
   -- behind the action of aisle i + 1 both runs begin to end
   abbrev pub EndsBehind : ℕ → Type 0
   EndsBehind i =

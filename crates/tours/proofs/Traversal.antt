@@ -20,8 +20,8 @@ use Rattle.tours.proofs.Parity.{Live, oddness, passage-parity, live-bef
 use Rattle.tours.proofs.Runs.{live-before-step}
 use Rattle.tours.proofs.Counting.{bottom-entered, once-entered, entered?, not-entered-void, void-not-entered, count-rises, count-stays, count-all}
 use Rattle.tours.proofs.Counting.{entered-inside, first-entered, last-entered}
-use Rattle.tours.proofs.Simulation.{Plain, Fitting, Ends, EndsBehind, Past, past-cross, ends-run, traversal-fits}
-use Rattle.tours.proofs.WalkBackEnds.{Fresh, fresh-cross, left-bottom, tracks-bottom, AfterOnce, once-turns}
+use Rattle.tours.proofs.Simulation.{Plain, Fitting, Ends, EndsBehind, Past, past-cross, NoneEntered, even-run, tracks-run, ends-run, traversal-fits}
+use Rattle.tours.proofs.WalkBackEnds.{left-bottom, tracks-bottom, AfterOnce, once-turns}
 use Rattle.tours.proofs.WalkBackEnds.{Alike, AlikeBehind, alike-begin, alike-closed, alike-void, alike-once, alike-cross}
 
 -- the entered aisles of the first n are all ONCE
@@ -43,7 +43,7 @@ record OneBottom (end : End) (plan : Plan) (n : ℕ) : Type 0 where
 
 -- aisle n + 1, if entered, is at the end: of the first n + 1 the rightmost anyhow, and the leftmost if none of the first n is entered
 abbrev Free : End → Plan → ℕ → Type 0
-Free leftmost plan n = (j : ℕ) → j ≤ n → Entered plan j → ⊥
+Free leftmost plan n = NoneEntered plan n
 Free rightmost plan n = Unit {0}
 
 -- what TRAVERSAL's run has gone through when it is in a state: ONCE only, or a BOTTOM too
@@ -240,19 +240,12 @@ module _ {z : Layout} {plan : Plan} (wf : WellFormed z plan) (between : ℕ → 
     once-run : (n : ℕ) → AllOnce plan n → Alike (walkBackEnd z) (own n) (exact n)
     once-run n all = alike-run n (λ i l. once-kept i (all (suc i) l))
 
-    -- before the first entered aisle the policy's run is in a state in which none has been entered
-    fresh-run : (n : ℕ) → Free leftmost plan n → Fresh (own n)
-    fresh-run zero none = tt
-    fresh-run (suc i) none =
-        fresh-cross (z .depot) (suc i) (passageAt plan (suc i)) (plain (suc i)) _
-        (rw (not-entered-void plan (suc i) (none (suc i) (omega arith))) (fresh-run i (λ j l. none j (omega arith))))
-
     -- at the left end BOTTOM in the first entered aisle keeps the runs alike
     first-kept : walkBackEnd z ≡ leftmost → (i : ℕ) → IsBottom (actionAt plan (suc i)) → Free leftmost plan i → Kept i
     unfolding IsBottom
-    first-kept left i (k, e) none =
-        rw e (subst (λ (end : End). Alike end (own i) (exact i) → AlikeBehind end (traversalStep end (Bottom k) (own i)) (lawfulStep (Bottom k) (exact i)))
-        (sym left) (left-bottom k (own i) (exact i) (fresh-run i none)))
+    first-kept left i (k, e) none s =
+        rw e (subst (λ (end : End). AlikeBehind end (traversalStep end (Bottom k) (own i)) (lawfulStep (Bottom k) (exact i)))
+        (sym left) (left-bottom k (own i) (exact i) (tracks-run Traversal between z plan plain i none) (even-run (z .depot) plan i none)))
 
     -- so that they are alike up to the last aisle
     left-run : walkBackEnd z ≡ leftmost → (n : ℕ) → OneBottom leftmost plan n → Alike (walkBackEnd z) (own n) (exact n)

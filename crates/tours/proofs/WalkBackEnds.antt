@@ -1,22 +1,22 @@
 -- TRAVERSAL's table beside the table of EXACT, by the end at which it walks an aisle back: how the states of the two runs of a plan
 -- belong together.
 use Prim.Native.Nat.{ℕ, _+_}
+use native.Mathlib.Omega.{arith}
 use mathlib.Core.Path.{_≡_, refl, subst}
 use mathlib.Core.Logic.{_⊎_, inl, inr}
-use mathlib.Core.Bool.{Bool, true, false, cond}
 use lib.Dec.{leb, eqb}
 use Rattle.rules.specs.declared.Action.the-variants.{Bottom, Once}
 use Rattle.rules.specs.declared.Passage.{Passage}
 use Rattle.rules.specs.declared.Passage.the-variants.{P00, P02, P11, P20, P22}
 use Rattle.rules.specs.Policies.{End, leftmost, rightmost}
 use Rattle.rules.specs.Machine.{State, nothing, closed, atFront, atBack, odd, joined, split, ending, dead, lawfulStep, traversalOnce, traversalStep, crossStep}
-use Rattle.tours.proofs.Basics.{false-not-true}
+use Rattle.tours.proofs.Basics.{false-not-true, either-outcome}
 use Rattle.tours.proofs.Parity.{Live, oddness}
 use Rattle.tours.proofs.Simulation.{Plain, Tracks, TracksBehind, Ends, Past, tracks-void, tracks-cross}
 
 -- at the left end: the policy's run is in the same state as EXACT's, but `ending` stands for `joined` and may stand for `atFront`;
 -- x is one of those that BOTTOM, ONCE and the passages 00, 02 and 11 lead to
-abbrev pub TracksLeft : State → State → Type 0
+abbrev TracksLeft : State → State → Type 0
 TracksLeft o nothing = o ≡ nothing
 TracksLeft o closed = o ≡ closed
 TracksLeft o atFront = (o ≡ atFront) ⊎ (o ≡ ending)
@@ -43,16 +43,11 @@ left-steps own exact n c f e t j d o split s = absurd s
 left-steps own exact n c f e t j d o ending s = absurd s
 left-steps own exact n c f e t j d o dead s = rw d tt
 
--- where one test decides on both sides, each outcome is to keep it
-left-choice : (b : Bool) (s t : State) → TracksLeft s s → TracksLeft t t → TracksLeft (cond b s t) (cond b s t)
-left-choice true s t f g = f
-left-choice false s t f g = g
-
 -- the passages keep it
 left-cross : (d j : ℕ) (p : Passage) → Plain p → (o x : State) → TracksLeft o x → TracksLeft (crossStep d j p o) (crossStep d j p x)
 left-cross d j P00 n =
-    let reached = left-choice (leb d j) closed dead refl tt in
-    left-steps (crossStep d j P00) (crossStep d j P00) (left-choice (eqb j d) dead nothing tt refl) refl reached reached tt reached refl
+    let reached = either-outcome (λ (s : State). TracksLeft s s) (leb d j) closed dead refl tt in
+    left-steps (crossStep d j P00) (crossStep d j P00) (either-outcome (λ (s : State). TracksLeft s s) (eqb j d) dead nothing tt refl) refl reached reached tt reached refl
 left-cross d j P02 n = left-steps (crossStep d j P02) (crossStep d j P02) (inl refl) tt (inl refl) (inr refl) tt (inr refl) refl
 left-cross d j P11 n = left-steps (crossStep d j P11) (crossStep d j P11) tt tt tt tt refl tt refl
 left-cross d j P20 n = λ o x s. absurd (false-not-true n)
@@ -62,56 +57,17 @@ left-cross d j P22 n = λ o x s. absurd (false-not-true n)
 left-once : (o x : State) → TracksLeft o x → TracksLeft (traversalStep leftmost Once o) (lawfulStep Once x)
 left-once = left-steps (traversalStep leftmost Once) (lawfulStep Once) refl tt refl refl refl refl refl
 
--- a state of the policy's run in which no aisle has been entered yet, after passages 00, 02 and 11
-abbrev pub Fresh : State → Type 0
-Fresh nothing = Unit {0}
-Fresh closed = Unit {0}
-Fresh atFront = Unit {0}
-Fresh atBack = ⊥
-Fresh odd = ⊥
-Fresh joined = ⊥
-Fresh split = ⊥
-Fresh ending = ⊥
-Fresh dead = Unit {0}
-
--- a step keeps this if it does state by state
-fresh-steps : (step : State → State) → Fresh (step nothing) → Fresh (step closed) → Fresh (step atFront) → Fresh (step dead)
-    → (o : State) → Fresh o → Fresh (step o)
-fresh-steps step n c f d nothing s = n
-fresh-steps step n c f d closed s = c
-fresh-steps step n c f d atFront s = f
-fresh-steps step n c f d atBack s = absurd s
-fresh-steps step n c f d odd s = absurd s
-fresh-steps step n c f d joined s = absurd s
-fresh-steps step n c f d split s = absurd s
-fresh-steps step n c f d ending s = absurd s
-fresh-steps step n c f d dead s = d
-
--- where a test decides, each outcome is to keep it
-fresh-choice : (b : Bool) (s t : State) → Fresh s → Fresh t → Fresh (cond b s t)
-fresh-choice true s t f g = f
-fresh-choice false s t f g = g
-
--- the passages keep it
-pub fresh-cross : (d j : ℕ) (p : Passage) → Plain p → (o : State) → Fresh o → Fresh (crossStep d j p o)
-fresh-cross d j P00 n = fresh-steps (crossStep d j P00) (fresh-choice (eqb j d) dead nothing tt tt) tt (fresh-choice (leb d j) closed dead tt tt) tt
-fresh-cross d j P02 n = fresh-steps (crossStep d j P02) tt tt tt tt
-fresh-cross d j P11 n = fresh-steps (crossStep d j P11) tt tt tt tt
-fresh-cross d j P20 n = λ o s. absurd (false-not-true n)
-fresh-cross d j P22 n = λ o s. absurd (false-not-true n)
-
--- BOTTOM keeps the two runs together at the left end where no aisle has been entered before
-pub left-bottom : (k : ℕ) (o x : State) → Fresh o → TracksLeft o x → TracksLeft (traversalStep leftmost (Bottom k) o) (lawfulStep (Bottom k) x)
-left-bottom k o nothing f s = rw s (inr refl)
-left-bottom k o closed f s = tt
-left-bottom k o atFront f (inl s) = rw s (inr refl)
-left-bottom k o atFront f (inr s) = absurd (subst Fresh s f)
-left-bottom k o atBack f s = absurd s
-left-bottom k o odd f s = absurd (subst Fresh s f)
-left-bottom k o joined f s = absurd (subst Fresh s f)
-left-bottom k o split f s = absurd s
-left-bottom k o ending f s = absurd s
-left-bottom k o dead f s = tt
+-- BOTTOM keeps the two runs together at the left end where they are the same and not in the state `odd`, as before the first entered aisle
+pub left-bottom : (k : ℕ) (o x : State) → Tracks o x → (Live x → oddness x ≡ 0) → TracksLeft (traversalStep leftmost (Bottom k) o) (lawfulStep (Bottom k) x)
+left-bottom k o nothing e even = rw e (inr refl)
+left-bottom k o closed e even = tt
+left-bottom k o atFront e even = rw e (inr refl)
+left-bottom k o atBack e even = absurd e
+left-bottom k o odd e even = absurd (let h = even tt in omega arith)
+left-bottom k o joined e even = absurd e
+left-bottom k o split e even = absurd e
+left-bottom k o ending e even = absurd e
+left-bottom k o dead e even = tt
 
 -- at the right end ONCE keeps the two runs the same
 tracks-once : (o x : State) → Tracks o x → TracksBehind (traversalStep rightmost Once o) (lawfulStep Once x)
@@ -125,7 +81,7 @@ tracks-once o split e = absurd e
 tracks-once o ending e = absurd e
 tracks-once o dead e = tt
 
--- and at BOTTOM the policy's run begins to end
+-- and at BOTTOM, whose row is the same at both ends, the policy's run begins to end
 pub tracks-bottom : (end : End) (k : ℕ) (o x : State) → Tracks o x → Ends (traversalStep end (Bottom k) o) (lawfulStep (Bottom k) x)
 tracks-bottom end k o nothing e = rw e
 tracks-bottom end k o closed e = tt

@@ -4,7 +4,7 @@ use Prim.Native.Nat.{ℕ, _-_, _≤_, _<_}
 use mathlib.Core.Path.{_≡_, refl, _∙_}
 use lib.ListN.{length, getD, length-set}
 use Rattle.demand.proofs.Filling.{filled-one}
-use Rattle.machine.specs.Steps.{policyOf, walkBackEndOf, sampleAction, bit, stepOf}
+use Rattle.machine.specs.Steps.{sampleAction, bit, stepBy}
 use Rattle.machine.specs.States.{stateCode, stateOf}
 use Rattle.aisles.specs.Layers.{stepWith}
 use Rattle.aisles.proofs.layers.steps_of.Statement.{statement}
@@ -12,7 +12,7 @@ use Rattle.aisles.proofs.layers.steps_of.Tie as tie
 
 abbrev Inv-loop : tie.InvT-loop
 Inv-loop kind between policy may out₀ s₀ out s = (s ≤ 8) × (length out ≡ 8) ×
-    ((k : ℕ) → k < s → getD out k 0 ≡ stateCode (stepOf (policyOf policy) (walkBackEndOf policy) (sampleAction kind) (bit may) (bit between) (stateOf k)))
+    ((k : ℕ) → k < s → getD out k 0 ≡ stateCode (stepBy policy (sampleAction kind) (bit may) (bit between) (stateOf k)))
 
 abbrev μ-loop : tie.MeasureT-loop
 μ-loop kind between policy may out₀ s₀ out s = 8 - s
@@ -42,7 +42,7 @@ loop-again c =
     let step = c .action-step in (
       omega arith,
       length-set (o .out) (o .s) (step .result) ∙ o .inv .1,
-      filled-one (λ k. stateCode (stepOf (policyOf (p .x .policy)) (walkBackEndOf (p .x .policy)) (sampleAction (p .kind)) (bit (p .x .may)) (bit (p .between)) (stateOf k)))
+      filled-one (λ k. stateCode (stepBy (p .x .policy) (sampleAction (p .kind)) (bit (p .x .may)) (bit (p .between)) (stateOf k)))
           (o .out) (o .s) (step .result) (omega (arith, o .inv .1)) (o .inv .2) (step .ensures),
     )
 

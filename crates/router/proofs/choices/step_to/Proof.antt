@@ -7,7 +7,7 @@ use mathlib.Core.Bool.{Bool}
 use lib.ListN.{getD}
 use denote.Ref.{now}
 use Rattle.machine.specs.States.{stateCode, stateOf}
-use Rattle.machine.specs.Steps.{policyOf, walkBackEndOf, sampleAction, bit, stepOf}
+use Rattle.machine.specs.Steps.{sampleAction, bit, stepBy}
 use Rattle.aisles.specs.Layers.{stepCode, leftCode}
 use Rattle.aisles.proofs.Geometry.{within}
 use Rattle.router.specs.declared.choices.At.{At}
@@ -71,7 +71,7 @@ returns c =
     let x = c .before .before .before .before .before .before .before .before .args in
     let made : ℕ → ℕ → At = λ s q. record { state = s; demand = q } in
     let after : Bool → ℕ =
-    λ b. stateCode (stepOf (policyOf (x .x .policy)) (walkBackEndOf (x .x .policy)) (sampleAction (x .c .kind)) (bit (x .x .may)) b (stateOf (x .at .state))) in
+    λ b. stateCode (stepBy (x .x .policy) (sampleAction (x .c .kind)) (bit (x .x .may)) b (stateOf (x .at .state))) in
     let step = c .before .before .before .before .action-step .ensures in
     let between = c .before .before .before .before .before .passes-between .ensures .0 in
     ap₂ made (step ∙ ap after between)

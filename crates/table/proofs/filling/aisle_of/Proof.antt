@@ -1,18 +1,14 @@
 -- `table::filling::aisle_of` meets its contract: each number is that of the job, whichever job the order is of.
 use borrow.Author.Needs.{needs}
-use Prim.Native.Nat.{_<_}
 use mathlib.Core.Path.{_≡_, sym, _∙_, ap, ap₂, subst}
 use mathlib.Core.Bool.{true}
 use Rattle.rules.specs.declared.Layout.{Layout}
 use Rattle.rules.specs.Store.{layoutInBounds}
-use Rattle.rules.specs.Policies.{walkBackEnd}
-use Rattle.machine.specs.Steps.{policyOf}
 use Rattle.machine.specs.Tables.{asksGap}
-use Rattle.machine.proofs.StepLaws.{policy-of-code, policy-code-below}
 use Rattle.between.specs.Stops.{betweenBy}
 use Rattle.between.proofs.Laws.{between-by}
 use Rattle.aisles.proofs.Geometry.{within}
-use Rattle.table.proofs.TableFills.{order-small, aisle-is}
+use Rattle.table.proofs.TableFills.{order-policy, order-small, aisle-is}
 use Rattle.table.proofs.filling.aisle_of.Statement.{statement}
 use Rattle.table.proofs.filling.aisle_of.Tie as tie
 
@@ -33,8 +29,8 @@ listed-cells-requires c κs =
 
 asks-gap-requires : tie.Need-asks-gap-requires
 asks-gap-requires c κs =
-    let r = c .before .before .before .before .before .pre in
-    subst (λ n. n < 7) (sym (r .0 .1 .policy)) (policy-code-below (r .0 .0 .policy) (walkBackEnd (r .0 .0 .layout)))
+    let start = c .before .before .before .before .before in
+    order-policy (start .pre .0 .0) (start .args .o) (start .pre .0 .1) .1
 
 between-of-requires : tie.Need-between-of-requires
 between-of-requires c κs =
@@ -53,8 +49,7 @@ returns c = λ job of.
     let may = at-may .may-enter in
     let cells = ap (λ (z : Layout). z .cells) (of .layout) in
     let flags = at-listed .listed-cells .ensures job (of .admitted) (of .shelf) cells in
-    let named = ap policyOf (of .policy) ∙ policy-of-code (job .policy) (walkBackEnd (job .layout)) in
-    let gap = at-gap .asks-gap .ensures ∙ ap asksGap named in
+    let gap = at-gap .asks-gap .ensures ∙ ap asksGap (order-policy job (p .o) of .0) in
     let gaps = asksGap (job .policy) in
     let few = within (job .layout) (of .admitted .layout) .cells .1 in
     let between = c .between-of .ensures

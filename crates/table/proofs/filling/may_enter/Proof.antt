@@ -3,15 +3,13 @@
 -- else is asked there; that it is open behind the test is shown at the two other answers.
 use native.Mathlib.Omega.{arith}
 use borrow.Author.Needs.{needs}
-use Prim.Native.Nat.{_-_, _≤_, _<_}
-use mathlib.Core.Path.{_≡_, refl, sym, _∙_, ap, subst}
+use Prim.Native.Nat.{_-_, _≤_}
+use mathlib.Core.Path.{_≡_, refl, sym, _∙_, ap}
 use mathlib.Core.Bool.{Bool, true, false}
 use lib.ListN.{getD}
 use borrow.Author.Tests.{not-false}
 use Rattle.rules.specs.declared.Layout.{Layout}
-use Rattle.rules.specs.Policies.{walkBackEnd}
-use Rattle.machine.proofs.StepLaws.{policy-code-below}
-use Rattle.table.proofs.TableFills.{order-aisles, order-small, enter-shut, enter-open}
+use Rattle.table.proofs.TableFills.{order-aisles, order-policy, order-small, enter-shut, enter-open}
 use Rattle.table.proofs.filling.may_enter.Statement.{statement}
 use Rattle.table.proofs.filling.may_enter.Tie as tie
 
@@ -40,8 +38,8 @@ returns c =
 
 enters-any-requires : tie.Need-enters-any-requires
 enters-any-requires c κs =
-    let r = c .before .before .before .pre in
-    subst (λ n. n < 7) (sym (r .0 .1 .policy)) (policy-code-below (r .0 .0 .policy) (walkBackEnd (r .0 .0 .layout)))
+    let start = c .before .before .before in
+    order-policy (start .pre .0 .0) (start .args .o) (start .pre .0 .1) .1
 
 returns-2 : tie.Need-returns-2
 returns-2 c =

@@ -1,8 +1,5 @@
 -- `table::filling::policy_number` meets its contract: each policy has the number of its arm, TRAVERSAL that of its end.
 use borrow.Author.Needs.{needs}
-use mathlib.Core.Path.{sym, _∙_, ap}
-use Rattle.rules.specs.Policies.{walkBackEnd}
-use Rattle.machine.specs.Steps.{policyCode}
 use Rattle.table.proofs.filling.policy_number.Statement.{statement}
 use Rattle.table.proofs.filling.policy_number.Tie as tie
 
@@ -34,9 +31,7 @@ returns-2 : tie.Need-returns-2
 returns-2 c = search needs
 
 returns-3 : tie.Need-returns-3
-returns-3 c =
-    let z = c .before .before .before .args .layout in
-    c .traversal-number .ensures ∙ ap (λ p. policyCode p (walkBackEnd z)) (sym (c .before .enum-told3 .given .1))
+returns-3 c = rw (c .before .enum-told3 .given .1) (c .traversal-number .ensures)
 
 returns-4 : tie.Need-returns-4
 returns-4 c = search needs
