@@ -22,9 +22,9 @@ extern "C" {
 #define DIZHONDU_REFUSED 65536
 
 /* A call fits a thread with this much stack. Measured on x86-64 over all jobs of tests/vectors and tests/cases, by what a call
-   changed of a filled stack below its caller's frame: 212,304 bytes by plan_sheet and 248,832 by plan_page at most. The
+   changed of a filled stack below its caller's frame: 335,376 bytes by plan_sheet and 371,904 by plan_page at most. The
    tests make each of their calls in a thread with just this much. */
-#define DIZHONDU_STACK 262144
+#define DIZHONDU_STACK 393216
 
 /* Plans the tour of the job in job[0 .. job_length) and writes its sheet to the front of sheet[0 .. sheet_space).
 
@@ -34,8 +34,9 @@ extern "C" {
    sections S and D `M 1` with the minute of the day (0 to 1439), then `H n` (0 to 64) with lines aisle, from, to (from below to, to at
    most 1440). An aisle with lines is open when from <= minute < to for one of them; a shut aisle is not entered, and its stock counts
    for nothing. The policy word is EXACT, RETURN, TRAVERSAL, MIDPOINT, COMPOSITE or LARGEST. Of an odd number of entered aisles
-   TRAVERSAL walks one back: the leftmost where the depot lies right of the middle (2 * d > m + 1), otherwise the rightmost. No tour is
-   longer than 57,280.
+   TRAVERSAL walks one back: the leftmost where the depot lies right of the middle (2 * d > m + 1), otherwise the rightmost. Where
+   several tours are the shortest, one that enters the fewest aisles is taken, and of these the first in the published order of plans. No
+   tour is longer than 57,280.
    For a refused job it returns DIZHONDU_REFUSED plus the refusal's number, and every byte of the sheet is left as
    it was. The first cause of this list that applies gives the number:
 

@@ -238,6 +238,28 @@ def at_doors(jobs):
             yield b"\n".join([head, b" ".join([aisles, *numbers, b"%d" % depot, policy]), rest])
 
 
+def equals(policy, aisles, cells, listed, others=0):
+    """A job in a store where many tours are equally long: f, b and w are one p or two, and one or two articles lie all over it."""
+    aisles, cells, listed, pitch = between(*aisles), between(*cells), between(*listed), between(1, 30)
+    front, back, width = (pitch * between(1, 2) for _ in range(3))
+    places = shuffled((j, i) for j in range(1, aisles + 1) for i in range(1, cells + 1))
+    articles = one_of([1, 1, 2])
+    stock = [(*place, 1 + k % articles, between(1, 3)) for k, place in enumerate(places[:listed])]
+    held = [sum(pieces for _, _, article, pieces in stock if article == 1 + k) for k in range(articles)]
+    part = one_of([1, 2])
+    orders = [(1 + k, between(1, min(15, held[k] // part))) for k in range(articles)]
+    stock += [(*place, between(30, 65535), between(1, 255)) for place in places[listed:][:others]]
+    return text([(aisles, cells, front, pitch, back, width, between(1, aisles), policy)], shuffled(stock), orders)
+
+
+def drawn(seeds, make):
+    """The jobs made from rows of seeds; in a row the policies take turns."""
+    for row in seeds:
+        for policy, seed in zip(SIX, row, strict=True):
+            chance.seed(seed)
+            yield make(policy)
+
+
 JOBS = [
     *some(30, (1, 4), (1, 5), 12, (0, 3)),
     *some(20, (3, 9), (3, 12), 14, (0, 12)),
@@ -287,6 +309,47 @@ JOBS += at_doors([
     *some(2, (10, 16), (12, 24), 16, (0, 20), ["TRAVERSAL"]),
     *pieces([9, 11, 13, 15]),
 ])
+
+# fewer aisles between equals (request #108): the seeds are chosen so that in nearly all jobs the first of the shortest plans in document
+# 01's order enters more aisles than another one
+JOBS += [
+    *drawn(
+        [
+            [391, 58, 23, 3903, 105, 389],
+            [18, 182, 368, 1459, 26, 1169],
+            [446, 646, 507, 3551, 186, 2256],
+            [556, 226, 596, 1586, 137, 1636],
+            [548, 727, 1080, 4042, 631, 3729],
+        ],
+        lambda policy: equals(policy, (2, 4), (2, 5), (5, 10)),
+    ),
+    *drawn(
+        [
+            [165, 1143, 1424, 26, 560, 741],
+            [16, 80, 52, 204, 55, 200],
+            [323, 531, 398, 567, 1284, 982],
+            [526, 151, 78, 304, 68, 240],
+        ],
+        lambda policy: equals(policy, (5, 8), (4, 10), (8, 14)),
+    ),
+    *drawn(
+        [[1255, 2936, 720, 1001, 2457, 560], [321, 178, 214, 271, 460, 222], [1688, 1667, 939, 740, 738, 236]],
+        lambda policy: posted(equals(policy, (3, 6), (3, 8), (6, 12)), between(1, 2), between(1, 10)),
+    ),
+    *drawn(
+        [[751, 446, 78, 714, 1101, 471], [105, 48, 130, 297, 257, 256]],
+        lambda policy: next(with_hours([equals(policy, (2, 5), (2, 6), (5, 10))], (1, 2))),
+    ),
+    *drawn(
+        [[435, 446, 1223, 153, 714, 105]],
+        lambda policy: next(with_hours([equals(policy, (2, 5), (2, 6), (5, 10))], (1, 2), depot_among_them=True)),
+    ),
+    *at_doors(drawn([[104, 394, 757, 262, 233, 128]], lambda policy: equals(policy, (4, 6), (3, 6), (6, 12)))),
+    *drawn(
+        [[34, 1121, 133, 658, 1094, 397], [38, 110, 29, 256, 59, 101], [386, 141, 268, 1030, 927, 212]],
+        lambda policy: equals(policy, (16, 16), (24, 24), (8, 14), 384),
+    ),
+]
 
 if __name__ == "__main__":
     print(b"".join(JOBS).decode(), end="")

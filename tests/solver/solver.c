@@ -1,6 +1,7 @@
-/* Tour lengths by two searches that share nothing with the router's table: see README.md.
+/* Tour lengths, and the aisles entered, by two searches that share nothing with the router's table: see README.md.
    Standard input: jobs one after another, each without a reason to refuse it.
-   Standard output: for each job its T line, or '- POLICY' where the search would take too long. */
+   Standard output: for each job its T line and the number of aisles that its plan enters, or '- POLICY' where the search would take
+   too long. */
 #include <stdio.h>
 #include <stdlib.h>
 #include <string.h>
@@ -25,6 +26,17 @@ static int position(int height) {
 }
 
 static int is(const char *word) { return strcmp(policy, word) == 0; }
+
+/* The best walk or plan found: its length, and how many aisles it enters. */
+static int shortest, fewest;
+
+/* So long and with so many aisles entered, it comes before the best found (request #108). */
+static int better(int length, int entered) { return length < shortest || (length == shortest && entered < fewest); }
+
+static void keep(int length, int entered) {
+    shortest = length;
+    fewest = entered;
+}
 
 static void fail(const char *why) {
     fprintf(stderr, "solver: %s\n", why);
@@ -107,12 +119,23 @@ static int served(const char *marked) {
     return 1;
 }
 
+/* The aisles of the cells that are marked. A shortest walk through these cells enters no other: a path from a cell or the depot to a
+   cell that goes through a whole aisle from crossing to crossing is longer than the one that stays on the cross-aisle it comes to
+   first and goes into the cell's own aisle from there. */
+static int aisles_of(const char *marked) {
+    int count = 0, seen[AISLES + 1] = {0};
+    for (int x = 0; x < cells; x++)
+        if (marked[x] && !seen[listed[x].aisle]++) count++;
+    return count;
+}
+
 /* Of the walks that pass no listed cell the shortest has no steps; it serves an empty list. */
-static int shortest_walk(void) {
+static void search_walks(void) {
     static int reach[1 << MOST_CELLS][MOST_CELLS];   /* from the depot through the set, ending at its cell */
     static int between[MOST_CELLS][AISLES * (CELLS + 2)];
     char none[MOST_CELLS] = {0};
-    int at[MOST_CELLS], best = served(none) ? 0 : FAR;
+    int at[MOST_CELLS];
+    if (served(none)) keep(0, 0);
     for (int x = 0; x < cells; x++) {
         at[x] = point(listed[x].aisle, listed[x].height);
         shortest_paths(at[x], between[x]);
@@ -120,7 +143,7 @@ static int shortest_walk(void) {
     for (int set = 1; set < 1 << cells; set++) {
         char marked[MOST_CELLS];
         for (int x = 0; x < cells; x++) marked[x] = set >> x & 1;
-        int enough = served(marked);
+        int enough = served(marked), aisles = aisles_of(marked);
         for (int x = 0; x < cells; x++) {
             int rest = set & ~(1 << x);
             reach[set][x] = FAR;
@@ -130,10 +153,9 @@ static int shortest_walk(void) {
                 if (rest >> y & 1 && reach[rest][y] + between[y][at[x]] < reach[set][x])
                     reach[set][x] = reach[rest][y] + between[y][at[x]];
             int length = reach[set][x] + between[x][point(d, 0)];
-            if (enough && length < best) best = length;
+            if (enough && better(length, aisles)) keep(length, aisles);
         }
     }
-    return best;
 }
 
 /* The search over plans: every choice of actions and passages, aisle by aisle, by the words of document 01. */
@@ -141,10 +163,16 @@ static int shortest_walk(void) {
 enum kind { VOID = 1, BOTTOM = 2, TOP = 4, GAP = 8, ONCE = 16, TWICE = 32 };
 static struct { enum kind kind; int low, high; } plan[AISLES + 1]; /* BOTTOM low, TOP high, GAP low high */
 static int back[AISLES + 1], front[AISLES + 1];                    /* treads between the aisles j and j + 1 */
-static int shortest;
 static long steps;
 
 static int has(int j, int kinds) { return (plan[j].kind & kinds) != 0; }
+
+/* How many of the first aisles are entered. */
+static int entered(int aisles) {
+    int count = 0;
+    for (int j = 1; j <= aisles; j++) count += !has(j, VOID);
+    return count;
+}
 
 static int passed(int j, int i) {
     return has(j, ONCE | TWICE) || (has(j, BOTTOM | GAP) && i <= plan[j].low)
@@ -248,20 +276,20 @@ static int door_on_the_right(void) { return d - 1 > m - d; }
 
 /* What the policy asks of all the actions together. */
 static int allowed(void) {
-    int entered = 0, first = 0, last = 0;
+    int count = entered(m), first = 0, last = 0;
     for (int j = 1; j <= m; j++)
         if (!has(j, VOID)) {
             if (!holds(j) && !is("EXACT")) return 0;
-            if (!entered++) first = j;
+            if (!first) first = j;
             last = j;
         }
     /* under TRAVERSAL, where their number is odd, one is not walked through */
-    int walked_back = entered % 2 == 0 ? 0 : door_on_the_right() ? first : last;
+    int walked_back = count % 2 == 0 ? 0 : door_on_the_right() ? first : last;
     for (int j = 1; j <= m; j++) {
         if (has(j, VOID)) continue;
         if (is("TRAVERSAL") && !has(j, j == walked_back ? BOTTOM : ONCE)) return 0;
         if (is("MIDPOINT") || is("LARGEST")) {
-            if (entered == 1 ? !has(j, BOTTOM) : (j == first || j == last) != has(j, ONCE)) return 0;
+            if (count == 1 ? !has(j, BOTTOM) : (j == first || j == last) != has(j, ONCE)) return 0;
             if (j == first || j == last) continue;
             if (is("LARGEST")) {
                 if (!largest_gap(j)) return 0;
@@ -297,9 +325,9 @@ static void choose_action(int j, int length);
 
 static void choose_passage(int j, int length) {
     static const int digits[] = {0, 2, 11, 20, 22};
-    if (++steps > MOST_STEPS || length >= shortest || !can_serve(j)) return;
+    if (++steps > MOST_STEPS || !better(length, entered(j)) || !can_serve(j)) return;
     if (j == m) {
-        if (!hopeless(m) && allowed()) shortest = length;
+        if (!hopeless(m) && allowed()) keep(length, entered(m));
         return;
     }
     for (int k = 0; k < 5; k++) {
@@ -334,17 +362,18 @@ static void choose_action(int j, int length) {
     take(j, length, TWICE, 0, 0);
 }
 
-static int shortest_plan(void) {
-    shortest = FAR;
+static void search_plans(void) {
     steps = 0;
     choose_action(1, 0);
-    return steps > MOST_STEPS ? FAR : shortest;
+    if (steps > MOST_STEPS) keep(FAR, 0);
 }
 
 int main(void) {
     while (read_job()) {
-        int length = is("EXACT") && cells <= MOST_CELLS ? shortest_walk() : shortest_plan();
-        if (length < FAR) printf("%d %s\n", length, policy);
+        keep(FAR, 0);
+        if (is("EXACT") && cells <= MOST_CELLS) search_walks();
+        else search_plans();
+        if (shortest < FAR) printf("%d %s %d\n", shortest, policy, fewest);
         else printf("- %s\n", policy);
     }
     return 0;

@@ -1,4 +1,4 @@
--- The ways over the actions of an aisle.
+-- The ways over the actions of an aisle. `after` is the keys of the rows behind them, by state and demand.
 use Prim.Native.Nat.{ℕ, zero, suc, _≤_, _<_}
 use native.Mathlib.Omega.{arith}
 use mathlib.Core.Path.{_≡_, refl, sym, _∙_, ap}
@@ -6,7 +6,6 @@ use mathlib.Core.Logic.{_⊎_, inl, inr}
 use mathlib.Core.List.{List, [], _∷_, List·Memᴰ, List·Memᴰ·head, List·Memᴰ·tail}
 use mathlib.Core.Bool.{Bool, true, false}
 use lib.ListN.{length, getD}
-use borrow.Author.Tests.{le-ltb}
 use Rattle.rules.specs.declared.Action.{Action}
 use Rattle.rules.specs.declared.Action.the-variants.{Void, Bottom, Top, Gap, Once, Twice}
 use Rattle.rules.specs.Plans.{Fits}
@@ -14,14 +13,13 @@ use Rattle.rules.specs.BestPlan.{actionsOf}
 use Rattle.rules.specs.Machine.{State, dead}
 use Rattle.rules.proofs.Enumeration.{actions-sound}
 use Rattle.optimum.specs.Least.{sumUpTo}
-use Rattle.optimum.specs.Routing.{sat}
+use Rattle.optimum.specs.Routing.{noKey}
 use Rattle.aisles.specs.declared.candidates.Candidate.{Candidate}
 use Rattle.aisles.specs.declared.layers.Aisle.{Aisle}
-use Rattle.aisles.specs.Candidates.{candidateOf, candidateLength, candidateBetween}
+use Rattle.aisles.specs.Candidates.{candidateOf, candidateBetween}
 use Rattle.machine.specs.States.{stateCode, stateOf}
 use Rattle.machine.specs.Steps.{policyOf, walkBackEndOf, sampleAction, bit, stepBy}
-use Rattle.rows.specs.Rows.{nextAt}
-use Rattle.aisles.specs.Layers.{asksBetween, stepWith, stepCode, leftCode, throughCandidate, throughAction, wayWith}
+use Rattle.aisles.specs.Layers.{asksBetween, stepWith, stepCode, leftCode, candidateKey, throughCandidate, throughAction, wayWith}
 use Rattle.machine.proofs.StepLaws.{state-small}
 use Rattle.aisles.proofs.HalfSteps.{step-no, step-same}
 
@@ -50,41 +48,53 @@ candidate-parts cells Once f = record { kind-below = omega arith; front-within =
 candidate-parts cells Twice f = record { kind-below = omega arith; front-within = omega arith; back-low = omega arith; back-high = omega arith }
 
 -- the way over an action is that with its own answer to the test for aisles between
-pub way-is : (x : Aisle) (after fronts backs : List ℕ) (s q : ℕ) (a : Action)
-    → throughAction x (nextAt after) fronts backs s q a ≡ wayWith x after fronts backs (candidateBetween (x .between) (candidateOf (x .layout .cells) a)) s q a
+pub way-is : (x : Aisle) (after : ℕ → ℕ → ℕ) (fronts backs : List ℕ) (s q : ℕ) (a : Action)
+    → throughAction x after fronts backs s q a ≡ wayWith x after fronts backs (candidateBetween (x .between) (candidateOf (x .layout .cells) a)) s q a
 unfolding throughAction throughCandidate stepCode stepWith wayWith
 way-is x after fronts backs s q a = refl
 
-module _ (x : Aisle) (after fronts backs : List ℕ) (s q : ℕ) where
-  abbrev through : Action → ℕ
-  through a = throughAction x (nextAt after) fronts backs s q a
+-- the key of the dead state is 'none'
+abbrev pub DeadNone : (ℕ → ℕ → ℕ) → Type 0
+DeadNone after = (t y : ℕ) → 8 ≤ t → after t y ≡ noKey
 
+module _ (x : Aisle) (after : ℕ → ℕ → ℕ) (fronts backs : List ℕ) (s q : ℕ) where
+  -- the way over an action
+  abbrev through : Action → ℕ
+  through a = throughAction x after fronts backs s q a
+
+  -- the same with the answer of the test for aisles between given
   abbrev way : Bool → Action → ℕ
   way b a = wayWith x after fronts backs b s q a
 
+  -- the way over an action that leads to a state
+  abbrev way-to : Action → State → ℕ
+  way-to a t = let c = candidateOf (x .layout .cells) a in sumUpTo noKey (candidateKey x c) (after (stateCode t) (leftCode fronts backs c q))
+
   -- no way leads on from the dead state
-  pub way-dead : (b : Bool) (a : Action) → 8 ≤ stepWith x (candidateOf (x .layout .cells) a .kind) b s → way b a ≡ 65535
-  unfolding wayWith nextAt sumUpTo
-  way-dead b a h = rw (le-ltb (stepWith x (candidateOf (x .layout .cells) a .kind) b s) 8 h) (omega arith)
+  pub way-dead : DeadNone after → (b : Bool) (a : Action) → 8 ≤ stepWith x (candidateOf (x .layout .cells) a .kind) b s → way b a ≡ noKey
+  unfolding wayWith sumUpTo
+  way-dead dead-none b a h =
+      let c = candidateOf (x .layout .cells) a in
+      omega (arith, dead-none (stepWith x (c .kind) b s) (leftCode fronts backs c q) h)
 
   -- the answer 'no' leads where the answer 'yes' does, or nowhere
-  way-no : (a : Action) → (way false a ≡ way true a) ⊎ (way false a ≡ 65535)
+  way-no : DeadNone after → (a : Action) → (way false a ≡ way true a) ⊎ (way false a ≡ noKey)
   unfolding wayWith stepWith
-  way-no a = go (step-no (policyOf (x .policy)) (walkBackEndOf (x .policy)) (sampleAction (candidateOf (x .layout .cells) a .kind)) (bit (x .may)) (stateOf s))
+  way-no dead-none a = go (step-no (policyOf (x .policy)) (walkBackEndOf (x .policy)) (sampleAction (candidateOf (x .layout .cells) a .kind)) (bit (x .may)) (stateOf s))
     where
       to : Bool → State
       to b = stepBy (x .policy) (sampleAction (candidateOf (x .layout .cells) a .kind)) (bit (x .may)) b (stateOf s)
 
-      go : (to false ≡ to true) ⊎ (to false ≡ dead) → (way false a ≡ way true a) ⊎ (way false a ≡ 65535)
-      go (inl e) =
-          inl (ap (λ t. sat (candidateLength (x .layout) (candidateOf (x .layout .cells) a)) (nextAt after (stateCode t) (leftCode fronts backs (candidateOf (x .layout .cells) a) q))) e)
-      go (inr e) = inr (way-dead false a (omega (arith, ap stateCode e)))
+      go : (to false ≡ to true) ⊎ (to false ≡ dead) → (way false a ≡ way true a) ⊎ (way false a ≡ noKey)
+      go (inl e) = inl (ap (way-to a) e)
+      go (inr e) = inr (way-dead dead-none false a (omega (arith, ap stateCode e)))
 
   -- so a way with the answer 'no' is the way over the action, or none
-  pub way-true : (a : Action) → (way false a ≡ through a) ⊎ (way false a ≡ 65535)
-  way-true a = go (candidateBetween (x .between) (candidateOf (x .layout .cells) a)) refl (way-no a)
+  pub way-true : DeadNone after → (a : Action) → (way false a ≡ through a) ⊎ (way false a ≡ noKey)
+  way-true dead-none a = go (candidateBetween (x .between) (candidateOf (x .layout .cells) a)) refl (way-no dead-none a)
     where
-      go : (b : Bool) → candidateBetween (x .between) (candidateOf (x .layout .cells) a) ≡ b → (way false a ≡ way true a) ⊎ (way false a ≡ 65535) → (way false a ≡ through a) ⊎ (way false a ≡ 65535)
+      go : (b : Bool) → candidateBetween (x .between) (candidateOf (x .layout .cells) a) ≡ b → (way false a ≡ way true a) ⊎ (way false a ≡ noKey)
+          → (way false a ≡ through a) ⊎ (way false a ≡ noKey)
       go true e (inl f) = inl (f ∙ sym (way-is x after fronts backs s q a ∙ ap (λ b. way b a) e))
       go true e (inr f) = inr f
       go false e f = inl (sym (way-is x after fronts backs s q a ∙ ap (λ b. way b a) e))
@@ -96,7 +106,7 @@ module _ (x : Aisle) (after fronts backs : List ℕ) (s q : ℕ) where
     where
       same : way false a ≡ way true a
       same =
-          ap (λ t. sat (candidateLength (x .layout) (candidateOf (x .layout .cells) a)) (nextAt after (stateCode t) (leftCode fronts backs (candidateOf (x .layout .cells) a) q)))
+          ap (way-to a)
           (step-same (policyOf (x .policy)) (walkBackEndOf (x .policy)) (candidateOf (x .layout .cells) a .kind) free (bit (x .may)) (stateOf s))
 
       go : (b : Bool) → candidateBetween (x .between) (candidateOf (x .layout .cells) a) ≡ b → way false a ≡ through a

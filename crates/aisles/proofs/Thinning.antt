@@ -1,5 +1,6 @@
--- A turn whose row repeats that of its neighbour can be left out: the neighbour's way is no longer.
-use Prim.Native.Nat.{ℕ, zero, suc, _+_, _*_, _-_, _≤_, _<_}
+-- A turn whose row of the map repeats that of its neighbour can be left out: the neighbour's way is no longer. `row` and `perm` are the
+-- keys of rows, by state and demand.
+use Prim.Native.Nat.{ℕ, zero, suc, _+_, _-_, _≤_, _<_}
 use native.Mathlib.Omega.{arith}
 use native.Mathlib.Nat.{eq-or-lt-of-le, le-trans}
 use native.Mathlib.Numerals.{add-one}
@@ -12,10 +13,11 @@ use lib.ListN.{length, getD, set}
 use lib.Seq.{getD-set-same, getD-set-other}
 use borrow.Author.Tests.{leb-true, eqb-true, eqb-false}
 use Rattle.optimum.specs.Least.{sumUpTo}
-use Rattle.optimum.specs.Routing.{sat}
+use Rattle.optimum.specs.Routing.{noKey}
 use Rattle.demand.specs.Maps.{entry}
 use Rattle.demand.proofs.Filling.{below}
-use Rattle.rows.specs.Rows.{tab}
+use Rattle.rows.specs.Pairs.{walk}
+use Rattle.rows.proofs.Keys.{walk-mono}
 use Rattle.aisles.specs.declared.layers.Turns.{Turns}
 use Rattle.aisles.specs.declared.repeats.Repeats.{Repeats}
 use Rattle.aisles.specs.Repeating.{Agree, RepeatsTo}
@@ -51,11 +53,6 @@ filled-next f xs i v in-list filled e k h =
     (λ p. ap (λ n. getD (set xs (i + 1) v) (n + 1) 0) p ∙ getD-set-same xs (i + 1) v 0 in-list ∙ e ∙ ap f (sym p))
     (below k i h)
 
--- a way to the same value that costs no more is no longer
-sat-less : (a b u v : ℕ) → a ≤ b → u ≡ v → sat a u ≤ sat b v
-unfolding sumUpTo
-sat-less a b u v l e = omega arith
-
 -- a turn is kept, or left out where its neighbour leaves the same demand and costs no more
 abbrev Kept : List ℕ → ℕ → List ℕ → List ℕ → ℕ → ℕ → Type 0
 Kept map weight costs kept h near =
@@ -79,9 +76,9 @@ kept-or-none : (map : List ℕ) (weight : ℕ) (costs kept : List ℕ) (h near :
 kept-or-none map weight costs kept h near k = ⊎-elim (λ p. inl p) (λ n. inr (n .0)) k
 
 -- where all turns can be swept, so can those that are kept
-pub sweep-kept : (row perm fronts backs : List ℕ) (t : Turns) (same : Repeats) (r : Turns) (weight : ℕ) → SweepReady row perm fronts backs t weight → Thinned t same r
-    → SweepReady row perm fronts backs r weight
-sweep-kept row perm fronts backs t same r weight ready thin =
+pub sweep-kept : (row spared perm perm-spared fronts backs : List ℕ) (t : Turns) (same : Repeats) (r : Turns) (weight : ℕ)
+    → SweepReady row spared perm perm-spared fronts backs t weight → Thinned t same r → SweepReady row spared perm perm-spared fronts backs r weight
+sweep-kept row spared perm perm-spared fronts backs t same r weight ready thin =
     let top-is = thin .top in
     let b = ready .behind in
     record {
@@ -90,25 +87,29 @@ sweep-kept row perm fronts backs t same r weight ready thin =
         top-fits = omega (arith, b .top-fits);
         graded = subst (λ from. Graded from (r .top)) (sym (thin .from)) (subst (Graded (t .from)) (sym (thin .top)) (b .graded));
         perm-long = b .perm-long;
+        perm-spared-long = b .perm-spared-long;
         backs-long = b .backs-long;
         back-below = λ i q l m n. b .back-below i q l (omega arith) n;
       };
       row-long = ready .row-long;
+      spared-long = ready .spared-long;
       fronts-long = ready .fronts-long;
       front-below = λ h q l m. ready .front-below h q (omega arith) m;
     }
 
--- a row that is swept over the turns that are kept is swept over all turns
-module _ (row row′ perm fronts backs : List ℕ) (weight : ℕ) (t : Turns) (same : Repeats) (r : Turns) (thin : Thinned t same r)
-    (ready : SweepReady row perm fronts backs t weight)
+-- keys that are swept over the turns that are kept are swept over all turns
+module _ (row row′ perm : ℕ → ℕ → ℕ) (fronts backs : List ℕ) (weight : ℕ) (t : Turns) (same : Repeats) (r : Turns) (thin : Thinned t same r)
+    (graded : Graded (t .from) (t .top)) (front-below : (h q : ℕ) → h < t .top → q < weight → entry fronts h q < weight)
     (front-same : RepeatsTo fronts weight (same .front) (t .top)) (back-same : RepeatsTo backs weight (same .back) (t .top))
-    (fits : (k : ℕ) → getD row k 0 < 65536) (swept : SweptTo row row′ perm fronts backs r weight 0) where
+    (fits : (s q : ℕ) → row s q ≤ noKey) (swept : SweptTo row row′ perm fronts backs r weight 0) where
+  -- a front turn past the first is kept, or left out for the one before it
   front-kept : (h : ℕ) → suc h ≤ t .top → Kept fronts weight (t .front) (r .front) (suc h) h
   front-kept h l =
       subst (λ n. Kept fronts weight (t .front) (r .front) n h) (add-one h)
       (kept-or-out fronts weight (t .front) (r .front) (h + 1) h (getD (same .front) h false) (thin .front h l)
       (λ e. subst (Agree fronts h (h + 1) weight) e (front-same h l)))
 
+  -- a back turn before the last is kept, or left out for the one past it
   back-kept : (i : ℕ) → i < t .top → Kept backs weight (t .back) (r .back) i (i + 1)
   back-kept i l =
       kept-or-out backs weight (t .back) (r .back) i (i + 1) (getD (same .back) i false) (thin .back i l)
@@ -137,71 +138,74 @@ module _ (row row′ perm fronts backs : List ℕ) (weight : ℕ) (t : Turns) (s
   -- a back turn that goes with a front turn goes with the one before it too
   pair-lower : (a i : ℕ) → Pair t (suc a) i → Pair t a i
   pair-lower a i p =
-      let grown = subst (λ n. getD (t .from) a 0 ≤ getD (t .from) n 0) (add-one a) (ready .behind .graded .grows a (omega (arith, p .front))) in
+      let grown = subst (λ n. getD (t .from) a 0 ≤ getD (t .from) n 0) (add-one a) (graded .grows a (omega (arith, p .front))) in
       record { front = omega (arith, p .front); goes = le-trans grown (p .goes); back = p .back }
 
   module _ (s q : ℕ) (l : s < 8) (m : q < weight) where
+    -- the way over a pair of turns
     abbrev way : List ℕ → List ℕ → ℕ → ℕ → ℕ
     way fc bc a i = turnWay perm fronts backs fc bc s q a i
 
-    -- the value behind a pair of turns
+    -- the key behind a pair of turns
     abbrev behind : ℕ → ℕ → ℕ
-    behind a i = tab perm s (entry backs i (entry fronts a q))
+    behind a i = perm s (entry backs i (entry fronts a q))
 
-    -- no way over a front turn that is kept and any back turn is shorter: go up to a back turn that is kept
-    low-kept : (a i : ℕ) → Pair t a i → getD (r .back) i 0 ≡ getD (t .back) i 0 → tab row′ s q ≤ way (r .front) (t .back) a i
+    -- no way over a front turn that is kept and any back turn is less: go up to a back turn that is kept
+    low-kept : (a i : ℕ) → Pair t a i → getD (r .back) i 0 ≡ getD (t .back) i 0 → row′ s q ≤ way (r .front) (t .back) a i
     low-kept a i p e =
-        subst (λ c. tab row′ s q ≤ sat (getD (r .front) a 0 + c) (behind a i)) e (swept .low s q a i l m (omega arith) (pair-kept a i p))
+        subst (λ c. row′ s q ≤ walk (getD (r .front) a 0 + c) (behind a i)) e (swept .low s q a i l m (omega arith) (pair-kept a i p))
 
-    low-back : (n a i : ℕ) → i + n ≡ t .top → Pair t a i → tab row′ s q ≤ way (r .front) (t .back) a i
+    low-back : (n a i : ℕ) → i + n ≡ t .top → Pair t a i → row′ s q ≤ way (r .front) (t .back) a i
     low-back zero a i e p = low-kept a i p (subst (λ k. getD (r .back) k 0 ≡ getD (t .back) k 0) (omega arith) (thin .last))
     low-back (suc n) a i e p =
         go (low-back n a (i + 1) (omega arith) (record { front = p .front; goes = omega (arith, p .goes); back = omega arith })) (back-kept i (omega arith))
       where
-        go : tab row′ s q ≤ way (r .front) (t .back) a (i + 1) → Kept backs weight (t .back) (r .back) i (i + 1) → tab row′ s q ≤ way (r .front) (t .back) a i
+        go : row′ s q ≤ way (r .front) (t .back) a (i + 1) → Kept backs weight (t .back) (r .back) i (i + 1) → row′ s q ≤ way (r .front) (t .back) a i
         go higher (inl k) = low-kept a i p k
         go higher (inr (none, cost, agreed)) =
             let y = entry fronts a q in
-            let less = ap (tab perm s) (agreed y (ready .front-below a q (p .front) m)) in
-            le-trans higher (sat-less (getD (r .front) a 0 + getD (t .back) (i + 1) 0) (getD (r .front) a 0 + getD (t .back) i 0) (behind a (i + 1)) (behind a i) (omega arith) less)
+            let alike = ap (perm s) (agreed y (front-below a q (p .front) m)) in
+            let front = getD (r .front) a 0 in
+            le-trans higher (walk-mono (front + getD (t .back) (i + 1) 0) (front + getD (t .back) i 0) (behind a (i + 1)) (behind a i) (omega arith) (omega (arith, alike)))
 
     -- nor over any front turn: go down to one that is kept
-    low-any : (a i : ℕ) → Pair t a i → getD (r .front) a 0 ≡ getD (t .front) a 0 → tab row′ s q ≤ way (t .front) (t .back) a i
+    low-any : (a i : ℕ) → Pair t a i → getD (r .front) a 0 ≡ getD (t .front) a 0 → row′ s q ≤ way (t .front) (t .back) a i
     low-any a i p e =
-        subst (λ c. tab row′ s q ≤ sat (c + getD (t .back) i 0) (behind a i)) e (low-back (t .top - i) a i (omega (arith, p .back)) p)
+        subst (λ c. row′ s q ≤ walk (c + getD (t .back) i 0) (behind a i)) e (low-back (t .top - i) a i (omega (arith, p .back)) p)
 
-    low : (a i : ℕ) → Pair t a i → tab row′ s q ≤ way (t .front) (t .back) a i
+    low : (a i : ℕ) → Pair t a i → row′ s q ≤ way (t .front) (t .back) a i
     low zero i p = low-any zero i p (thin .first)
     low (suc a) i p = go (low a i (pair-lower a i p)) (front-kept a (omega (arith, p .front)))
       where
-        go : tab row′ s q ≤ way (t .front) (t .back) a i → Kept fronts weight (t .front) (r .front) (suc a) a → tab row′ s q ≤ way (t .front) (t .back) (suc a) i
+        go : row′ s q ≤ way (t .front) (t .back) a i → Kept fronts weight (t .front) (r .front) (suc a) a → row′ s q ≤ way (t .front) (t .back) (suc a) i
         go lower (inl k) = low-any (suc a) i p k
         go lower (inr (none, cost, agreed)) =
-            let less = ap (λ y. tab perm s (entry backs i y)) (agreed q m) in
-            le-trans lower (sat-less (getD (t .front) a 0 + getD (t .back) i 0) (getD (t .front) (suc a) 0 + getD (t .back) i 0) (behind a i) (behind (suc a) i) (omega arith) less)
+            let alike = ap (λ y. perm s (entry backs i y)) (agreed q m) in
+            let back = getD (t .back) i 0 in
+            le-trans lower (walk-mono (getD (t .front) a 0 + back) (getD (t .front) (suc a) 0 + back) (behind a i) (behind (suc a) i) (omega arith) (omega (arith, alike)))
 
-    -- a number that changed is the way over two turns that are kept
+    -- a key that changed is the way over two turns that are kept
     abbrev Found : Turns → Type 0
-    Found u = (a : ℕ) × (i : ℕ) × (0 ≤ a) × Pair u a i × (tab row′ s q ≡ way (u .front) (u .back) a i)
+    Found u = (a : ℕ) × (i : ℕ) × (0 ≤ a) × Pair u a i × (row′ s q ≡ way (u .front) (u .back) a i)
 
     abbrev One : Type 0
-    One = (tab row′ s q ≡ tab row s q) ⊎ Found t
+    One = (row′ s q ≡ row s q) ⊎ Found t
 
     one : One
     unfolding sumUpTo
     one = go (swept .one s q l m)
       where
-        -- 'none' is no shorter than what was there
-        still : tab row′ s q ≡ 65535 → One
-        still e = inl (omega (arith, swept .less s q l m, fits (q * 8 + s)))
+        -- 'none' is no less than what was there
+        still : row′ s q ≡ noKey → One
+        still e = inl (omega (arith, swept .less s q l m, fits s q))
 
-        pick : (a i : ℕ) → Pair t a i → tab row′ s q ≡ way (r .front) (r .back) a i
+        pick : (a i : ℕ) → Pair t a i → row′ s q ≡ way (r .front) (r .back) a i
             → (getD (r .front) a 0 ≡ getD (t .front) a 0) ⊎ (getD (r .front) a 0 ≡ 65535) → (getD (r .back) i 0 ≡ getD (t .back) i 0) ⊎ (getD (r .back) i 0 ≡ 65535) → One
-        pick a i p e (inl u) (inl v) = inr (a, i, omega arith, p, e ∙ ap₂ (λ f b. sat (f + b) (behind a i)) u v)
+        pick a i p e (inl u) (inl v) = inr (a, i, omega arith, p, e ∙ ap₂ (λ f b. walk (f + b) (behind a i)) u v)
         pick a i p e (inr u) v = still (omega (arith, e, u))
         pick a i p e (inl u) (inr v) = still (omega (arith, e, v))
 
-        go : (tab row′ s q ≡ tab row s q) ⊎ Found r → One
+        go : (row′ s q ≡ row s q) ⊎ Found r → One
         go (inl e) = inl e
         go (inr (a, i, z, p, e)) =
             let k = pair-all a i p in
@@ -210,9 +214,7 @@ module _ (row row′ perm fronts backs : List ℕ) (weight : ℕ) (t : Turns) (s
   pub swept-thin : SweptTo row row′ perm fronts backs t weight 0
   swept-thin =
       record {
-        kept = swept .kept;
         low = λ s q a i l m z p. low s q l m a i p;
         less = swept .less;
         one = one;
-        rest = swept .rest;
       }

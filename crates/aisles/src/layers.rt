@@ -1,4 +1,6 @@
-// One aisle of the table: the ways over all its actions, a kind of action at a time.
+// One aisle of the table: the ways over all its actions, a kind of action at a time. Lengths and ones go side by side
+// (rows/src/lib.rt): `spared` has the ones beside the row that is written, `theirs` those beside the row that is read. The least is
+// the shortest, and of equals the one that spares more aisles.
 use crate::candidates::back_cost;
 use crate::candidates::front_cost;
 use crate::repeats::Repeats;
@@ -15,14 +17,16 @@ use rows::fill_none;
 use rows::lives;
 use rows::permute;
 use rows::relax_row;
+use rows::spare_one;
 use rules::Layout;
 ghost use Prim.Native.Nat.{_*_, _+_, _<_, _≤_, ℕ};
 ghost use Rattle.machine.specs.Steps.{bit};
 ghost use Rattle.demand.specs.Digits.{demands};
 ghost use Rattle.demand.specs.Maps.{heights};
-ghost use Rattle.aisles.specs.Layers.{InRange, AisleReady, LaneReady, PassDone, RowFilled, TurnsOf, passBetween, passKind, passesOf, stepWith};
-ghost use Rattle.rows.specs.Rows.{PastKept, RelaxReady, RelaxedRow, numbers, states};
-ghost use Rattle.aisles.specs.Turns.{BacksDone, BacksReady, SweepReady, SweptTo, Thinned, backAt, backTurn, frontAt, frontTurn, keptTurn, leastBack};
+ghost use Rattle.aisles.specs.Layers.{InRange, AisleReady, LaneReady, RowFilled, RowsPassed, RowsStepped, TurnsOf, passBetween, passKind, passesOf, stepWith};
+ghost use Rattle.rows.specs.Pairs.{KeysRelaxed, RelaxReady};
+ghost use Rattle.rows.specs.Rows.{PastKept, numbers, states};
+ghost use Rattle.aisles.specs.Turns.{BacksHeld, BacksReady, RowsSwept, SweepReady, Thinned, backAt, backTurn, frontAt, frontTurn, keptTurn, leastBack};
 ghost use Rattle.rules.specs.Store.{layoutInBounds};
 ghost use lib.Dec.{eqb};
 ghost use lib.ListN.{getD, length};
@@ -193,73 +197,124 @@ fn thin(t: Turns, same: Repeats) -> Turns
     }
 }
 
-// A row relaxed over a turn at height h, if there is one.
+// Two rows relaxed over a turn at height h, if there is one.
 fn relax_turn<'a>(
     row: &mut [u16],
+    spared: &mut [u16],
     perm: &'a [u16],
+    theirs: &'a [u16],
     map: &'a [u16],
     h: usize,
     cost: u16,
     weight: usize,
 )
-    requires { ⌜ (h < heights) × RelaxReady (now row) (now perm) (now map) (h * demands) weight ⌝ }
-    ensures { λ r. ⌜ RelaxedRow (now (row .entry)) (now (row .exit)) (now (perm .entry)) (now (map .entry)) (h * demands) cost weight ⌝ }
+    requires { ⌜ (h < heights) × RelaxReady (now row) (now spared) (now perm) (now theirs) (now map) (h * demands) weight ⌝ }
+    ensures { λ r. ⌜ KeysRelaxed (now (row .entry)) (now (row .exit)) (now (spared .entry)) (now (spared .exit))
+        (now (perm .entry)) (now (theirs .entry)) (now (map .entry)) (h * demands) cost weight ⌝ }
 {
     if cost < NONE {
-        relax_row(row, perm, map, h * DEMANDS, cost, weight);
+        relax_row(row, spared, perm, theirs, map, h * DEMANDS, cost, weight);
     }
 }
 
 // The back turns that go with a front turn at height h, let in to those that go with one at the next height.
-fn admit<'a>(acc: &mut [u16], perm: &'a [u16], backs: &'a [u16], t: Turns, h: usize, weight: usize)
-    requires { ⌜ BacksReady (now perm) (now backs) t weight × (h < t .top) × (numbers ≤ length (now acc))
-        × BacksDone (now acc) (now perm) (now backs) t weight (getD (t .from) (h + 1) 0) ⌝ }
-    ensures { λ r. ⌜ (length (now (acc .exit)) ≡ length (now (acc .entry)))
-        × BacksDone (now (acc .exit)) (now (perm .entry)) (now (backs .entry)) t weight (getD (t .from) h 0) ⌝ }
+fn admit<'a>(
+    acc: &mut [u16],
+    spared: &mut [u16],
+    perm: &'a [u16],
+    theirs: &'a [u16],
+    backs: &'a [u16],
+    t: Turns,
+    h: usize,
+    weight: usize,
+)
+    requires { ⌜ BacksReady (now perm) (now theirs) (now backs) t weight × (h < t .top)
+        × (numbers ≤ length (now acc)) × (numbers ≤ length (now spared))
+        × BacksHeld (now acc) (now spared) (now perm) (now theirs) (now backs) t weight (getD (t .from) (h + 1) 0) ⌝ }
+    ensures { λ r. ⌜ (length (now (acc .exit)) ≡ length (now (acc .entry))) × (length (now (spared .exit)) ≡ length (now (spared .entry)))
+        × BacksHeld (now (acc .exit)) (now (spared .exit)) (now (perm .entry)) (now (theirs .entry)) (now (backs .entry)) t weight (getD (t .from) h 0) ⌝ }
 {
     let next = h + 1;
     let least = t.from[h];
     let mut i = t.from[next];
     while least < i {
         i -= 1;
-        relax_turn(acc, perm, backs, i, t.back[i], weight);
+        relax_turn(acc, spared, perm, theirs, backs, i, t.back[i], weight);
     }
 }
 
 // All actions of a kind in one sweep: the best over the back turns that go with height h is kept while h falls, so that each
-// turn costs a row, and not each pair of turns.
+// turn costs a row, and not each pair of turns. The row `ones`, beside that best, is scratch: at first there is no tour beside it.
 fn sweep<'a>(
     row: &mut [u16],
+    spared: &mut [u16],
+    ones: &mut [u16],
     perm: &'a [u16],
+    theirs: &'a [u16],
     fronts: &'a [u16],
     backs: &'a [u16],
     t: Turns,
     weight: usize,
 )
-    requires { ⌜ SweepReady (now row) (now perm) (now fronts) (now backs) t weight ⌝ }
-    ensures { λ r. ⌜ SweptTo (now (row .entry)) (now (row .exit)) (now (perm .entry)) (now (fronts .entry)) (now (backs .entry)) t weight 0 ⌝ }
+    requires { ⌜ SweepReady (now row) (now spared) (now perm) (now theirs) (now fronts) (now backs) t weight × (numbers ≤ length (now ones)) ⌝ }
+    ensures { λ r. ⌜ RowsSwept (now (row .entry)) (now (row .exit)) (now (spared .entry)) (now (spared .exit))
+        (now (perm .entry)) (now (theirs .entry)) (now (fronts .entry)) (now (backs .entry)) t weight 0
+        × (length (now (ones .exit)) ≡ length (now (ones .entry))) ⌝ }
 {
     let mut acc = [NONE; NUMBERS];
     let mut h = t.top;
     while 0 < h {
         h -= 1;
-        admit(&mut acc, perm, backs, t, h, weight);
-        relax_turn(row, &acc, fronts, h, t.front[h], weight);
+        admit(&mut acc, ones, perm, theirs, backs, t, h, weight);
+        relax_turn(row, spared, &acc, ones, fronts, h, t.front[h], weight);
+    }
+}
+
+// Two rows as a kind of action sees them: for each state the numbers of the state that it leads to, and under VOID, 0, a one more,
+// since the aisle is spared.
+fn step_rows(
+    perm: &mut [u16],
+    spared: &mut [u16],
+    after: &[u16],
+    theirs: &[u16],
+    steps: [usize; STATES],
+    kind: usize,
+    weight: usize,
+)
+    requires { ⌜ (weight ≤ demands) × (numbers ≤ length (now perm)) × (numbers ≤ length (now spared))
+        × (numbers ≤ length (now after)) × (numbers ≤ length (now theirs)) ⌝ }
+    ensures { λ r. ⌜ RowsStepped (now (perm .entry)) (now (perm .exit)) (now (spared .entry)) (now (spared .exit))
+        (now (after .entry)) (now (theirs .entry)) steps kind weight ⌝ }
+{
+    permute(perm, after, steps, weight);
+    permute(spared, theirs, steps, weight);
+    if kind == 0 {
+        spare_one(spared, weight * STATES);
     }
 }
 
 // The ways over the actions of a pass: those of the kinds in turn, and, for MIDPOINT and LARGEST, BOTTOM, TOP and GAP once more
-// as far as they pass the test for aisles between.
+// as far as they pass the test for aisles between. The rows `perm`, `ones` and `best` are scratch.
 fn relax_pass<'a>(
     row: &mut [u16],
+    spared: &mut [u16],
+    perm: &mut [u16],
+    ones: &mut [u16],
+    best: &mut [u16],
     after: &[u16],
+    theirs: &[u16],
     fronts: &'a [u16],
     backs: &'a [u16],
     lane: Lane,
     pass: usize,
 )
-    requires { ⌜ LaneReady lane (now fronts) (now backs) × (numbers ≤ length (now row)) × (numbers ≤ length (now after)) × (pass < 9) ⌝ }
-    ensures { λ r. ⌜ PassDone (lane .aisle) (now (row .entry)) (now (row .exit)) (now (after .entry)) (now (fronts .entry)) (now (backs .entry)) (passKind pass) (passBetween pass) ⌝ }
+    requires { ⌜ LaneReady lane (now fronts) (now backs) × (numbers ≤ length (now row)) × (numbers ≤ length (now spared))
+        × (numbers ≤ length (now after)) × (numbers ≤ length (now theirs)) × (pass < 9)
+        × (numbers ≤ length (now perm)) × (numbers ≤ length (now ones)) × (numbers ≤ length (now best)) ⌝ }
+    ensures { λ r. ⌜ RowsPassed (lane .aisle) (now (row .entry)) (now (row .exit)) (now (spared .entry)) (now (spared .exit))
+        (now (after .entry)) (now (theirs .entry)) (now (fronts .entry)) (now (backs .entry)) (passKind pass) (passBetween pass)
+        × (length (now (perm .exit)) ≡ length (now (perm .entry))) × (length (now (ones .exit)) ≡ length (now (ones .entry)))
+        × (length (now (best .exit)) ≡ length (now (best .entry))) ⌝ }
 {
     let between = pass / 6;
     let kind = pass - between * 5;
@@ -267,11 +322,10 @@ fn relax_pass<'a>(
     let weight = x.weight;
     let steps = steps_of(x, kind, between);
     if lives(steps) {
-        let mut perm = [0u16; NUMBERS];
-        permute(&mut perm, after, steps, weight);
+        step_rows(perm, ones, after, theirs, steps, kind, weight);
         let same = lane.same;
         let t = thin(turns_of(x, kind, between), same);
-        sweep(row, &perm, fronts, backs, t, weight);
+        sweep(row, spared, best, perm, ones, fronts, backs, t, weight);
     }
 }
 
@@ -296,19 +350,44 @@ fn passes_of(policy: usize) -> usize
     if asks_between(policy) { 9 } else { 6 }
 }
 
-// The row of an aisle: for each demand and state the least over all actions.
-pub fn fill_row<'a>(row: &mut [u16], after: &[u16], fronts: &'a [u16], backs: &'a [u16], x: Aisle)
-    requires { ⌜ AisleReady x (now fronts) (now backs) × (numbers ≤ length (now row)) × (numbers ≤ length (now after)) ⌝ }
-    ensures { λ r. ⌜ RowFilled x (now (row .exit)) (now (after .entry)) (now (fronts .entry)) (now (backs .entry))
-        × (length (now (row .exit)) ≡ length (now (row .entry))) × PastKept (x .weight) (now (row .entry)) (now (row .exit)) ⌝ }
+// The rows of an aisle: for each demand and state the least over all actions.
+pub fn fill_row<'a>(
+    row: &mut [u16],
+    spared: &mut [u16],
+    after: &[u16],
+    theirs: &[u16],
+    fronts: &'a [u16],
+    backs: &'a [u16],
+    x: Aisle,
+)
+    requires { ⌜ AisleReady x (now fronts) (now backs) × (numbers ≤ length (now row)) × (numbers ≤ length (now spared))
+        × (numbers ≤ length (now after)) × (numbers ≤ length (now theirs)) ⌝ }
+    ensures { λ r. ⌜ RowFilled x (now (row .exit)) (now (spared .exit)) (now (after .entry)) (now (theirs .entry)) (now (fronts .entry)) (now (backs .entry))
+        × (length (now (row .exit)) ≡ length (now (row .entry))) × (length (now (spared .exit)) ≡ length (now (spared .entry)))
+        × PastKept (x .weight) (now (row .entry)) (now (row .exit)) × PastKept (x .weight) (now (spared .entry)) (now (spared .exit)) ⌝ }
 {
     let passes = passes_of(x.policy);
     let weight = x.weight;
     let lane = lane_of(x, fronts, backs);
+    let mut perm = [0u16; NUMBERS];
+    let mut ones = [0u16; NUMBERS];
+    let mut best = [0u16; NUMBERS];
     fill_none(row, weight * STATES);
     let mut pass = 0;
     while pass < passes {
-        relax_pass(row, after, fronts, backs, lane, pass);
+        relax_pass(
+            row,
+            spared,
+            &mut perm,
+            &mut ones,
+            &mut best,
+            after,
+            theirs,
+            fronts,
+            backs,
+            lane,
+            pass,
+        );
         pass += 1;
     }
 }

@@ -3,6 +3,7 @@ pub mod Table
 pub mod Demand
 pub mod Shortest
 pub mod Weighed
+pub mod Keys
 pub mod Optimum
 pub mod Radix
 pub mod Best

@@ -6,10 +6,11 @@ use mathlib.Core.Path.{_≡_, refl, _∙_, ap}
 use mathlib.Core.List.{List, [], _∷_, List·Memᴰ, List·Memᴰ·head, List·Memᴰ·tail}
 use mathlib.Core.Bool.{Bool, true, false, cond}
 use mathlib.Core.Option.{Option, none, some}
-use lib.Dec.{eqb, leb}
-use borrow.Author.Tests.{eq-eqb, ne-eqb, leb-true, leb-false}
+use lib.Dec.{eqb, ltb}
+use borrow.Author.Tests.{eq-eqb, ne-eqb, ltb-true, ltb-false}
 use Rattle.rules.specs.Lists.{select}
-use Rattle.rules.specs.BestPlan.{shorterOf, firstShortest}
+use Rattle.rules.specs.BestPlan.{betterOf}
+use Rattle.rules.proofs.Enumeration.{firstShortest, shorterOf}
 use Rattle.optimum.specs.Least.{leastOr, firstAt}
 use Rattle.optimum.proofs.Choice.{least-bound}
 
@@ -36,13 +37,13 @@ module _ {A : Type 0} (noWay : ℕ) (ok : A → Bool) (len : A → ℕ) where
 
   -- the shorter of two has the smaller length, by the test that chooses it
   shorter-length : (x : A) (o : Option A) → len x < noWay → len (shorterOf len x o) ≡ min (len x) (foundLength o)
-  unfolding shorterOf
+  unfolding betterOf
   shorter-length x none h = omega arith
-  shorter-length x (some y) h = go (leb (len x) (len y)) refl
+  shorter-length x (some y) h = go (ltb (len y) (len x)) refl
     where
-      go : (b : Bool) → leb (len x) (len y) ≡ b → len (cond b x y) ≡ min (len x) (len y)
-      go true e = omega (arith, leb-true (len x) (len y) e)
-      go false e = omega (arith, leb-false (len x) (len y) e)
+      go : (b : Bool) → ltb (len y) (len x) ≡ b → len (cond b y x) ≡ min (len x) (len y)
+      go true e = omega (arith, ltb-true (len y) (len x) e)
+      go false e = omega (arith, ltb-false (len y) (len x) e)
 
   -- the least value is the length of the first of the shortest
   pub least-found : (xs : List A) → Short xs → least xs ≡ foundLength (found xs)
@@ -61,14 +62,14 @@ module _ {A : Type 0} (noWay : ℕ) (ok : A → Bool) (len : A → ℕ) where
   -- a selected element in front: it is found unless what follows is shorter
   taken : (x : A) (xs : List A) (o : Option A) (v : ℕ) → len x < noWay → least xs ≡ foundLength o → Attains xs o → v ≡ min (len x) (least xs)
       → cond (eqb (len x) v) (some x) (firstAt counted v xs) ≡ some (shorterOf len x o)
-  unfolding shorterOf
+  unfolding betterOf
   taken x xs none v short e next is-least = rw (eq-eqb (len x) v (omega arith)) refl
-  taken x xs (some y) v short e next is-least = go (leb (len x) (len y)) refl
+  taken x xs (some y) v short e next is-least = go (ltb (len y) (len x)) refl
     where
-      go : (b : Bool) → leb (len x) (len y) ≡ b → cond (eqb (len x) v) (some x) (firstAt counted v xs) ≡ some (cond b x y)
-      go true p = rw (eq-eqb (len x) v (omega (arith, leb-true (len x) (len y) p))) refl
-      go false p =
-          let longer = leb-false (len x) (len y) p in
+      go : (b : Bool) → ltb (len y) (len x) ≡ b → cond (eqb (len x) v) (some x) (firstAt counted v xs) ≡ some (cond b y x)
+      go false p = rw (eq-eqb (len x) v (omega (arith, ltb-false (len y) (len x) p))) refl
+      go true p =
+          let longer = ltb-true (len y) (len x) p in
           let later : v ≡ least xs = omega (arith, longer) in
           rw (ne-eqb (len x) v (λ q. omega (arith, longer))) (ap (λ n. firstAt counted n xs) later ∙ next (omega (arith, longer)))
 

@@ -14,10 +14,10 @@ use Rattle.rules.specs.Jobs.{Job}
 use Rattle.rules.specs.Plans.{Plan, WellFormed, planPasses}
 use Rattle.rules.specs.Serving.{serves}
 use Rattle.rules.specs.Machine.{State, nothing, actionStep, passageStep, runFrom, isClosed, closesOff, accepts}
-use Rattle.rules.specs.BestPlan.{actionsOf, passagesInOrder, single, prepend, plansOf, firstShortest, servingPlans}
+use Rattle.rules.specs.BestPlan.{actionsOf, passagesInOrder, single, prepend, plansOf, servingPlans}
 use Rattle.rules.proofs.Lists.{map-map, map-concat, concat-cong}
 use Rattle.rules.proofs.EmptyList.{accepts-with-lines}
-use Rattle.rules.proofs.Enumeration.{enumeration-sound, first-shortest-given, first-shortest-member, serving-plans}
+use Rattle.rules.proofs.Enumeration.{firstShortest, enumeration-sound, first-shortest-given, first-shortest-member, serving-plans}
 use Rattle.optimum.specs.Least.{sumUpTo, leastOr, firstAt}
 use Rattle.optimum.specs.Table.{Cost, Problem, Rest, rests, restCost, actionThen, passageThen, value, choose}
 use Rattle.optimum.specs.Demand.{less, gains, wholeDemand, met}
@@ -38,8 +38,7 @@ abbrev allowedServing : Job → Plan → Bool
 allowedServing job plan = accepts job plan && serves job (planPasses plan)
 
 -- A cost of plans by which the table of a job can choose: it adds up over actions and passages, and 'none' is above it.
--- A later second key needs no more: a cost that encodes (length, entered aisles) as one number that adds up, as length * 17 +
--- entered aisles does (at most 16 are entered, so length decides first), and a 'none' above all of them.
+-- The router's is the key (Keys).
 pub record Weighs (job : Job) (c : Cost) (cost : Plan → ℕ) : Type 0 where
   pub adds-up : (plan : Plan) → WellFormed (job .layout) plan → costFrom c 1 (plan .actions) (plan .passages) ≡ cost plan
   pub below : (plan : Plan) → WellFormed (job .layout) plan → cost plan < c .noWay

@@ -1,22 +1,24 @@
--- The table of a job: the machine's states, the open demand, and a cost; by length it is the router's.
-use Prim.Native.Nat.{ℕ, suc, _+_}
+-- The table of a job: the machine's states, the open demand, and a cost; by its key, the length first and then the entered aisles, it is the
+-- router's.
+use Prim.Native.Nat.{ℕ, suc, _+_, _*_}
 use mathlib.Core.List.{List, [], _∷_, tail}
-use mathlib.Core.Bool.{_&&_}
+use mathlib.Core.Bool.{cond, _&&_}
 use Rattle.rules.specs.declared.Layout.{Layout}
 use Rattle.rules.specs.declared.Action.{Action}
 use Rattle.rules.specs.declared.Passage.{Passage}
 use Rattle.rules.specs.declared.Passage.the-variants.{P00}
 use Rattle.rules.specs.Lists.{headOr}
 use Rattle.rules.specs.Jobs.{Job}
-use Rattle.rules.specs.Plans.{Plan}
+use Rattle.rules.specs.Plans.{Plan, planLength, entered}
+use Rattle.rules.specs.Policies.{enteredAisles}
 use Rattle.rules.specs.Lengths.{actionLength, passageLength}
 use Rattle.rules.specs.Machine.{State, actionStep, passageStep, isClosed}
 use Rattle.rules.specs.BestPlan.{actionsOf, passagesInOrder}
-use Rattle.optimum.specs.Least.{sumUpTo, leastOr}
+use Rattle.optimum.specs.Least.{sumUpTo}
 use Rattle.optimum.specs.Table.{Cost, Problem, Rest}
 use Rattle.optimum.specs.Demand.{gains, less, met}
 
--- 'none': longer than any tour, which is at most 57,280
+-- 'none' as a length: longer than any tour, which is at most 57,280
 abbrev pub noTour : ℕ
 noTour = 65535
 
@@ -24,14 +26,21 @@ noTour = 65535
 abbrev pub sat : ℕ → ℕ → ℕ
 sat a b = sumUpTo noTour a b
 
-module _ {A : Type 0} where
-  -- the least length over the list, 'none' for the empty one
-  abbrev pub leastOf : (A → ℕ) → List A → ℕ
-  leastOf f xs = leastOr noTour f xs
+-- 'none' as a key
+abbrev pub noKey : ℕ
+noKey = 17 * noTour
 
--- the cost that is the length
-abbrev pub lengths : Layout → Cost
-lengths z = record { ofAction = λ j a. actionLength z a; ofPassage = λ j p. passageLength z p; noWay = noTour }
+-- one for an aisle that an action enters
+abbrev pub entering : Action → ℕ
+entering a = cond (entered a) 1 0
+
+-- the cost by which plans are compared (#108), length and entered aisles as one number: at most 16 aisles are entered, so the length decides first
+abbrev pub keys : Layout → Cost
+keys z = record { ofAction = λ j a. 17 * actionLength z a + entering a; ofPassage = λ j p. 17 * passageLength z p; noWay = noKey }
+
+-- the same of a whole plan
+unfoldable pub planKey : Layout → Plan → ℕ
+planKey z plan = 17 * planLength z plan + enteredAisles plan
 
 -- the problem of a job under a cost, with the actions that are tried in each aisle
 abbrev pub weighed : Job → Cost → (ℕ → List Action) → Problem
@@ -48,9 +57,9 @@ weighed job cost candidates =
       done = λ s q. isClosed s && met q;
     }
 
--- the same by length
+-- the same by the key
 abbrev pub routing : Job → (ℕ → List Action) → Problem
-routing job candidates = weighed job (lengths (job .layout)) candidates
+routing job candidates = weighed job (keys (job .layout)) candidates
 
 -- all actions, in every aisle
 unfoldable pub allActions : Job → ℕ → List Action

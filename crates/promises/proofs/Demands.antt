@@ -4,8 +4,8 @@
 -- lent work area: the reply, and what sheet and work area hold after it. The public contracts are equations with it, and with
 -- `pageAnswer` (rules/specs/PageAnswers) where a page is lent too.
 -- The words of the statements are in specs/: the causes of the table (Causes), what a sheet says (Contents), what calls give (Calls),
--- and of the requests #101 (EmptyLists), #102 (Uprights), #103 (Pages), #105 (StockTests), #106 (OpeningHours) and #107 (Doors). Request #104 has
--- its words in rules/specs/Policies.
+-- and of the requests #101 (EmptyLists), #102 (Uprights), #103 (Pages), #105 (StockTests), #106 (OpeningHours), #107 (Doors) and #108 (FewerAisles).
+-- Request #104 has its words in rules/specs/Policies.
 use Prim.Native.Nat.{ℕ, _+_, _*_, _-_, _/_, _%_, _≤_, _<_}
 use mathlib.Core.Path.{_≡_, refl, sym, _∙_, ap, subst}
 use mathlib.Core.Logic.{_⊎_, _↔_}
@@ -16,7 +16,8 @@ use lib.ListN.{length, take, drop}
 use Rattle.rules.specs.declared.Layout.{Layout}
 use Rattle.rules.specs.declared.Policy.{Policy}
 use Rattle.rules.specs.declared.Policy.the-variants.{Exact, Traversal, Midpoint, Largest}
-use Rattle.rules.specs.declared.Action.the-variants.{Once}
+use Rattle.rules.specs.declared.Action.the-variants.{Void, Bottom, Once}
+use Rattle.rules.specs.declared.Passage.the-variants.{P00, P02}
 use Rattle.rules.specs.declared.Posts.the-variants.{NoPosts, Every}
 use Rattle.rules.specs.declared.OrderLine.{OrderLine}
 use Rattle.rules.specs.declared.Pick.{Pick}
@@ -31,7 +32,7 @@ use Rattle.rules.specs.Plans.{Plan, actionAt, planLength}
 use Rattle.rules.specs.Lawful.{Lawful}
 use Rattle.rules.specs.Walks.{Walk, ClosedWalk, KeepsToOpen, walkTreads}
 use Rattle.rules.specs.Picks.{picksOf}
-use Rattle.rules.specs.BestPlan.{emptyPlan, BestAmong, IsBest, bestPlan}
+use Rattle.rules.specs.BestPlan.{PlanBefore, emptyPlan, BestAmong, IsBest, bestPlan}
 use Rattle.rules.specs.Refusals.{numberOf, workLimit, cleared, Admitted}
 use Rattle.rules.specs.Looked.{lookedFor, looked, lookedIn}
 use Rattle.rules.specs.Sheet.{sheetText}
@@ -40,7 +41,7 @@ use Rattle.rules.specs.PageAnswers.{pageAnswer, hostPageAnswer, pageLimit, page
 use Rattle.rules.specs.Policies.{enteredAisles, Entered, First, Last, IsBottom, WalkedBack, inFrontHalf, inBackHalf, Follows, ShutVoid, Allowed}
 use Rattle.rules.specs.Serving.{PlanServes}
 use Rattle.rules.specs.Examples.{_⨯_, alpha, AllHold, AllSame, cases, ownCases, fourBetween, largestCases, stopLists, workedJob, workedPage}
-use Rattle.rules.specs.Examples.{AllLooked, lookedCases, lookedTexts, sevenAt, hoursCases, hoursLooked, hoursTexts, HasTour, doorAt, doorCases}
+use Rattle.rules.specs.Examples.{AllLooked, lookedCases, lookedTexts, sevenAt, hoursCases, hoursLooked, hoursTexts, HasTour, doorAt, doorCases, fewerStore, fewerCases}
 use Rattle.rules.proofs.Cases as Cases
 use Rattle.closedwalks.proofs.Statements.{walk-reads-open, plain-keeps, plan-determined}
 use Rattle.promises.specs.Causes.{JobFileOf, LineOutOfStock, OfJob, Cause, tableRow, FirstCause}
@@ -51,6 +52,7 @@ use Rattle.promises.specs.Uprights.{PostsOfNothing}
 use Rattle.promises.specs.Pages.{PageCause, FirstPageCause, RefusedPageCall, ServedPageCall, AlongTheWalk, ShowsPage, HostPageCall, PrintsPage, PrintsPageRefusal}
 use Rattle.promises.specs.OpeningHours.{SameAnswers, AllOpen, shutGone, PassesToHours}
 use Rattle.promises.specs.Doors.{AllowedBefore}
+use Rattle.promises.specs.FewerAisles.{bestBefore}
 use Rattle.promises.specs.StockTests.{InStock, LineShort, LeastHolding, AddedUp, LookedBounds}
 use Rattle.promises.proofs.EmptyLists
 use Rattle.promises.proofs.Uprights
@@ -59,6 +61,7 @@ use Rattle.promises.proofs.StockTest
 use Rattle.promises.proofs.OpeningHours
 use Rattle.promises.proofs.Doors.{lastWalkedBack}
 use Rattle.promises.proofs.Doors
+use Rattle.promises.proofs.FewerAisles
 use Rattle.promises.proofs.PageCalls
 use Rattle.promises.proofs.Clipboard
 use Rattle.promises.proofs.PageHost
@@ -455,12 +458,12 @@ pub door-right-met : (sheet work : List ℕ) → sheetLimit ≤ length sheet →
 door-right-met = Doors.right-met
 
 -- "Jobs with smaller d keep their tours." Where 2·d is at most m + 1, the same plans are allowed as by document 01's rule before the request,
--- and the same one is the first of the shortest
+-- and the same one is the best
 pub door-left-unchanged : (job : Job) → job .policy ≡ Traversal → 2 * job .layout .depot ≤ job .layout .aisles + 1
     → ((plan : Plan) → AllowedBefore job plan ↔ Allowed job plan) × ((plan : Plan) → BestAmong (AllowedBefore job) job plan ↔ IsBest job plan)
 door-left-unchanged job word low = (Doors.same-allowed job word low, Doors.same-best job word low)
 
--- so the plan on the sheet of such a job is the first of the shortest by that rule, and no other plan is
+-- so the plan on the sheet of such a job is the best by that rule, and no other plan is
 pub door-left-shown : (job : Job) → job .policy ≡ Traversal → 2 * job .layout .depot ≤ job .layout .aisles + 1
     → (bytes sheet work : List ℕ) (c : Content) → Shows bytes sheet work job c
     → (plan : Plan) → BestAmong (AllowedBefore job) job plan ↔ (plan ≡ c .plan)
@@ -481,3 +484,46 @@ door-right-moves = (Doors.allowed-before, Doors.moved .0, Doors.moved .1, Doors.
 -- by cases of its own
 pub door-cases-hold : AllHold doorCases
 door-cases-hold = Cases.door-cases-hold
+
+-- Request #108: "Among the shortest plans, the one with the fewest entered aisles comes first, then document 01's order." Under every policy: of the
+-- plans that are allowed, serve the list and are as long as the one on the sheet, none enters fewer aisles, and of those that enter as many none
+-- comes before it in document 01's order
+pub fewer : (bytes sheet work : List ℕ) (job : Job) (c : Content) → Shows bytes sheet work job c
+    → (plan : Plan) → Allowed job plan → PlanServes job plan → planLength (job .layout) plan ≡ c .length
+    → (enteredAisles (c .plan) ≤ enteredAisles plan)
+    × (enteredAisles plan ≡ enteredAisles (c .plan) → PlanBefore (job .layout .cells) plan (c .plan) → ⊥)
+fewer = FewerAisles.fewest-shown
+
+-- the plan before the request was document 01's: "among the shortest plans serving the list take the first"
+pub before-is-first : (job : Job) → Admitted job → Allowed job (bestBefore job) × PlanServes job (bestBefore job)
+    × ((plan : Plan) → Allowed job plan → PlanServes job plan → (planLength (job .layout) (bestBefore job) ≤ planLength (job .layout) plan)
+    × (planLength (job .layout) plan ≤ planLength (job .layout) (bestBefore job)
+    → (plan ≡ bestBefore job) ⊎ PlanBefore (job .layout .cells) (bestBefore job) plan))
+before-is-first = FewerAisles.before-first
+
+-- "Lengths don't move." The plan is as long as the one before
+pub lengths-stay : (job : Job) → Admitted job → planLength (job .layout) (bestPlan job) ≡ planLength (job .layout) (bestBefore job)
+lengths-stay = FewerAisles.same-length
+
+-- so the length on the sheet is the one before
+pub lengths-stay-shown : (bytes sheet work : List ℕ) (job : Job) (c : Content) → Shows bytes sheet work job c
+    → c .length ≡ planLength (job .layout) (bestBefore job)
+lengths-stay-shown = FewerAisles.length-shown
+
+-- "A store `3 3 2 1 2 5 2` with stock 1 3 7 2, 2 1 7 1, 3 1 7 1 and list 7×2 shows it under EXACT. Before, VOID 00 BOTTOM 1 02 BOTTOM 1; now
+-- BOTTOM 3 02 VOID 00 VOID; both are 18."
+pub fewer-moves :
+    let before : Plan = record { actions = Void ∷ Bottom 1 ∷ Bottom 1 ∷ []; passages = P00 ∷ P02 ∷ [] } in
+    let now : Plan = record { actions = Bottom 3 ∷ Void ∷ Void ∷ []; passages = P02 ∷ P00 ∷ [] } in
+    (bestBefore (fewerStore Exact) ≡ before) × (planLength (fewerStore Exact .layout) before ≡ 18)
+    × (bestPlan (fewerStore Exact) ≡ now) × (planLength (fewerStore Exact .layout) now ≡ 18)
+fewer-moves = FewerAisles.moved
+
+-- there are such calls: that store
+pub fewer-met : (sheet work : List ℕ) → sheetLimit ≤ length sheet → workLimit ≤ length work
+    → Shows (jobText (fewerStore Exact)) sheet work (fewerStore Exact) (best (fewerStore Exact))
+fewer-met = FewerAisles.met
+
+-- the order of length, aisles and document 01's order under each policy, and that VOID aisles do not count is pinned by cases of its own
+pub fewer-cases-hold : AllHold fewerCases
+fewer-cases-hold = Cases.fewer-cases-hold

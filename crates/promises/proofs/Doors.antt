@@ -80,13 +80,14 @@ other-own f rules = record { actions = rules .actions; passages = rules .passage
 other-rules : {A B : Type 0} {job : Job} {plan : Plan} → (A → B) → AllowedBy A job plan → AllowedBy B job plan
 other-rules f allowed = record { lawful = allowed .lawful; follows = f (allowed .follows); shut = allowed .shut }
 
--- the first of the shortest goes by what is allowed alone
+-- the best plan goes by what is allowed alone
 other-allowed : {A B : Plan → Type 0} {job : Job} {plan : Plan} → ((p : Plan) → A p ↔ B p) → BestAmong A job plan → BestAmong B job plan
 other-allowed {plan = plan} same best =
     record {
       allowed = same plan .0 (best .allowed);
       serving = best .serving;
       least = λ other a. best .least other (same other .1 a);
+      fewest = λ other a. best .fewest other (same other .1 a);
       first = λ other a. best .first other (same other .1 a);
     }
 
@@ -105,11 +106,11 @@ module _ (job : Job) (word : job .policy ≡ Traversal) (low : 2 * job .layout .
       let own = follows-own job plan word in
       (other-rules (λ r. own .1 (other-own (rule .0) r)), other-rules (λ f. other-own (rule .1) (own .0 f)))
 
-  -- so the first of the shortest is the same
+  -- so the best is the same
   pub same-best : (plan : Plan) → BestAmong (AllowedBefore job) job plan ↔ IsBest job plan
   same-best plan = (other-allowed same-allowed, other-allowed (λ p. (same-allowed p .1, same-allowed p .0)))
 
-  -- what a sheet shows is the first of the shortest by the rule before, and no other plan is
+  -- what a sheet shows is the best by the rule before, and no other plan is
   pub same-shown : (bytes sheet work : List ℕ) (c : Content) → Shows bytes sheet work job c
       → (plan : Plan) → BestAmong (AllowedBefore job) job plan ↔ (plan ≡ c .plan)
   unfolding contentOf
@@ -174,7 +175,7 @@ pub moved : PlanServes (doorAt 3 Traversal) lastWalkedBack × (planLength (doorA
 unfolding PlanServes doorCases doorAt ownJob stocked _⨯_ supply serves planPasses actionAt passageAt multiplicity lengthOf planLength edgesOf distance aisleLength position
 moved = (serves-test (doorAt 3 Traversal) (planPasses lastWalkedBack) .0 refl, refl, door-cases-hold .0 .0)
 
--- so the tour of now is not the first of the shortest by the rule before
+-- so the tour of now is not the best by the rule before
 pub not-before : BestAmong (AllowedBefore (doorAt 3 Traversal)) (doorAt 3 Traversal) (bestPlan (doorAt 3 Traversal)) → ⊥
 not-before b = omega (arith, b .least lastWalkedBack allowed-before (moved .0), moved .1, moved .2 .length)
 

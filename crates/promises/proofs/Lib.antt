@@ -14,6 +14,7 @@ pub mod LargestGap
 pub mod StockTest
 pub mod OpeningHours
 pub mod Doors
+pub mod FewerAisles
 pub mod PageCalls
 pub mod Clipboard
 pub mod PageHost

@@ -63,6 +63,7 @@ best-shortest job a =
       serves = b .serving;
       its-length = refl;
       least = b .least;
+      fewest = b .fewest;
       tie = b .first;
       least-walk = best-walk job a;
     }

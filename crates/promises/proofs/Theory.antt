@@ -40,7 +40,7 @@ largest-gap-is-tested = Stops.largest-gap
 pub serving-plan : (job : Job) → Admitted job → (plan : Plan) × Allowed job plan × PlanServes job plan
 serving-plan = Existence.allowed-exists
 
--- the best plan is the first of the shortest among them, and no other plan is
+-- the best plan is the first of the shortest among them that enter the fewest aisles, and no other plan is
 pub best-plan-is-best : (job : Job) → Admitted job → (plan : Plan) → IsBest job plan ↔ (plan ≡ bestPlan job)
 best-plan-is-best job a plan = (best-plan-only job a plan, λ e. subst (IsBest job) (sym e) (best-plan job a))
 

@@ -17,7 +17,7 @@ use Rattle.rules.specs.Store.{Edge, InStore}
 use Rattle.rules.specs.Jobs.{Job, openStock}
 use Rattle.rules.specs.JobFile.{lineFeed, header, field}
 use Rattle.rules.specs.Plans.{Plan, WellFormed, multiplicity, lengthOf, planLength, planPasses}
-use Rattle.rules.specs.Policies.{Allowed}
+use Rattle.rules.specs.Policies.{enteredAisles, Allowed}
 use Rattle.rules.specs.Serving.{PlanServes, WalkServes}
 use Rattle.rules.specs.Walks.{Walk, ClosedWalk, KeepsToOpen, NotAfter, walkTreads, walkLength}
 use Rattle.rules.specs.Picks.{TakenFrom, PickBefore}
@@ -75,7 +75,7 @@ pub record Obeys (job : Job) (c : Content) : Type 0 where
   pub walk-first : (walk : Walk) → WalkOf (job .layout) (c .plan) walk → NotAfter (c .walk) walk
 
 -- the plan is allowed and serves the list, the length is its own, and no plan that is allowed and serves the list is shorter;
--- one that is no longer is the plan itself or comes behind it in the order of plans;
+-- one that is no longer enters no fewer aisles, and if it enters no more, it is the plan itself or comes behind it in the order of plans;
 -- under EXACT no closed walk that serves the list and treads no edge of a shut aisle is shorter, whatever its steps, the one of no
 -- steps included
 pub record Shortest (job : Job) (c : Content) : Type 0 where
@@ -83,7 +83,9 @@ pub record Shortest (job : Job) (c : Content) : Type 0 where
   pub serves : PlanServes job (c .plan)
   pub its-length : c .length ≡ planLength (job .layout) (c .plan)
   pub least : (plan : Plan) → Allowed job plan → PlanServes job plan → c .length ≤ planLength (job .layout) plan
-  pub tie : (plan : Plan) → Allowed job plan → PlanServes job plan → planLength (job .layout) plan ≤ c .length → (plan ≡ c .plan) ⊎ PlanBefore (job .layout .cells) (c .plan) plan
+  pub fewest : (plan : Plan) → Allowed job plan → PlanServes job plan → planLength (job .layout) plan ≤ c .length → enteredAisles (c .plan) ≤ enteredAisles plan
+  pub tie : (plan : Plan) → Allowed job plan → PlanServes job plan → planLength (job .layout) plan ≤ c .length → enteredAisles plan ≤ enteredAisles (c .plan)
+      → (plan ≡ c .plan) ⊎ PlanBefore (job .layout .cells) (c .plan) plan
   pub least-walk : job .policy ≡ Exact → (walk : Walk) → ClosedWalk (job .layout) walk → KeepsToOpen (job .layout) (job .hours) walk → WalkServes job walk
       → c .length ≤ walkLength (job .layout) walk
 

@@ -7,3 +7,4 @@ pub mod Pages
 pub mod StockTests
 pub mod OpeningHours
 pub mod Doors
+pub mod FewerAisles

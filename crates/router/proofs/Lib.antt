@@ -1,4 +1,5 @@
 pub mod FirstRanks
+pub mod Attaining
 pub mod ChoiceLaws
 pub mod TraceLaws
 pub mod TraceRows

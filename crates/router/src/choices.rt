@@ -1,4 +1,4 @@
-// The first action and the first passage that attain a value of the table, found by comparing sums.
+// The first action and the first passage that attain what is sought: a length, and the fewest entered aisles of the whole plan.
 use crate::ranks::action_at;
 use crate::ranks::action_count;
 use crate::ranks::action_of;
@@ -11,6 +11,7 @@ use demand::digits::DEMANDS;
 use demand::digits::wide;
 use machine::action_step;
 use machine::passage_step;
+use rows::entered_of;
 use rows::step_value;
 use rules::Action;
 use table::passages::passage_length;
@@ -20,12 +21,11 @@ ghost use Rattle.machine.specs.Steps.{passageOf};
 ghost use Rattle.optimum.specs.Routing.{noTour, sat};
 ghost use Rattle.demand.specs.Digits.{demands};
 ghost use Rattle.rows.specs.Rows.{states};
-ghost use Rattle.router.specs.Choosing.{ActionAsked, ActionTaken, Attained, FirstRank, OfAisle, PassageTaken, crossTo, stepTo, valueAt, wayOn, wayOver};
+ghost use Rattle.router.specs.Choosing.{ActionAsked, ActionTaken, Attained, FirstRank, OfAisle, PassageAsked, PassageTaken, crossTo, isAttained, onAttains, overAttains, stepTo, valueAt, withAisle};
 ghost use Rattle.rules.specs.BestPlan.{actionsOf, passagesInOrder};
 ghost use Rattle.rules.specs.declared.Action.the-variants.{Void};
 ghost use Rattle.rules.specs.declared.Passage.the-variants.{P00};
 ghost use Rattle.aisles.specs.Layers.{AisleReady, InRange};
-ghost use Rattle.table.specs.Crossings.{NextReady};
 ghost use lib.ListN.{getD, length, take};
 ghost use mathlib.Core.Path.{_≡_};
 
@@ -35,17 +35,28 @@ pub struct At {
     pub demand: usize,
 }
 
-// An action that is chosen, where it leads, and the least that follows from there.
-pub struct Taken {
-    pub action: Action,
+// What is sought from where a trace stands: a length, and the entered aisles of the whole plan. The aisles that it has entered so far are a set,
+// a bit each; the bit of the aisle that it is in has the number `aisle`, and so many are left behind it.
+pub struct Sought {
     pub at: At,
-    pub rest: usize,
+    pub length: usize,
+    pub fewest: usize,
+    pub entered: u16,
+    pub aisle: usize,
+    pub left: usize,
 }
 
-// The stage of an aisle whose passage is chosen too, and where that leads.
+// An action that is chosen, and what is sought behind it.
+pub struct Taken {
+    pub action: Action,
+    pub sought: Sought,
+}
+
+// The stage of an aisle whose passage is chosen too, where that leads, and the aisles that are entered by then.
 pub struct Crossed {
     pub stage: Stage,
     pub at: At,
+    pub entered: u16,
 }
 
 // What stands for no tour.
@@ -68,6 +79,36 @@ pub fn value_at(row: &[u16], at: At) -> usize
     wide(step_value(row, at.state, at.demand))
 }
 
+// The set of entered aisles with the one of that number, if an action of the kind enters it: every one but VOID does.
+fn with_aisle(entered: u16, aisle: usize, kind: usize) -> u16
+    requires { ⌜ aisle < 16 ⌝ }
+    ensures { λ r. ⌜ r ≡ withAisle entered aisle kind ⌝ }
+{
+    if kind == 0 {
+        return entered;
+    }
+    entered | (1 << aisle)
+}
+
+// A number as a wider one.
+fn widened(n: u32) -> usize
+    ensures { λ r. ⌜ r ≡ n ⌝ }
+{
+    n as usize
+}
+
+// Whether a way attains what is sought: it has the length; and its entered aisles, counted, and those that the rest enters, which has a one for each
+// aisle that it spares of those left, are the fewest.
+fn is_attained(g: Sought, entered: u16, length: usize, spared: u16) -> bool
+    requires { ⌜ g .left ≤ 16 ⌝ }
+    ensures { λ r. ⌜ r ≡ isAttained g entered length spared ⌝ }
+{
+    if length == g.length {
+        return widened(u16::count_ones(entered)) + entered_of(g.left, spared) == g.fewest;
+    }
+    false
+}
+
 // Where a candidate leads.
 fn step_to<'a>(fronts: &'a [u16], backs: &'a [u16], x: Aisle, at: At, c: Candidate) -> At
     requires { ⌜ AisleReady x (now fronts) (now backs) × OfAisle x c × (at .state < 9) × (at .demand < x .weight) ⌝ }
@@ -83,34 +124,45 @@ fn step_to<'a>(fronts: &'a [u16], backs: &'a [u16], x: Aisle, at: At, c: Candida
     At { state, demand }
 }
 
-// The way over the action of a rank: its length and the least that follows.
-fn over<'a>(after: &[u16], fronts: &'a [u16], backs: &'a [u16], x: Aisle, at: At, k: usize) -> usize
-    requires { ⌜ ActionAsked x (now after) (now fronts) (now backs) at × (k < length (actionsOf (x .layout .cells))) ⌝ }
-    ensures { λ r. ⌜ r ≡ wayOver x (now (after .entry)) (now (fronts .entry)) (now (backs .entry)) at (getD (actionsOf (x .layout .cells)) k Void) ⌝ }
-{
-    let z = x.layout;
-    let c = action_at(z.cells, k);
-    let to = step_to(fronts, backs, x, at, c);
-    plus(action_length(z, c), value_at(after, to))
-}
-
-// The rank of the first action over which the way has that value.
-fn choose_action<'a>(
-    after: &[u16],
+// Whether the way over the action of a rank attains what is sought.
+fn over<'a>(
+    after: &'a [u16],
+    theirs: &'a [u16],
     fronts: &'a [u16],
     backs: &'a [u16],
     x: Aisle,
-    at: At,
-    value: usize,
+    g: Sought,
+    k: usize,
+) -> bool
+    requires { ⌜ ActionAsked x (now after) (now theirs) (now fronts) (now backs) g × (k < length (actionsOf (x .layout .cells))) ⌝ }
+    ensures { λ r. ⌜ r ≡ overAttains x (now (after .entry)) (now (theirs .entry)) (now (fronts .entry)) (now (backs .entry)) g (getD (actionsOf (x .layout .cells)) k Void) ⌝ }
+{
+    let z = x.layout;
+    let c = action_at(z.cells, k);
+    let to = step_to(fronts, backs, x, g.at, c);
+    let length = plus(action_length(z, c), value_at(after, to));
+    let spared = step_value(theirs, to.state, to.demand);
+    let entered = with_aisle(g.entered, g.aisle, c.kind);
+    is_attained(g, entered, length, spared)
+}
+
+// The rank of the first action over which the way attains what is sought.
+fn choose_action<'a>(
+    after: &'a [u16],
+    theirs: &'a [u16],
+    fronts: &'a [u16],
+    backs: &'a [u16],
+    x: Aisle,
+    g: Sought,
 ) -> usize
-    requires { ⌜ ActionAsked x (now after) (now fronts) (now backs) at ⌝ }
-    ensures { λ r. ⌜ FirstRank (wayOver x (now (after .entry)) (now (fronts .entry)) (now (backs .entry)) at) value (actionsOf (x .layout .cells)) Void r ⌝ }
+    requires { ⌜ ActionAsked x (now after) (now theirs) (now fronts) (now backs) g ⌝ }
+    ensures { λ r. ⌜ FirstRank (overAttains x (now (after .entry)) (now (theirs .entry)) (now (fronts .entry)) (now (backs .entry)) g) (actionsOf (x .layout .cells)) Void r ⌝ }
 {
     let cells = x.layout.cells;
     let count = action_count(cells);
     let mut k = 0;
     while k < count {
-        if over(after, fronts, backs, x, at, k) == value {
+        if over(after, theirs, fronts, backs, x, g, k) {
             return k;
         }
         k += 1;
@@ -118,29 +170,35 @@ fn choose_action<'a>(
     count
 }
 
-// The first action over which the way has that value, which some action has.
+// The first action over which the way attains what is sought, which some action does.
 pub fn take_action<'a>(
-    after: &[u16],
+    after: &'a [u16],
+    theirs: &'a [u16],
     fronts: &'a [u16],
     backs: &'a [u16],
     x: Aisle,
-    at: At,
-    value: usize,
+    g: Sought,
 ) -> Taken
-    requires { ⌜ ActionAsked x (now after) (now fronts) (now backs) at × Attained (wayOver x (now after) (now fronts) (now backs) at) value (actionsOf (x .layout .cells)) ⌝ }
-    ensures { λ r. ⌜ ActionTaken x (now (after .entry)) (now (fronts .entry)) (now (backs .entry)) at value r ⌝ }
+    requires { ⌜ ActionAsked x (now after) (now theirs) (now fronts) (now backs) g
+        × Attained (overAttains x (now after) (now theirs) (now fronts) (now backs) g) (actionsOf (x .layout .cells)) ⌝ }
+    ensures { λ r. ⌜ ActionTaken x (now (after .entry)) (now (theirs .entry)) (now (fronts .entry)) (now (backs .entry)) g r ⌝ }
 {
     let cells = x.layout.cells;
-    let k = choose_action(after, fronts, backs, x, at, value);
+    let k = choose_action(after, theirs, fronts, backs, x, g);
     let c = action_at(cells, k);
-    let to = step_to(fronts, backs, x, at, c);
-    let rest = value_at(after, to);
+    let at = step_to(fronts, backs, x, g.at, c);
+    let length = value_at(after, at);
+    let entered = with_aisle(g.entered, g.aisle, c.kind);
     let action = action_of(c);
-    Taken {
-        action,
-        at: to,
-        rest,
-    }
+    let sought = Sought {
+        at,
+        length,
+        fewest: g.fewest,
+        entered,
+        aisle: g.aisle,
+        left: g.left,
+    };
+    Taken { action, sought }
 }
 
 // Where a passage leads.
@@ -153,24 +211,26 @@ fn cross_to(x: Aisle, at: At, p: usize) -> At
     At { state, demand }
 }
 
-// The way on over the passage of a number.
-fn through(next: &[u16], x: Aisle, at: At, p: usize) -> usize
-    requires { ⌜ NextReady x (now next) (at .state) (at .demand) × (p < 5) ⌝ }
-    ensures { λ r. ⌜ r ≡ wayOn x (now (next .entry)) at (passageOf p) ⌝ }
+// Whether the way on over the passage of a number attains what is sought.
+fn through<'a>(next: &'a [u16], theirs: &'a [u16], x: Aisle, g: Sought, p: usize) -> bool
+    requires { ⌜ PassageAsked x (now next) (now theirs) g × (p < 5) ⌝ }
+    ensures { λ r. ⌜ r ≡ onAttains x (now (next .entry)) (now (theirs .entry)) g (passageOf p) ⌝ }
 {
-    let to = cross_to(x, at, p);
-    plus(passage_length(p, x.layout.width), value_at(next, to))
+    let to = cross_to(x, g.at, p);
+    let length = plus(passage_length(p, x.layout.width), value_at(next, to));
+    let spared = step_value(theirs, to.state, to.demand);
+    is_attained(g, g.entered, length, spared)
 }
 
-// The number of the first passage over which the way on has that value.
-fn choose_passage(next: &[u16], x: Aisle, at: At, value: usize) -> usize
-    requires { ⌜ NextReady x (now next) (at .state) (at .demand) ⌝ }
-    ensures { λ r. ⌜ FirstRank (wayOn x (now (next .entry)) at) value (take (x .tried) passagesInOrder) P00 r ⌝ }
+// The number of the first passage over which the way on attains what is sought.
+fn choose_passage<'a>(next: &'a [u16], theirs: &'a [u16], x: Aisle, g: Sought) -> usize
+    requires { ⌜ PassageAsked x (now next) (now theirs) g ⌝ }
+    ensures { λ r. ⌜ FirstRank (onAttains x (now (next .entry)) (now (theirs .entry)) g) (take (x .tried) passagesInOrder) P00 r ⌝ }
 {
     let tried = x.tried;
     let mut p = 0;
     while p < tried {
-        if through(next, x, at, p) == value {
+        if through(next, theirs, x, g, p) {
             return p;
         }
         p += 1;
@@ -178,16 +238,20 @@ fn choose_passage(next: &[u16], x: Aisle, at: At, value: usize) -> usize
     tried
 }
 
-// The first passage over which the way on behind an action has the least length, and the stage that the two make.
-pub fn take_passage(next: &[u16], x: Aisle, a: Taken) -> Crossed
-    requires { ⌜ NextReady x (now next) (a .at .state) (a .at .demand) × Attained (wayOn x (now next) (a .at)) (a .rest) (take (x .tried) passagesInOrder) ⌝ }
-    ensures { λ r. ⌜ PassageTaken x (now (next .entry)) a r ⌝ }
+// The first passage over which the way on behind an action attains what is sought there, and the stage that the two make.
+pub fn take_passage<'a>(next: &'a [u16], theirs: &'a [u16], x: Aisle, a: Taken) -> Crossed
+    requires { ⌜ PassageAsked x (now next) (now theirs) (a .sought) × Attained (onAttains x (now next) (now theirs) (a .sought)) (take (x .tried) passagesInOrder) ⌝ }
+    ensures { λ r. ⌜ PassageTaken x (now (next .entry)) (now (theirs .entry)) a r ⌝ }
 {
-    let at = a.at;
+    let g = a.sought;
     let action = a.action;
-    let p = choose_passage(next, x, at, a.rest);
-    let to = cross_to(x, at, p);
+    let p = choose_passage(next, theirs, x, g);
+    let at = cross_to(x, g.at, p);
     let passage = passage_of(p);
     let stage = Stage { action, passage };
-    Crossed { stage, at: to }
+    Crossed {
+        stage,
+        at,
+        entered: g.entered,
+    }
 }

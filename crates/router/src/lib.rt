@@ -1,10 +1,11 @@
-// The router: for an admitted job, the first of the shortest allowed plans that serve its list.
+// The router: for an admitted job, of the shortest allowed plans that serve its list the first of those that enter the fewest aisles.
 //
 // Read out of the table (crate `table`) aisle by aisle, from the first to the last; for an empty list it treads nothing.
 mod choices;
 mod ranks;
 mod trace;
 
+use rows::NUMBERS;
 use rows::STATES;
 use rules::Action;
 use rules::Layout;
@@ -23,6 +24,9 @@ ghost use Rattle.table.specs.TableHolds.{OrderOf};
 ghost use Rattle.values.specs.Shelves.{ShelfOf};
 ghost use Rattle.rules.specs.BestPlan.{emptyPlan};
 ghost use Rattle.values.specs.Values.{jobOf, planOf, RoutedOf, Sound};
+
+// The numbers of a table: a row for each of sixteen aisles.
+const WORK_AREA: usize = 16 * NUMBERS;
 
 // What the table needs of a job.
 fn order_of(job: JobValue, shelf: Shelf) -> Order
@@ -55,8 +59,8 @@ fn empty_plan(layout: Layout) -> PlanValue
     PlanValue { aisles, stages }
 }
 
-// The best plan of a job and its length. The work area holds the table on the way, and is all zero at the end. For an empty
-// list no table is needed.
+// The best plan of a job and its length. The work area holds the table's lengths on the way, and is all zero at the end; what goes with each length
+// stands in an array of the router's own. For an empty list no table is needed.
 pub fn route(job: JobValue, shelf: Shelf, work: &mut [u16]) -> Routed
     requires { ⌜ Sound job × ShelfOf (jobOf job) shelf × (workArea ≤ length (now work)) ⌝ }
     ensures { λ r. ⌜ RoutedOf (jobOf job) r × (now (work .exit) ≡ replicate (length (now (work .entry))) 0) ⌝ }
@@ -69,8 +73,9 @@ pub fn route(job: JobValue, shelf: Shelf, work: &mut [u16]) -> Routed
     }
     let o = order_of(job, shelf);
     let weight = o.digits.weight;
-    table::filling::fill_table(work, o);
-    let plan = trace::read_plan(work, o);
+    let mut spared = [0u16; WORK_AREA];
+    table::filling::fill_table(work, &mut spared, o);
+    let plan = trace::read_plan(work, &spared, o);
     // aisle 1, the whole list open, nothing trodden yet
     let length = demand::digits::wide(work[(weight - 1) * STATES]);
     table::filling::clear(work);

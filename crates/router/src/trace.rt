@@ -1,12 +1,15 @@
 // The plan that the table leads to, aisle by aisle.
 use crate::choices::At;
 use crate::choices::Crossed;
+use crate::choices::Sought;
 use crate::choices::take_action;
 use crate::choices::take_passage;
 use crate::choices::value_at;
 use demand::maps::MAP;
 use demand::maps::fill_maps;
 use rows::NUMBERS;
+use rows::STATES;
+use rows::entered_of;
 use rules::Action;
 use rules::Passage;
 use table::filling::Order;
@@ -25,11 +28,13 @@ ghost use Rattle.values.specs.Values.{planOf};
 ghost use lib.ListN.{length};
 ghost use mathlib.Core.Path.{_≡_};
 
-// A trace: the stages found, and where it stands behind them. At the start that is state 0, nothing trodden, and
-// demand weight - 1, the whole list.
+// A trace: the stages found, where it stands behind them, the set of the aisles that they enter, and the entered aisles of the whole plan. At the start
+// it stands in state 0, nothing trodden, and at demand weight - 1, the whole list.
 pub struct Trace {
     pub stages: [Stage; 16],
     pub at: At,
+    pub entered: u16,
+    pub fewest: usize,
 }
 
 // A trace with the stage of the aisle behind the n that are seen.
@@ -41,17 +46,30 @@ fn with_stage(t: Trace, n: usize, p: Crossed) -> Trace
     let at = p.at;
     let mut stages = t.stages;
     stages[n] = stage;
-    Trace { stages, at }
+    Trace {
+        stages,
+        at,
+        entered: p.entered,
+        fewest: t.fewest,
+    }
 }
 
-// The trace over one more aisle, the one behind the n that are seen: out of the next row, and the table's value here.
-fn trace_aisle(next: &[u16], o: Order, n: usize, t: Trace, here: usize) -> Trace
-    requires { ⌜ ((job : Job) × OrderOf job o × TraceAsked job n t (now next) here) × (numbers ≤ length (now next)) ⌝ }
-    ensures { λ r. ⌜ ((job : Job) → OrderOf job o → TraceAsked job n t (now (next .entry)) here → Traced job (suc n) r) ⌝ }
+// The trace over one more aisle, the one behind the n that are seen: out of the next rows, and the table's length here.
+fn trace_aisle<'a>(
+    next: &'a [u16],
+    theirs: &'a [u16],
+    o: Order,
+    n: usize,
+    t: Trace,
+    here: usize,
+) -> Trace
+    requires { ⌜ ((job : Job) × OrderOf job o × TraceAsked job n t (now next) (now theirs) here) × (numbers ≤ length (now next)) × (numbers ≤ length (now theirs)) ⌝ }
+    ensures { λ r. ⌜ ((job : Job) → OrderOf job o → TraceAsked job n t (now (next .entry)) (now (theirs .entry)) here → Traced job (suc n) r) ⌝ }
 {
     let mut fronts = [0u16; MAP];
     let mut backs = [0u16; MAP];
     let mut after = [0u16; NUMBERS];
+    let mut ones = [0u16; NUMBERS];
     let j = n + 1;
     fill_maps(
         &mut fronts,
@@ -62,34 +80,47 @@ fn trace_aisle(next: &[u16], o: Order, n: usize, t: Trace, here: usize) -> Trace
         j,
     );
     let x = aisle_of(o, j);
-    fill_after(&mut after, next, x);
-    let a = take_action(&after, &fronts, &backs, x, t.at, here);
-    let p = take_passage(next, x, a);
+    fill_after(&mut after, &mut ones, next, theirs, x);
+    let at = t.at;
+    let g = Sought {
+        at,
+        length: here,
+        fewest: t.fewest,
+        entered: t.entered,
+        aisle: n,
+        left: o.layout.aisles - j,
+    };
+    let a = take_action(&after, &ones, &fronts, &backs, x, g);
+    let p = take_passage(next, theirs, x, a);
     with_stage(t, n, p)
 }
 
-// The same out of the work area: the row of the aisle has the value here, and behind the last aisle is the end.
-fn trace_on(work: &[u16], o: Order, n: usize, t: Trace) -> Trace
-    requires { ⌜ ((job : Job) × OrderOf job o × TableFrom job 1 (now work) × Traced job n t) × (n < o .layout .aisles) × (workArea ≤ length (now work)) ⌝ }
-    ensures { λ r. ⌜ ((job : Job) → OrderOf job o → TableFrom job 1 (now (work .entry)) → Traced job n t → Traced job (suc n) r) ⌝ }
+// The same out of the table: the row of the aisle has the length here, and behind the last aisle is the end.
+fn trace_on<'a>(work: &'a [u16], spared: &'a [u16], o: Order, n: usize, t: Trace) -> Trace
+    requires { ⌜ ((job : Job) × OrderOf job o × TableFrom job 1 (now work) (now spared) × Traced job n t) × (n < o .layout .aisles)
+        × (workArea ≤ length (now work)) × (workArea ≤ length (now spared)) ⌝ }
+    ensures { λ r. ⌜ ((job : Job) → OrderOf job o → TableFrom job 1 (now (work .entry)) (now (spared .entry)) → Traced job n t → Traced job (suc n) r) ⌝ }
 {
     let from = n * NUMBERS;
     let to = from + NUMBERS;
     let here = value_at(&work[from..to], t.at);
     if n + 1 < o.layout.aisles {
         let end = to + NUMBERS;
-        return trace_aisle(&work[to..end], o, n, t, here);
+        return trace_aisle(&work[to..end], &spared[to..end], o, n, t, here);
     }
     let last = end_row();
-    trace_aisle(&last, o, n, t, here)
+    let none = [0u16; NUMBERS];
+    trace_aisle(&last, &none, o, n, t, here)
 }
 
 // The best plan, read out of the table.
-pub fn read_plan(work: &[u16], o: Order) -> PlanValue
-    requires { ⌜ ((job : Job) × TableOf job o (now work)) × (workArea ≤ length (now work)) ⌝ }
-    ensures { λ r. ⌜ ((job : Job) → TableOf job o (now (work .entry)) → (r .aisles ≡ job .layout .aisles) × (planOf r ≡ bestPlan job)) ⌝ }
+pub fn read_plan<'a>(work: &'a [u16], spared: &'a [u16], o: Order) -> PlanValue
+    requires { ⌜ ((job : Job) × TableOf job o (now work) (now spared)) × (workArea ≤ length (now work)) × (workArea ≤ length (now spared)) ⌝ }
+    ensures { λ r. ⌜ ((job : Job) → TableOf job o (now (work .entry)) (now (spared .entry)) → (r .aisles ≡ job .layout .aisles) × (planOf r ≡ bestPlan job)) ⌝ }
 {
     let aisles = o.layout.aisles;
+    let whole = o.digits.weight - 1;
+    let fewest = entered_of(aisles, spared[whole * STATES]);
     let first = Stage {
         action: Action::Void,
         passage: Passage::P00,
@@ -98,12 +129,14 @@ pub fn read_plan(work: &[u16], o: Order) -> PlanValue
         stages: [first; 16],
         at: At {
             state: 0,
-            demand: o.digits.weight - 1,
+            demand: whole,
         },
+        entered: 0,
+        fewest,
     };
     let mut n = 0;
     while n < aisles {
-        t = trace_on(work, o, n, t);
+        t = trace_on(work, spared, o, n, t);
         n += 1;
     }
     let stages = t.stages;

@@ -1,1 +1,4 @@
 pub mod Relaxing
+pub mod Pairing
+pub mod Keys
+pub mod KeyRows

@@ -1,15 +1,22 @@
--- One more number of eight, one more demand of a row, one more state.
-use Prim.Native.Nat.{ℕ, _+_, _*_, _≤_, _<_, min}
+-- One more demand of a row, one more state, one more number of eight.
+use Prim.Native.Nat.{ℕ, _+_, _*_, _<_, min}
 use native.Mathlib.Omega.{arith}
-use mathlib.Core.Path.{_≡_, refl, sym, _∙_, ap, ap₂, subst}
+use mathlib.Core.Path.{_≡_, refl, sym, _∙_, ap, subst}
 use mathlib.Core.Logic.{inl, inr, ⊎-elim}
 use mathlib.Core.List.{List}
 use lib.ListN.{length, getD, set, length-set}
 use lib.Seq.{getD-set-same, getD-set-other}
-use Rattle.optimum.specs.Least.{sumUpTo}
 use Rattle.optimum.specs.Routing.{sat}
 use Rattle.demand.proofs.Filling.{below}
 use Rattle.rows.specs.Rows.{tab, Shorter, StoredTo, RelaxedRow, nextAt, StateSet, Permuted}
+
+-- eight more numbers of a row, whose numbers up to a demand are as a function says, stored behind them
+pub demand-one : (f : ℕ → ℕ → ℕ) (row row′ v : List ℕ) (q : ℕ) → ((s k : ℕ) → s < 8 → k < q → tab row s k ≡ f s k) → StoredTo row row′ v (q * 8) 8
+    → ((s : ℕ) → s < 8 → getD v s 0 ≡ f s q) → (s k : ℕ) → s < 8 → k < q + 1 → tab row′ s k ≡ f s k
+demand-one f row row′ v q done t here s k l h =
+    ⊎-elim (λ m. t .rest (k * 8 + s) (inl (omega arith)) ∙ done s k l m)
+    (λ p. subst (λ n. tab row′ s n ≡ f s n) (sym p) (t .done s l ∙ here s l))
+    (below k q h)
 
 -- at first no demand is relaxed
 pub row-none : (row perm map : List ℕ) (base cost : ℕ) → RelaxedRow row row perm map base cost 0
@@ -22,23 +29,17 @@ pub row-one : (row row′ row″ v perm map : List ℕ) (base cost q from : ℕ)
 row-one row row′ row″ v perm map base cost q from r u t e =
     record {
       kept = t .kept ∙ r .kept;
-      done = λ s k l h. ⊎-elim (λ m. t .rest (k * 8 + s) (inl (omega arith)) ∙ r .done s k l m) (λ p. here s k l p) (below k q h);
+      done = demand-one shorter row′ row″ v q (r .done) t here;
       rest = λ k h. t .rest k (inr (omega arith)) ∙ r .rest k (omega arith);
     }
   where
-    here : (s k : ℕ) → s < 8 → k ≡ q → tab row″ s k ≡ min (tab row s k) (sat cost (tab perm s (getD map (base + k) 0)))
-    here s k l p =
-        rw p
-        (t .done s l
-        ∙ u s l
-        ∙ ap₂ (λ n m. min n (sat cost (getD perm (m + s) 0))) (r .rest (q * 8 + s) (omega arith)) e)
+    shorter : ℕ → ℕ → ℕ
+    shorter s k = min (tab row s k) (sat cost (tab perm s (getD map (base + k) 0)))
 
--- nothing is shorter over a turn that is not there
-pub row-same : (row perm map : List ℕ) (base cost n : ℕ) → 65535 ≤ cost → ((k : ℕ) → getD row k 0 < 65536) → RelaxedRow row row perm map base cost n
-unfolding sumUpTo
-row-same row perm map base cost n none fits =
-    record { kept = refl; done = λ s q l h. omega (arith, fits (q * 8 + s)); rest = λ k h. refl }
+    here : (s : ℕ) → s < 8 → getD v s 0 ≡ shorter s q
+    here s l = let row-is = r .rest (q * 8 + s) (omega arith) in u s l ∙ rw (row-is, e) refl
 
+-- at first no demand of a state is set
 pub state-none : (perm after : List ℕ) (s to : ℕ) → StateSet perm perm after s to 0
 state-none perm after s to = record { kept = refl; done = λ q h. absurd (omega arith); rest = λ q t l n. refl; past = λ k h. refl }
 
@@ -60,6 +61,7 @@ state-one perm perm′ after s to q v small in-row r e =
         ∙ e
         ∙ ap (nextAt after to) (sym p)
 
+-- at first no state is set
 pub permuted-none : (perm after steps : List ℕ) (weight : ℕ) → Permuted perm perm after steps weight 0
 permuted-none perm after steps weight = record { kept = refl; done = λ s q l h. absurd (omega arith); past = λ k h. refl }
 
@@ -76,10 +78,11 @@ permuted-one perm perm′ perm″ after steps weight s small r t =
     here : (q : ℕ) → q < weight → (k : ℕ) → k ≡ s → tab perm″ k q ≡ nextAt after (getD steps k 0) q
     here q l k p = subst (λ n. tab perm″ n q ≡ nextAt after (getD steps n 0) q) (sym p) (t .done q l)
 
--- one more number of a row is stored
+-- at first no number is stored
 pub stored-none : (work row : List ℕ) (at : ℕ) → StoredTo work work row at 0
 stored-none work row at = record { kept = refl; done = λ k h. absurd (omega arith); rest = λ k h. refl }
 
+-- one more number
 pub stored-one : (work work′ row : List ℕ) (at i : ℕ) → at + i < length work → StoredTo work work′ row at i → StoredTo work (set work′ (at + i) (getD row i 0)) row at (i + 1)
 stored-one work work′ row at i in-work t =
     record {

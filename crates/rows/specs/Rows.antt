@@ -1,4 +1,4 @@
--- The rows of the work area: a demand's eight states side by side.
+-- The rows of the work area, of lengths or of ones: a demand's eight states side by side.
 use Prim.Native.Nat.{ℕ, _+_, _*_, _≤_, _<_, min}
 use mathlib.Core.Path.{_≡_}
 use mathlib.Core.List.{List}
@@ -25,7 +25,7 @@ workArea = 16 * numbers
 abbrev pub tab : List ℕ → ℕ → ℕ → ℕ
 tab row s q = getD row (q * states + s) 0
 
--- the first n of eight numbers: the shorter of a state's value and the way of that cost
+-- the first n of eight lengths: the shorter of a state's length and the way of that cost
 abbrev pub Shorter : List ℕ → ℕ → List ℕ → ℕ → ℕ → List ℕ → ℕ → Type 0
 Shorter row at perm from cost out n =
     (s : ℕ) → s < n → getD out s 0 ≡ min (getD row (at + s) 0) (sat cost (getD perm (from + s) 0))
@@ -36,32 +36,24 @@ pub record StoredTo (row row′ some : List ℕ) (at n : ℕ) : Type 0 where
   pub done : (k : ℕ) → k < n → getD row′ (at + k) 0 ≡ getD some k 0
   pub rest : (k : ℕ) → (k < at) ⊎ (at + n ≤ k) → getD row′ k 0 ≡ getD row k 0
 
--- what relaxing a row needs: lists that are long enough, demands that stay below the weight
-pub record RelaxReady (row perm map : List ℕ) (base weight : ℕ) : Type 0 where
-  pub small : weight ≤ demands
-  pub row-long : weight * states ≤ length row
-  pub perm-long : weight * states ≤ length perm
-  pub map-long : base + weight ≤ length map
-  pub below : (q : ℕ) → q < weight → getD map (base + q) 0 < weight
-
--- the first n demands of a row have the shorter of their values and the way of that cost; nothing else changes
+-- the first n demands of a row of lengths have the shorter of their lengths and the way of that cost; nothing else changes
 pub record RelaxedRow (row row′ perm map : List ℕ) (base cost n : ℕ) : Type 0 where
   pub kept : length row′ ≡ length row
   pub done : (s q : ℕ) → s < states → q < n → tab row′ s q ≡ min (tab row s q) (sat cost (tab perm s (getD map (base + q) 0)))
   pub rest : (k : ℕ) → n * states ≤ k → getD row′ k 0 ≡ getD row k 0
 
--- the value of a state in a row; none of the dead one
+-- the number of a state in a row; that of 'none' for the dead one
 unfoldable pub nextAt : List ℕ → ℕ → ℕ → ℕ
 nextAt next s q = cond (ltb s states) (tab next s q) noTour
 
--- for the first n demands a row has at state s the value of state `to` in another; all else is as it was
+-- for the first n demands a row has at state s the number of state `to` in another; all else is as it was
 pub record StateSet (perm perm′ after : List ℕ) (s to n : ℕ) : Type 0 where
   pub kept : length perm′ ≡ length perm
   pub done : (q : ℕ) → q < n → tab perm′ s q ≡ nextAt after to q
   pub rest : (q t : ℕ) → t < states → (t ≡ s → ⊥) → tab perm′ t q ≡ tab perm t q
   pub past : (k : ℕ) → n * states ≤ k → getD perm′ k 0 ≡ getD perm k 0
 
--- for the first n states a row has the value of the state that a step leads to; past the last demand it is as it was
+-- for the first n states a row has the number of the state that a step leads to; past the last demand it is as it was
 pub record Permuted (perm perm′ after steps : List ℕ) (weight n : ℕ) : Type 0 where
   pub kept : length perm′ ≡ length perm
   pub done : (s q : ℕ) → s < n → q < weight → tab perm′ s q ≡ nextAt after (getD steps s 0) q

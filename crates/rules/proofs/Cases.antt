@@ -9,9 +9,9 @@ use lib.ListN.{replicate}
 use Rattle.rules.specs.declared.Action.{Action}
 use Rattle.rules.specs.declared.Policy.{Policy}
 use Rattle.rules.specs.declared.Policy.the-variants.{Exact, Return, Traversal, Midpoint, Composite, Largest}
-use Rattle.rules.specs.declared.Action.the-variants.{Bottom}
+use Rattle.rules.specs.declared.Action.the-variants.{Void, Bottom, Once}
 use Rattle.rules.specs.declared.Passage.{Passage}
-use Rattle.rules.specs.declared.Passage.the-variants.{P02}
+use Rattle.rules.specs.declared.Passage.the-variants.{P00, P02, P11}
 use Rattle.rules.specs.declared.Refusal.the-variants.{NotAJobFile, LayoutBounds, StockBounds, CellTwice, HoursBounds, ArticleTwice, ShortOfStock, ListBounds, TooHeavy}
 use Rattle.rules.specs.Jobs.{Job}
 use Rattle.rules.specs.Plans.{Plan}
@@ -21,12 +21,13 @@ use Rattle.rules.proofs.Pruning.{fits, boundedBest, found-best}
 use Rattle.rules.specs.Lists.{allOf}
 use Rattle.rules.specs.Lengths.{actionLength, passageLength}
 use Rattle.rules.specs.Answers.{refused, served, answer, hostAnswer, output}
-use Rattle.rules.specs.BestPlan.{actionsOf, passagesInOrder, single, prepend, shorterOf, emptyPlan, servingPlans, bestPlan}
+use Rattle.rules.specs.BestPlan.{actionsOf, passagesInOrder, single, prepend, isBetter, betterOf, emptyPlan, servingPlans, bestPlan}
 use Rattle.rules.specs.Examples.{stocked, _⨯_, alpha, beta, steps, roundTrip, cases, ownJob, oneEach, midwayFront, midwayBack, farBack, nearBack, bothEnds, bottomOrTop, topOrGap, gapOrOnce, frontOrBack, leftFirst, topTie, withOthers, gapByFront, gapByBack, posted, thirdCells, beforeMiddle, behindMiddle, wrongLayout, wrongStock, sharedCell, sharedArticle, bothBottom, bothOnce, eightLines, nineLines, frontOnly, awayFromDepot, ownCases, twoLines, counted, fromTheBack, pageFromTheBack, texts, overfull, RefusedWith, workedJob, workedSheet, workedPage}
 use Rattle.rules.specs.Examples.{betaWith, cellsBetween, fourBetween, besideUnlisted, listedInGap, oneAisle, betweenEnds, largestCases, stopLists}
 use Rattle.rules.specs.Examples.{restocked, lookedCases, lookedTexts, AllLooked}
 use Rattle.rules.specs.Examples.{window, timed, sevenAt, inAisleOne, inAisleTwo, overstocked, hoursCases, hoursLooked, beforeList, noJobFile, hoursTexts}
 use Rattle.rules.specs.Examples.{doorAt, wantedIn, threePlaces, spareAisle, doorCases}
+use Rattle.rules.specs.Examples.{fewerStore, besideAisleOne, fewerApart, aisleOneAlone, pastOrInto, pastAisleTwo, fewerCases}
 use Rattle.rules.specs.Hours.{openAt, windowInBounds}
 use Rattle.rules.specs.FirstWalk.{without, stepsOf, firstWalk}
 use Rattle.rules.specs.JobFile.{numeral, field, header, sectionText, jobText, layoutText, layoutSectionText, recordText, windowText, lineText, isDigit, isNumber, readField, readHeader, readPolicyAs, readPolicy, readLayout, readPostsLine, readPosts, readRecord, readWindow, readMinute, readClock, readLine, readSection, readLayoutSection, readSections, readJob}
@@ -35,7 +36,7 @@ use Rattle.rules.specs.Looked.{withFirst, firstHold, lookedFor, looked, 
 use Rattle.rules.specs.Machine.{partKeeps, keepsLargestGap, actionPossible, actionStep, passageStep, treadsNothing, accepts}
 use Rattle.rules.specs.Picks.{cellsOf, lackOf, lessOf, recordAt, taken, passedRecords, picksOf}
 use Rattle.rules.specs.Plans.{actionAt, passageAt, multiplicity, lengthOf, planLength, planPasses}
-use Rattle.rules.specs.Policies.{inFrontHalf, inBackHalf, listedCells, untrodden}
+use Rattle.rules.specs.Policies.{enteredAisles, inFrontHalf, inBackHalf, listedCells, untrodden}
 use Rattle.rules.specs.Page.{aligned, column, pageLine, pickCell, pickedAt, alongWalk, pageOf, pageText}
 use Rattle.rules.specs.PageAnswers.{pageRefused, pageServed, pageAnswer, hostPageAnswer, pageOutput}
 use Rattle.rules.specs.Refusals.{recordInBounds, stockInBounds, sameCell, lineInBounds, listInBounds, sameArticle, weight, allStock, shortOfStock, jobRows, jobRefusal, checkJob, checkBytes, cleared, pageTable}
@@ -49,7 +50,7 @@ abbrev Found : Job → ℕ → List Action → List Passage → Type 0
 Found job n actions passages =
     (jobRefusal job ≡ none)
     × (allOf (fits (job .layout .cells)) (actionsOf (job .layout .cells)) ≡ true)
-    × (boundedBest job n ≡ some (n, record { actions = actions; passages = passages }))
+    × (boundedBest job n enteredAisles ≡ some (n, record { actions = actions; passages = passages }))
     × (planLength (job .layout) (record { actions = actions; passages = passages }) ≡ n)
 
 module _ (job : Job) (n : ℕ) (actions : List Action) (passages : List Passage) (f : Found job n actions passages) where
@@ -121,7 +122,7 @@ all-hold (c ∷ cs) (r, rs) = (row-holds c r, all-hold cs rs)
 
 -- the rows of the cases 1 to 14
 cases-computed : AllComputed cases
-unfolding actionsOf passagesInOrder single prepend shorterOf stocked _⨯_ alpha beta listed holdsListed actionPossible actionStep passageStep accepts actionAt passageAt multiplicity lengthOf planLength planPasses inFrontHalf inBackHalf supply serves aisleLength position backHeight depotPoint distance edgesOf boundedBest actionLength passageLength recordInBounds stockInBounds sameCell lineInBounds listInBounds sameArticle weight allStock shortOfStock jobRows jobRefusal within layoutInBounds without stepsOf firstWalk sameEdge samePoint isCrossing canStep stepTo stepEdge one steps roundTrip cases RefusedWith treadsNothing servingPlans
+unfolding actionsOf passagesInOrder single prepend isBetter betterOf enteredAisles stocked _⨯_ alpha beta listed holdsListed actionPossible actionStep passageStep accepts actionAt passageAt multiplicity lengthOf planLength planPasses inFrontHalf inBackHalf supply serves aisleLength position backHeight depotPoint distance edgesOf boundedBest actionLength passageLength recordInBounds stockInBounds sameCell lineInBounds listInBounds sameArticle weight allStock shortOfStock jobRows jobRefusal within layoutInBounds without stepsOf firstWalk sameEdge samePoint isCrossing canStep stepTo stepEdge one steps roundTrip cases RefusedWith treadsNothing servingPlans
 cases-computed =
     (refl, refl, refl, refl)
     ▸ ((refl, refl, refl, refl), record { allowed = refl; serving = refl; length = refl }, record { allowed = refl; serving = refl; length = refl })
@@ -146,7 +147,7 @@ cases-hold = all-hold cases cases-computed
 
 -- the rows of our own cases
 own-cases-computed : AllComputed ownCases
-unfolding actionsOf passagesInOrder single prepend shorterOf stocked _⨯_ alpha beta listed holdsListed actionPossible actionStep passageStep accepts actionAt passageAt multiplicity lengthOf planLength planPasses inFrontHalf inBackHalf supply serves aisleLength position backHeight depotPoint distance edgesOf boundedBest actionLength passageLength recordInBounds stockInBounds sameCell lineInBounds listInBounds sameArticle weight allStock shortOfStock jobRows jobRefusal within layoutInBounds without stepsOf firstWalk sameEdge samePoint isCrossing canStep stepTo stepEdge one steps RefusedWith ownJob oneEach midwayFront midwayBack farBack nearBack bothEnds bottomOrTop topOrGap gapOrOnce frontOrBack leftFirst topTie withOthers gapByFront gapByBack posted thirdCells beforeMiddle behindMiddle wrongLayout wrongStock sharedCell sharedArticle bothBottom bothOnce eightLines nineLines frontOnly awayFromDepot ownCases treadsNothing
+unfolding actionsOf passagesInOrder single prepend isBetter betterOf enteredAisles stocked _⨯_ alpha beta listed holdsListed actionPossible actionStep passageStep accepts actionAt passageAt multiplicity lengthOf planLength planPasses inFrontHalf inBackHalf supply serves aisleLength position backHeight depotPoint distance edgesOf boundedBest actionLength passageLength recordInBounds stockInBounds sameCell lineInBounds listInBounds sameArticle weight allStock shortOfStock jobRows jobRefusal within layoutInBounds without stepsOf firstWalk sameEdge samePoint isCrossing canStep stepTo stepEdge one steps RefusedWith ownJob oneEach midwayFront midwayBack farBack nearBack bothEnds bottomOrTop topOrGap gapOrOnce frontOrBack leftFirst topTie withOthers gapByFront gapByBack posted thirdCells beforeMiddle behindMiddle wrongLayout wrongStock sharedCell sharedArticle bothBottom bothOnce eightLines nineLines frontOnly awayFromDepot ownCases treadsNothing
 own-cases-computed =
     (refl, refl)
     ▸ (refl, refl)
@@ -192,7 +193,7 @@ own-cases-hold = all-hold ownCases own-cases-computed
 
 -- the rows of request #104
 largest-cases-computed : AllComputed largestCases
-unfolding actionsOf passagesInOrder single prepend shorterOf stocked _⨯_ alpha beta listed holdsListed actionPossible actionStep passageStep accepts actionAt
+unfolding actionsOf passagesInOrder single prepend isBetter betterOf enteredAisles stocked _⨯_ alpha beta listed holdsListed actionPossible actionStep passageStep accepts actionAt
     passageAt multiplicity lengthOf planLength planPasses inFrontHalf inBackHalf supply serves aisleLength position backHeight depotPoint distance edgesOf
     boundedBest actionLength passageLength recordInBounds stockInBounds sameCell lineInBounds listInBounds sameArticle weight allStock shortOfStock jobRows
     jobRefusal within layoutInBounds ownJob posted bothOnce treadsNothing cellHoldsListed listedCells untrodden partKeeps keepsLargestGap betaWith cellsBetween fourBetween
@@ -238,7 +239,7 @@ stops-hold = refl ▸ refl ▸ refl ▸ refl ▸ tt
 
 -- the rows of request #106
 hours-cases-computed : AllComputed hoursCases
-unfolding actionsOf passagesInOrder single prepend shorterOf stocked _⨯_ alpha listed holdsListed actionPossible actionStep passageStep accepts actionAt
+unfolding actionsOf passagesInOrder single prepend isBetter betterOf enteredAisles stocked _⨯_ alpha listed holdsListed actionPossible actionStep passageStep accepts actionAt
     passageAt multiplicity lengthOf planLength planPasses inFrontHalf inBackHalf supply serves aisleLength position backHeight depotPoint distance edgesOf
     boundedBest actionLength passageLength recordInBounds stockInBounds sameCell lineInBounds listInBounds sameArticle weight allStock shortOfStock jobRows
     jobRefusal within layoutInBounds ownJob bothOnce treadsNothing cellHoldsListed listedCells untrodden partKeeps keepsLargestGap wrongStock sharedCell
@@ -292,7 +293,7 @@ hours-cases-hold = (
 
 -- the rows of request #107
 door-cases-computed : AllComputed doorCases
-unfolding actionsOf passagesInOrder single prepend shorterOf stocked _⨯_ listed holdsListed actionPossible actionStep passageStep accepts actionAt
+unfolding actionsOf passagesInOrder single prepend isBetter betterOf enteredAisles stocked _⨯_ listed holdsListed actionPossible actionStep passageStep accepts actionAt
     passageAt multiplicity lengthOf planLength planPasses inFrontHalf inBackHalf supply serves aisleLength position backHeight depotPoint distance edgesOf
     boundedBest actionLength passageLength recordInBounds stockInBounds sameCell lineInBounds listInBounds sameArticle weight allStock shortOfStock jobRows
     jobRefusal within layoutInBounds ownJob treadsNothing doorAt wantedIn threePlaces spareAisle doorCases
@@ -322,6 +323,34 @@ door-cases-computed =
 pub door-cases-hold : AllHold doorCases
 door-cases-hold = all-hold doorCases door-cases-computed
 
+-- the rows of request #108
+fewer-cases-computed : AllComputed fewerCases
+unfolding actionsOf passagesInOrder single prepend isBetter betterOf enteredAisles stocked _⨯_ listed holdsListed actionPossible actionStep passageStep accepts actionAt
+    passageAt multiplicity lengthOf planLength planPasses inFrontHalf inBackHalf supply serves aisleLength position backHeight depotPoint distance edgesOf
+    boundedBest actionLength passageLength recordInBounds stockInBounds sameCell lineInBounds listInBounds sameArticle weight allStock shortOfStock jobRows
+    jobRefusal within layoutInBounds ownJob treadsNothing cellHoldsListed listedCells untrodden partKeeps keepsLargestGap openAt windowInBounds window timed posted
+    fewerStore besideAisleOne fewerApart aisleOneAlone pastOrInto pastAisleTwo fewerCases
+fewer-cases-computed =
+    ((refl, refl, refl, refl), record { allowed = refl; serving = refl; length = refl }, record { allowed = refl; serving = refl; length = refl })
+    ▸ ((refl, refl, refl, refl), record { allowed = refl; serving = refl; length = refl }, record { allowed = refl; serving = refl; length = refl })
+    ▸ ((refl, refl, refl, refl), record { allowed = refl; serving = refl; length = refl }, record { allowed = refl; serving = refl; length = refl })
+    ▸ ((refl, refl, refl, refl), record { allowed = refl; serving = refl; length = refl }, record { allowed = refl; serving = refl; length = refl })
+    ▸ ((refl, refl, refl, refl), record { allowed = refl; serving = refl; length = refl }, record { allowed = refl; serving = refl; length = refl })
+    ▸ ((refl, refl, refl, refl), record { allowed = refl; serving = refl; length = refl }, record { allowed = refl; serving = refl; length = refl })
+    ▸ under-each _ (Void ∷ Bottom 1 ∷ Bottom 1 ∷ [], P00 ∷ P02 ∷ [], (refl, refl, refl, refl)) (Void ∷ Bottom 1 ∷ Bottom 1 ∷ [], P00 ∷ P02 ∷ [], (refl, refl, refl, refl))
+    (Void ∷ Once ∷ Once ∷ [], P00 ∷ P11 ∷ [], (refl, refl, refl, refl)) (Void ∷ Once ∷ Once ∷ [], P00 ∷ P11 ∷ [], (refl, refl, refl, refl))
+    (Void ∷ Bottom 1 ∷ Bottom 1 ∷ [], P00 ∷ P02 ∷ [], (refl, refl, refl, refl)) (Void ∷ Once ∷ Once ∷ [], P00 ∷ P11 ∷ [], (refl, refl, refl, refl))
+    ▸ under-each _ (refl, refl) (refl, refl) (refl, refl) (refl, refl) (refl, refl) (refl, refl)
+    ▸ ((refl, refl, refl, refl), record { allowed = refl; serving = refl; length = refl }, record { allowed = refl; serving = refl; length = refl })
+    ▸ ((refl, refl, refl, refl), record { allowed = refl; serving = refl; length = refl }, record { allowed = refl; serving = refl; length = refl })
+    ▸ (refl, refl, refl, refl)
+    ▸ (refl, refl, refl, refl)
+    ▸ tt
+
+-- the table of request #108
+pub fewer-cases-hold : AllHold fewerCases
+fewer-cases-hold = all-hold fewerCases fewer-cases-computed
+
 -- the table of request #105, what its program prints, and the numbers that are handed on
 pub looked-cases-hold : AllLooked lookedCases × AllSame lookedTexts
 unfolding lookedCases lookedTexts restocked stocked _⨯_ alpha wrongLayout wrongStock sharedCell sharedArticle nineLines eightLines ownJob workedJob
@@ -346,7 +375,7 @@ texts-hold =
 
 -- a sheet space of 69 bytes is too short for the worked sheet: 9, and the work area is all zero
 pub short-space : CallGives (replicate 69 0) (replicate 32768 1) 9 0
-unfolding servingPlans cleared refused served answer hostAnswer output actionsOf passagesInOrder single prepend shorterOf emptyPlan bestPlan workedJob without stepsOf firstWalk numeral field header sectionText isDigit isNumber readField readHeader readPolicyAs readPolicy readLayout readPosts readRecord readLine readSection readLayoutSection readSections readJob listed holdsListed actionPossible actionStep passageStep accepts cellsOf lackOf lessOf recordAt taken passedRecords picksOf actionAt passageAt multiplicity lengthOf planLength planPasses inFrontHalf inBackHalf recordInBounds stockInBounds sameCell lineInBounds listInBounds sameArticle weight allStock shortOfStock jobRows jobRefusal supply serves totalText passageText pickText runText sheetOf sheetText aisleLength position backHeight depotPoint distance edgesOf within layoutInBounds sameEdge samePoint isCrossing canStep stepTo stepEdge one
+unfolding servingPlans cleared refused served answer hostAnswer output actionsOf passagesInOrder single prepend isBetter betterOf enteredAisles emptyPlan bestPlan workedJob without stepsOf firstWalk numeral field header sectionText isDigit isNumber readField readHeader readPolicyAs readPolicy readLayout readPosts readRecord readLine readSection readLayoutSection readSections readJob listed holdsListed actionPossible actionStep passageStep accepts cellsOf lackOf lessOf recordAt taken passedRecords picksOf actionAt passageAt multiplicity lengthOf planLength planPasses inFrontHalf inBackHalf recordInBounds stockInBounds sameCell lineInBounds listInBounds sameArticle weight allStock shortOfStock jobRows jobRefusal supply serves totalText passageText pickText runText sheetOf sheetText aisleLength position backHeight depotPoint distance edgesOf within layoutInBounds sameEdge samePoint isCrossing canStep stepTo stepEdge one
 short-space = record { its-number = refl; its-work = refl }
 
 -- a work area of 32,767 numbers is too small: 10, and it is left as it was
@@ -365,13 +394,13 @@ longer-file = record { bytes = refl; ends = refl }
 
 -- the worked example, byte for byte
 pub worked-example : output workedJob ≡ workedSheet
-unfolding servingPlans cleared refused served answer hostAnswer output actionsOf passagesInOrder single prepend shorterOf emptyPlan bestPlan workedJob without stepsOf firstWalk numeral field header sectionText isDigit isNumber readField readHeader readPolicyAs readPolicy readLayout readPosts readRecord readLine readSection readLayoutSection readSections readJob listed holdsListed actionPossible actionStep passageStep accepts cellsOf lackOf lessOf recordAt taken passedRecords picksOf actionAt passageAt multiplicity lengthOf planLength planPasses inFrontHalf inBackHalf recordInBounds stockInBounds sameCell lineInBounds listInBounds sameArticle weight allStock shortOfStock jobRows jobRefusal supply serves totalText passageText pickText runText sheetOf sheetText aisleLength position backHeight depotPoint distance edgesOf within layoutInBounds sameEdge samePoint isCrossing canStep stepTo stepEdge one workedSheet
+unfolding servingPlans cleared refused served answer hostAnswer output actionsOf passagesInOrder single prepend isBetter betterOf enteredAisles emptyPlan bestPlan workedJob without stepsOf firstWalk numeral field header sectionText isDigit isNumber readField readHeader readPolicyAs readPolicy readLayout readPosts readRecord readLine readSection readLayoutSection readSections readJob listed holdsListed actionPossible actionStep passageStep accepts cellsOf lackOf lessOf recordAt taken passedRecords picksOf actionAt passageAt multiplicity lengthOf planLength planPasses inFrontHalf inBackHalf recordInBounds stockInBounds sameCell lineInBounds listInBounds sameArticle weight allStock shortOfStock jobRows jobRefusal supply serves totalText passageText pickText runText sheetOf sheetText aisleLength position backHeight depotPoint distance edgesOf within layoutInBounds sameEdge samePoint isCrossing canStep stepTo stepEdge one workedSheet
 worked-example = refl
 
 -- its page; a page space of 24 bytes is too short for it: 11, and the work area is all zero; where the sheet space of 69 bytes is too short
 -- as well, 9
 pub page-calls : (pageOutput workedJob ≡ workedPage) × PageCallGives (replicate 70 0) (replicate 24 0) 11 0 × PageCallGives (replicate 69 0) (replicate 24 0) 9 0
-unfolding servingPlans cleared refused served answer hostAnswer output actionsOf passagesInOrder single prepend shorterOf emptyPlan bestPlan workedJob without
+unfolding servingPlans cleared refused served answer hostAnswer output actionsOf passagesInOrder single prepend isBetter betterOf enteredAisles emptyPlan bestPlan workedJob without
     stepsOf firstWalk numeral field header sectionText isDigit isNumber readField readHeader readPolicyAs readPolicy readLayout readPosts readRecord
     readLine readSection readLayoutSection readSections readJob listed holdsListed actionPossible actionStep passageStep accepts cellsOf lackOf lessOf
     recordAt taken passedRecords picksOf actionAt passageAt multiplicity lengthOf planLength planPasses inFrontHalf inBackHalf recordInBounds

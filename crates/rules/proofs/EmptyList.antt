@@ -21,7 +21,7 @@ use Rattle.rules.specs.BestPlan.{emptyPlan, bestPlan}
 use Rattle.rules.proofs.Admission.{layout-within}
 use Rattle.rules.proofs.Lists.{or-true, or-right}
 use Rattle.rules.proofs.EmptyPlan.{empty-action, empty-well-formed, empty-treads-nothing, empty-tested, treads-nothing, empty-length, empty-alone, empty-follows}
-use Rattle.rules.proofs.Enumeration.{first-shortest-member, first-shortest-least, serving-plans, best-plan-first-shortest}
+use Rattle.rules.proofs.Enumeration.{serving-plans, best-plan-listed, best-plan-shortest}
 
 -- for a list with lines only a lawful plan is lawful
 pub lawful-with-lines : (z : Layout) (lines : List OrderLine) (plan : Plan) → (lines ≡ [] → ⊥) → LawfulFor z lines plan → Lawful z plan
@@ -119,7 +119,6 @@ module _ (job : Job) (no-line : job .lines ≡ []) where
       let z = job .layout in
       let within = layout-within z .0 bounds in
       let listed = serving-plans job idle .1 (empty-well-formed z (within .aisles .0), empty-accepted, empty-serves idle) in
-      let first = best-plan-first-shortest job idle listed in
-      let least = first-shortest-least (planLength z) first idle listed in
-      let best = serving-plans job (bestPlan job) .0 (first-shortest-member (planLength z) first) in
+      let least = best-plan-shortest job idle listed in
+      let best = serving-plans job (bestPlan job) .0 (best-plan-listed job idle listed) in
       empty-alone z within (bestPlan job) (best .0) (omega (arith, empty-length z))

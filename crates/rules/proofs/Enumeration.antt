@@ -1,15 +1,15 @@
--- The enumeration of plans: it holds every well-formed plan, in order; and the first of the shortest in a list.
+-- The enumeration of plans: it holds every well-formed plan, in order; and the first of the shortest in a list, by any length.
 use Prim.Native.Nat.{ℕ, zero, suc, _-_, _≤_, _<_}
 use mathlib.Core.Path.{_≡_, refl, sym, _∙_, ap, subst, subst₂}
 use mathlib.Core.Logic.{_⊎_, inl, inr, _↔_}
 use mathlib.Core.List.{List, [], _∷_, _++_, map, List·Memᴰ, List·Memᴰ·head, List·Memᴰ·tail, List·Memᴰ·not-nil, List·Memᴰ·eq-of-singleton, List·Memᴰ·append-cases, Memᴰ·append-left, Memᴰ·append-right, Memᴰ·map, Memᴰ·of-map}
-use mathlib.Core.Bool.{Bool, true, false, cond, _&&_, and-eq-true-iff}
-use mathlib.Core.Option.{some, Option·getD}
+use mathlib.Core.Bool.{Bool, true, false, cond, _&&_, and-eq-true-iff, and-false, or-false}
+use mathlib.Core.Option.{Option, some}
 use native.Mathlib.Nat.{eq-or-lt-of-le}
 use native.Mathlib.Omega.{arith}
-use lib.Dec.{leb}
+use lib.Dec.{ltb}
 use lib.ListN.{length}
-use borrow.Author.Tests.{leb-true, leb-false, le-leb, lt-leb}
+use borrow.Author.Tests.{ltb-true, ltb-false, lt-ltb, le-ltb}
 use Rattle.rules.specs.declared.Layout.{Layout}
 use Rattle.rules.specs.declared.Action.{Action}
 use Rattle.rules.specs.declared.Action.the-variants.{Void, Bottom, Top, Gap, Once, Twice}
@@ -17,7 +17,8 @@ use Rattle.rules.specs.declared.Passage.{Passage}
 use Rattle.rules.specs.declared.Passage.the-variants.{P00, P02, P11, P20, P22}
 use Rattle.rules.specs.Lists.{from, concatOf, Sorted}
 use Rattle.rules.specs.Plans.{Plan, Fits, WellFormed, planLength, planPasses}
-use Rattle.rules.specs.BestPlan.{downFrom, actionsOf, passagesInOrder, single, prepend, plansOf, actionRank, passageRank, RankBefore, Before, by-action, by-passage, further, PlanBefore, shorterOf, firstShortest, servingPlans, emptyPlan, bestPlan}
+use Rattle.rules.specs.Policies.{enteredAisles}
+use Rattle.rules.specs.BestPlan.{downFrom, actionsOf, passagesInOrder, single, prepend, plansOf, actionRank, passageRank, RankBefore, Before, by-action, by-passage, further, PlanBefore, isBetter, betterOf, firstBest, servingPlans, emptyPlan, bestPlan}
 use Rattle.rules.specs.Jobs.{Job}
 use Rattle.rules.specs.Serving.{serves, PlanServes}
 use Rattle.rules.specs.Machine.{accepts}
@@ -25,6 +26,7 @@ use Rattle.rules.proofs.Lists.{member-from, from-member, member-concat,
 use Rattle.rules.proofs.Listing.{listed-sound}
 use Rattle.rules.proofs.Lengths.{well-formed-fits}
 use Rattle.rules.proofs.Serving.{serves-test}
+use Rattle.rules.proofs.FirstBest.{shorter-better, first-best-member, first-best-some, first-best-least, first-best-agrees}
 
 -- the numbers from n down to 1
 member-down : {k : ℕ} (n : ℕ) → List·Memᴰ k (downFrom n) → (1 ≤ k) × (k ≤ n)
@@ -270,6 +272,15 @@ plan-before-one-way cells plan other h k = before-one-way h k refl refl refl ref
 pub plan-not-before-itself : (cells : ℕ) (plan : Plan) → PlanBefore cells plan plan → ⊥
 plan-not-before-itself cells plan b = plan-before-one-way cells plan plan b b
 
+-- the first of the shortest in a list: a shorter one is better, and nothing else is compared
+abbrev pub firstShortest : {A : Type 0} → (A → ℕ) → List A → Option A
+firstShortest len xs = firstBest (λ x y. ltb (len x) (len y)) xs
+
+-- it is the first of the best where nothing is counted in those that are equally long
+pub nothing-counted : {A : Type 0} (len : A → ℕ) (xs : List A) → firstBest (isBetter len (λ x. 0)) xs ≡ firstShortest len xs
+unfolding isBetter
+nothing-counted len xs = first-best-agrees (isBetter len (λ x. 0)) (λ x y. ltb (len x) (len y)) xs (λ x y m l. simp (and-false, or-false))
+
 -- a list has x as the first of its shortest elements: those in front of x are longer, those behind it no shorter
 pub record FirstShortest {A : Type 0} (len : A → ℕ) (xs : List A) (x : A) : Type 0 where
   pub before : List A
@@ -301,29 +312,33 @@ module _ {A : Type 0} (len : A → ℕ) where
       go (inr (List·Memᴰ·head e)) = inl e
       go (inr (List·Memᴰ·tail l)) = inr (sorted-split R (f .before) (subst (Sorted R) (f .split) s) y l)
 
+  -- the shorter of two, by the test that chooses it
+  abbrev pub shorterOf : A → Option A → A
+  shorterOf x o = betterOf (λ y z. ltb (len y) (len z)) x o
+
   -- a list with an element has a first of its shortest elements, and the function gives it
   pub first-shortest-some : (w : A) (ws : List A) → (x : A) × (firstShortest len (w ∷ ws) ≡ some x) × FirstShortest len (w ∷ ws) x
-  unfolding shorterOf
+  unfolding betterOf
   first-shortest-some w [] =
       (w, refl, record { before = []; after = []; split = refl; longer-before = λ y m. absurd (List·Memᴰ·not-nil m); no-shorter-after = λ y m. absurd (List·Memᴰ·not-nil m) })
   first-shortest-some w (v ∷ vs) = go (first-shortest-some v vs)
     where
       go : (x : A) × (firstShortest len (v ∷ vs) ≡ some x) × FirstShortest len (v ∷ vs) x → (x : A) × (firstShortest len (w ∷ v ∷ vs) ≡ some x) × FirstShortest len (w ∷ v ∷ vs) x
-      go (x, e, f) = choose (leb (len w) (len x)) refl
+      go (x, e, f) = choose (ltb (len x) (len w)) refl
         where
-          choose : (t : Bool) → leb (len w) (len x) ≡ t → (x : A) × (firstShortest len (w ∷ v ∷ vs) ≡ some x) × FirstShortest len (w ∷ v ∷ vs) x
-          choose true t =
-              (w, ap (λ o. some (shorterOf len w o)) e ∙ ap (λ b. some (cond b w x)) t, record { before = []; after = v ∷ vs; split = refl; longer-before = λ y m. absurd (List·Memᴰ·not-nil m); no-shorter-after = λ y m. omega (arith, first-shortest-least f y m, leb-true (len w) (len x) t) })
+          choose : (t : Bool) → ltb (len x) (len w) ≡ t → (x : A) × (firstShortest len (w ∷ v ∷ vs) ≡ some x) × FirstShortest len (w ∷ v ∷ vs) x
           choose false t =
-              (x, ap (λ o. some (shorterOf len w o)) e ∙ ap (λ b. some (cond b w x)) t, record { before = w ∷ f .before; after = f .after; split = ap (λ l. w ∷ l) (f .split); longer-before = longer; no-shorter-after = f .no-shorter-after })
+              (w, ap (λ o. some (shorterOf w o)) e ∙ ap (λ b. some (cond b x w)) t, record { before = []; after = v ∷ vs; split = refl; longer-before = λ y m. absurd (List·Memᴰ·not-nil m); no-shorter-after = λ y m. omega (arith, first-shortest-least f y m, ltb-false (len x) (len w) t) })
+          choose true t =
+              (x, ap (λ o. some (shorterOf w o)) e ∙ ap (λ b. some (cond b x w)) t, record { before = w ∷ f .before; after = f .after; split = ap (λ l. w ∷ l) (f .split); longer-before = longer; no-shorter-after = f .no-shorter-after })
             where
               longer : (y : A) → List·Memᴰ y (w ∷ f .before) → len x < len y
-              longer y (List·Memᴰ·head h) = omega (arith, ap len h, leb-false (len w) (len x) t)
+              longer y (List·Memᴰ·head h) = omega (arith, ap len h, ltb-true (len x) (len w) t)
               longer y (List·Memᴰ·tail m) = f .longer-before y m
 
   -- it is what the function gives
   pub first-shortest-given : (xs : List A) (x : A) → (firstShortest len xs ≡ some x) ↔ FirstShortest len xs x
-  unfolding shorterOf
+  unfolding betterOf
   first-shortest-given xs x = (found xs, λ f. rw (f .split) (given (f .before) (f .after) (f .longer-before) (f .no-shorter-after)))
     where
       found : (ys : List A) → firstShortest len ys ≡ some x → FirstShortest len ys x
@@ -334,9 +349,9 @@ module _ {A : Type 0} (len : A → ℕ) where
       given [] [] b a = refl
       given [] (v ∷ vs) b a =
           let r = first-shortest-some v vs in
-          ap (λ o. some (shorterOf len x o)) r.1 ∙ ap (λ b. some (cond b x (r .0))) (le-leb (len x) (len (r .0)) (a (r .0) (first-shortest-member r.2)))
+          ap (λ o. some (shorterOf x o)) r.1 ∙ ap (λ b. some (cond b (r .0) x)) (le-ltb (len (r .0)) (len x) (a (r .0) (first-shortest-member r.2)))
       given (w ∷ ws) after b a =
-          ap (λ o. some (shorterOf len w o)) (given ws after (λ y m. b y (List·Memᴰ·tail m)) a) ∙ ap (λ b. some (cond b w x)) (lt-leb (len w) (len x) (b w (List·Memᴰ·head refl)))
+          ap (λ o. some (shorterOf w o)) (given ws after (λ y m. b y (List·Memᴰ·tail m)) a) ∙ ap (λ b. some (cond b x w)) (lt-ltb (len x) (len w) (b w (List·Memᴰ·head refl)))
 
 -- the plans among which the best is chosen: well-formed, allowed by the policy, serving the list
 pub serving-plans : (job : Job) (plan : Plan) → List·Memᴰ plan (servingPlans job) ↔ (WellFormed (job .layout) plan × (accepts job plan ≡ true) × PlanServes job plan)
@@ -359,16 +374,18 @@ unfolding servingPlans
 serving-plans-ordered job =
     sorted-select (PlanBefore (job .layout .cells)) (λ x. accepts job x && serves job (planPasses x)) (plansOf (job .layout .cells) (job .layout .aisles)) (enumeration-ordered (job .layout .cells) (job .layout .aisles))
 
--- where there is such a plan, the best plan is the first of the shortest
-pub best-plan-first-shortest : (job : Job) (plan : Plan) → List·Memᴰ plan (servingPlans job) → FirstShortest (planLength (job .layout)) (servingPlans job) (bestPlan job)
+-- where there is such a plan, the best plan is the first of the best among them
+pub best-plan-found : (job : Job) (plan : Plan) → List·Memᴰ plan (servingPlans job)
+    → firstBest (isBetter (planLength (job .layout)) enteredAisles) (servingPlans job) ≡ some (bestPlan job)
 unfolding bestPlan
-best-plan-first-shortest job plan m = go (servingPlans job) m
-  where
-    len : Plan → ℕ
-    len = planLength (job .layout)
+best-plan-found job plan m = first-best-some (isBetter (planLength (job .layout)) enteredAisles) (servingPlans job) m (emptyPlan (job .layout))
 
-    go : (xs : List Plan) → List·Memᴰ plan xs → FirstShortest len xs (Option·getD (firstShortest len xs) (emptyPlan (job .layout)))
-    go [] l = absurd (List·Memᴰ·not-nil l)
-    go (x ∷ xs) l =
-        let r = first-shortest-some len x xs in
-        subst (λ o. FirstShortest len (x ∷ xs) (Option·getD o (emptyPlan (job .layout)))) (sym r.1) r.2
+module _ (job : Job) (plan : Plan) (listed : List·Memᴰ plan (servingPlans job)) where
+  -- so it is one of them, and no longer than any
+  pub best-plan-listed : List·Memᴰ (bestPlan job) (servingPlans job)
+  best-plan-listed = first-best-member (isBetter (planLength (job .layout)) enteredAisles) (servingPlans job) (bestPlan job) (best-plan-found job plan listed)
+
+  pub best-plan-shortest : planLength (job .layout) (bestPlan job) ≤ planLength (job .layout) plan
+  best-plan-shortest =
+      let len = planLength (job .layout) in
+      first-best-least (isBetter len enteredAisles) len (shorter-better len enteredAisles) (servingPlans job) (bestPlan job) (best-plan-found job plan listed) plan listed

@@ -9,6 +9,7 @@ pub mod Stops
 pub mod Serving
 pub mod Listing
 pub mod EmptyPlan
+pub mod FirstBest
 pub mod Enumeration
 pub mod EmptyList
 pub mod Pruning

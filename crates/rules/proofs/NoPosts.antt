@@ -24,11 +24,11 @@ use Rattle.rules.specs.Lists.{from, sumOf, allOf, select, headOr}
 use Rattle.rules.specs.Store.{Point, Edge, along, front, back, withPosts, cellPosition, aisleLength, position, backHeight, depotPoint, distance, edgesOf, within, layoutInBounds}
 use Rattle.rules.specs.Jobs.{Job, emptyList, jobWithPosts, listed, holdsListed, cellHoldsListed}
 use Rattle.rules.specs.Plans.{Plan, aisleTreads, multiplicity, lengthOf, planLength, planPasses}
-use Rattle.rules.specs.Policies.{walkBackEnd, inFrontHalf, inBackHalf, halved, Part, fromFront, fromBack, partsOf, listedCells, stopsOn, untrodden, through}
+use Rattle.rules.specs.Policies.{enteredAisles, walkBackEnd, inFrontHalf, inBackHalf, halved, Part, fromFront, fromBack, partsOf, listedCells, stopsOn, untrodden, through}
 use Rattle.rules.specs.Machine.{State, policyBy, actionPossible, actionStep, passageStep, runFrom, isClosed, treadsNothing, accepts, nothing, dead}
 use Rattle.rules.specs.Machine.{stopsWithin, partKeeps, keepsLargestGap, betweenTest}
 use Rattle.rules.specs.Serving.{serves}
-use Rattle.rules.specs.BestPlan.{plansOf, firstShortest, servingPlans, emptyPlan, bestPlan}
+use Rattle.rules.specs.BestPlan.{plansOf, isBetter, firstBest, servingPlans, emptyPlan, bestPlan}
 use Rattle.rules.specs.Walks.{Walk, isCrossing, canStep, stepTo, stepEdge}
 use Rattle.rules.specs.FirstWalk.{without, firstWay, stepThen, firstFrom, stepsOf, firstWalk}
 use Rattle.rules.specs.Picks.{cellsOf, passedRecords, picksOf}
@@ -168,7 +168,7 @@ module _ (k : ℕ) (job : Job) where
   -- the best plan is the same
   same-best : bestPlan lined ≡ bestPlan plain
   unfolding bestPlan emptyPlan
-  same-best = ap₂ (λ len plans. Option·getD (firstShortest len plans) (emptyPlan (job .layout))) (same-length k (job .layout)) same-plans
+  same-best = ap₂ (λ len plans. Option·getD (firstBest (isBetter len enteredAisles) plans) (emptyPlan (job .layout))) (same-length k (job .layout)) same-plans
 
   -- and so is the sheet
   same-sheet : sheetText lined ≡ sheetText plain

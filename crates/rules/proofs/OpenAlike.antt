@@ -25,9 +25,9 @@ use Rattle.rules.specs.Plans.{Plan, planLength, planPasses}
 use Rattle.rules.specs.Policies.{Part, fromFront, fromBack, partPasses, partsOf, listedCells, untrodden, through}
 use Rattle.rules.specs.Machine.{State, policyBy, enterable, actionPossible, actionStep, passageStep, runFrom, isClosed, isVoid, treadsNothing, accepts, nothing, dead}
 use Rattle.rules.specs.Machine.{stopsWithin, partKeeps, keepsLargestGap, betweenTest}
-use Rattle.rules.specs.Policies.{actionNamed, walkBackEnd}
+use Rattle.rules.specs.Policies.{enteredAisles, actionNamed, walkBackEnd}
 use Rattle.rules.specs.Serving.{supply, serves}
-use Rattle.rules.specs.BestPlan.{plansOf, firstShortest, servingPlans, emptyPlan, bestPlan}
+use Rattle.rules.specs.BestPlan.{plansOf, isBetter, firstBest, servingPlans, emptyPlan, bestPlan}
 use Rattle.rules.specs.Picks.{cellsOf, recordAt, found, picksFrom, passedRecords, picksOf}
 use Rattle.rules.specs.Sheet.{sheetOf, sheetText}
 use Rattle.rules.specs.Page.{pageOf, pageText}
@@ -113,7 +113,7 @@ module _ (job : Job) (stock : List StockRecord) (hours : Hours) where
     -- the best plan is the same
     pub same-best : bestPlan changed ≡ bestPlan job
     unfolding bestPlan
-    same-best = ap (λ plans. Option·getD (firstShortest (planLength (job .layout)) plans) (emptyPlan (job .layout))) same-plans
+    same-best = ap (λ plans. Option·getD (firstBest (isBetter (planLength (job .layout)) enteredAisles) plans) (emptyPlan (job .layout))) same-plans
 
     -- the picks of a plan are the same
     same-picks : (plan : Plan) → picksOf changed plan ≡ picksOf job plan

@@ -21,14 +21,15 @@ use Rattle.rules.specs.Lists.{headOr, select, concatOf, sumOf, allOf}
 use Rattle.rules.specs.Lengths.{actionLength, passageLength}
 use Rattle.rules.specs.Jobs.{Job, emptyList}
 use Rattle.rules.specs.Plans.{Plan, Fits, WellFormed, planLength, planPasses}
-use Rattle.rules.specs.Policies.{passageNamed, End, leftmost, rightmost, walkBackEnd}
+use Rattle.rules.specs.Policies.{passageNamed, End, leftmost, rightmost, walkBackEnd, enteredAisles}
 use Rattle.rules.specs.Machine.{State, nothing, closed, atFront, atBack, odd, joined, split, ending, dead, runFrom, isClosed, treadsNothing, accepts}
 use Rattle.rules.specs.Machine.{lawfulStep, traversalOnce, traversalStep, midpointStep, policyStep, betweenTest, actionPossible, actionStep, crossStep, passageStep}
 use Rattle.rules.specs.Serving.{serves}
 use Rattle.rules.proofs.Lengths.{plan-length}
 use Rattle.rules.proofs.Listing.{listed-sound}
 use Rattle.rules.proofs.Lists.{all-true, member-select, select-none, select-both, select-swap, select-implied, select-concat, select-map, concat-cong, concat-none, map-map, map-concat}
-use Rattle.rules.specs.BestPlan.{actionsOf, passagesInOrder, single, prepend, plansOf, shorterOf, firstShortest, servingPlans, emptyPlan, bestPlan}
+use Rattle.rules.specs.BestPlan.{actionsOf, passagesInOrder, single, prepend, plansOf, isBetter, betterOf, firstBest, servingPlans, emptyPlan, bestPlan}
+use Rattle.rules.proofs.FirstBest.{LengthFirst, shorter-better, second-better, first-better, better-length, first-best-agrees}
 
 -- the machine stays dead
 lawful-dead : (a : Action) → lawfulStep a dead ≡ dead
@@ -137,6 +138,10 @@ cost z plan = costOf z (plan .actions) (plan .passages)
 -- a rest beside its length
 abbrev Rest : Type 0
 Rest = ℕ × Plan
+
+-- the better of two, as plans are compared by what is counted in those that are equally long
+abbrev betterRest : (Plan → ℕ) → Rest → Rest → Bool
+betterRest count = isBetter (λ (r : Rest). r .0) (λ (r : Rest). count (r .1))
 
 abbrev weighed : Layout → Plan → Rest
 weighed z plan = (cost z plan, plan)
@@ -310,15 +315,15 @@ module _ (job : Job) (bound : ℕ) where
   byLayers true = oneByOne
   byLayers false = select (λ (r : Rest). servesList (r .1)) (restsAt (layerFrom (z .aisles) 1) nothing)
 
-  -- the first of the shortest that serve the list, among the plans no longer than the bound, beside its length
-  unfoldable pub boundedBest : Option Rest
+  -- the first of the best that serve the list, among the plans no longer than the bound, beside its length
+  unfoldable pub boundedBest : (Plan → ℕ) → Option Rest
   unfolding acceptsFrom
-  boundedBest = firstShortest (λ (r : Rest). r .0) (byLayers (emptyList (job .lines)))
+  boundedBest count = firstBest (betterRest count) (byLayers (emptyList (job .lines)))
 
-  -- it is the first of the shortest of all that serve the list, as far as these are no longer than the bound
-  bounded-serving : boundedBest ≡ firstShortest (λ (r : Rest). r .0) oneByOne
+  -- it is the first of the best of all that serve the list, as far as these are no longer than the bound
+  bounded-serving : (count : Plan → ℕ) → boundedBest count ≡ firstBest (betterRest count) oneByOne
   unfolding boundedBest servingPlans accepts acceptsFrom
-  bounded-serving = ap (firstShortest (λ (r : Rest). r .0)) (go (emptyList (job .lines)) refl)
+  bounded-serving count = ap (firstBest (betterRest count)) (go (emptyList (job .lines)) refl)
     where
       plans : List Plan
       plans = plansOf (z .cells) (z .aisles)
@@ -338,38 +343,7 @@ module _ (job : Job) (bound : ℕ) where
           ∙ ap (map (weighed z)) (select-swap short servesList accepted ∙ ap (select short) (sym (select-both (acceptsFrom job 1 nothing) servesList plans)))
           ∙ ap listed (sym e)
 
--- Of the shorter of two these laws hold whichever way a tie goes.
-module _ {A : Type 0} (len : A → ℕ) (x y : A) where
-  shorter-second : len y < len x → shorterOf len x (some y) ≡ y
-  unfolding shorterOf
-  shorter-second h = simp (lt-leb (len x) (len y) h, le-leb (len y) (len x) (omega (arith, h))) refl
-
-  shorter-first : len x < len y → shorterOf len x (some y) ≡ x
-  unfolding shorterOf
-  shorter-first h = simp (le-leb (len x) (len y) (omega (arith, h)), lt-leb (len y) (len x) h) refl
-
-  shorter-length : len (shorterOf len x (some y)) ≡ min (len x) (len y)
-  unfolding shorterOf
-  shorter-length = go (leb (len x) (len y)) refl (leb (len y) (len x)) refl
-    where
-      go : (b : Bool) → leb (len x) (len y) ≡ b → (c : Bool) → leb (len y) (len x) ≡ c → len (shorterOf len x (some y)) ≡ min (len x) (len y)
-      go true p true q = simp (p, q) (omega (arith, leb-true (len x) (len y) p, leb-true (len y) (len x) q))
-      go true p false q = simp (p, q) (omega (arith, leb-true (len x) (len y) p))
-      go false p true q = simp (p, q) (omega (arith, leb-true (len y) (len x) q))
-      go false p false q = absurd (omega (arith, leb-false (len x) (len y) p, leb-false (len y) (len x) q))
-
-  -- what is zero at both is zero at the shorter
-  shorter-zero : (g : A → ℕ) → g x ≡ 0 → g y ≡ 0 → g (shorterOf len x (some y)) ≡ 0
-  unfolding shorterOf
-  shorter-zero g at-x at-y = go (leb (len x) (len y)) refl (leb (len y) (len x)) refl
-    where
-      go : (b : Bool) → leb (len x) (len y) ≡ b → (c : Bool) → leb (len y) (len x) ≡ c → g (shorterOf len x (some y)) ≡ 0
-      go true p true q = simp (p, q, at-x, at-y) refl
-      go true p false q = simp (p, q, at-x, at-y) refl
-      go false p true q = simp (p, q, at-x, at-y) refl
-      go false p false q = absurd (omega (arith, leb-false (len x) (len y) p, leb-false (len y) (len x) q))
-
-module _ {A : Type 0} (len : A → ℕ) (bound : ℕ) where
+module _ {A : Type 0} (better : A → A → Bool) (len : A → ℕ) (by-length : LengthFirst len better) (bound : ℕ) where
   abbrev Below : Option A → Type 0
   Below none = Unit {0}
   Below (some x) = len x ≤ bound
@@ -385,105 +359,81 @@ module _ {A : Type 0} (len : A → ℕ) (bound : ℕ) where
   abbrev Bounded : Option A → Option A → Type 0
   Bounded all kept = ((all ≡ kept) × Below kept) ⊎ ((kept ≡ none) × Beyond all)
 
-  below-one : (x : A) → len x ≤ bound → (o : Option A) → Below o → Below (some (shorterOf len x o))
-  unfolding shorterOf
+  below-one : (x : A) → len x ≤ bound → (o : Option A) → Below o → Below (some (betterOf better x o))
+  unfolding betterOf
   below-one x h none b = h
-  below-one x h (some y) b = omega (arith, shorter-length len x y, h, b)
+  below-one x h (some y) b = omega (arith, better-length better len by-length x y, h, b)
 
-  beyond-one : (x : A) → bound < len x → (o : Option A) → Beyond o → Beyond (some (shorterOf len x o))
-  unfolding shorterOf
+  beyond-one : (x : A) → bound < len x → (o : Option A) → Beyond o → Beyond (some (betterOf better x o))
+  unfolding betterOf
   beyond-one x h none b = h
-  beyond-one x h (some y) b = omega (arith, shorter-length len x y, h, b)
+  beyond-one x h (some y) b = omega (arith, better-length better len by-length x y, h, b)
 
   -- a short one before what is longer stays
-  first-stays : (x : A) → len x ≤ bound → (o : Option A) → Beyond o → shorterOf len x o ≡ x
-  unfolding shorterOf
+  first-stays : (x : A) → len x ≤ bound → (o : Option A) → Beyond o → betterOf better x o ≡ x
+  unfolding betterOf
   first-stays x h none b = refl
-  first-stays x h (some y) b = shorter-first len x y (omega (arith, h, b))
+  first-stays x h (some y) b = first-better better len by-length x y (omega (arith, h, b))
 
-  one-short : (x : A) → len x ≤ bound → (all kept : Option A) → Bounded all kept → Bounded (some (shorterOf len x all)) (some (shorterOf len x kept))
-  one-short x h all kept (inl (same, b)) = inl (ap (λ o. some (shorterOf len x o)) same, below-one x h kept b)
+  one-short : (x : A) → len x ≤ bound → (all kept : Option A) → Bounded all kept → Bounded (some (betterOf better x all)) (some (betterOf better x kept))
+  one-short x h all kept (inl (same, b)) = inl (ap (λ o. some (betterOf better x o)) same, below-one x h kept b)
   one-short x h all kept (inr (empty, b)) =
       let nothing-kept = subst Below (sym empty) tt in
       let beyond-kept = subst Beyond (sym empty) tt in
       inl (ap some (first-stays x h all b ∙ sym (first-stays x h kept beyond-kept)), below-one x h kept nothing-kept)
 
-  one-long : (x : A) → bound < len x → (all kept : Option A) → Bounded all kept → Bounded (some (shorterOf len x all)) kept
+  one-long : (x : A) → bound < len x → (all kept : Option A) → Bounded all kept → Bounded (some (betterOf better x all)) kept
   one-long x h all none (inl (same, b)) = inr (refl, beyond-one x h all (subst Beyond (sym same) tt))
   one-long x h all (some y) (inl (same, b)) =
-      inl (ap some (ap (shorterOf len x) same ∙ shorter-second len x y (omega (arith, h, b))), b)
+      inl (ap some (ap (betterOf better x) same ∙ second-better better len by-length x y (omega (arith, h, b))), b)
   one-long x h all kept (inr (empty, b)) = inr (empty, beyond-one x h all b)
 
-  bounded-first : (xs : List A) → Bounded (firstShortest len xs) (firstShortest len (kept-only xs))
+  bounded-first : (xs : List A) → Bounded (firstBest better xs) (firstBest better (kept-only xs))
   bounded-first [] = inl (refl, tt)
   bounded-first (x ∷ xs) = go (leb (len x) bound) refl (bounded-first xs)
     where
-      go : (b : Bool) → leb (len x) bound ≡ b → Bounded (firstShortest len xs) (firstShortest len (kept-only xs))
-          → Bounded (firstShortest len (x ∷ xs)) (firstShortest len (cond b (x ∷ kept-only xs) (kept-only xs)))
+      go : (b : Bool) → leb (len x) bound ≡ b → Bounded (firstBest better xs) (firstBest better (kept-only xs))
+          → Bounded (firstBest better (x ∷ xs)) (firstBest better (cond b (x ∷ kept-only xs) (kept-only xs)))
       go true p rest = one-short x (leb-true (len x) bound p) _ _ rest
       go false p rest = one-long x (leb-false (len x) bound p) _ _ rest
 
   -- so what is found among those within the bound is first among all
-  found-first : (xs : List A) (x : A) → firstShortest len (kept-only xs) ≡ some x → firstShortest len xs ≡ some x
+  found-first : (xs : List A) (x : A) → firstBest better (kept-only xs) ≡ some x → firstBest better xs ≡ some x
   found-first xs x e = go (bounded-first xs)
     where
-      go : Bounded (firstShortest len xs) (firstShortest len (kept-only xs)) → firstShortest len xs ≡ some x
+      go : Bounded (firstBest better xs) (firstBest better (kept-only xs)) → firstBest better xs ≡ some x
       go (inl (same, b)) = same ∙ e
       go (inr (empty, b)) = let none-some : _≡_ {A = ℕ} 0 1 = cc in absurd (omega arith)
 
-module _ {A : Type 0} (len len′ : A → ℕ) where
-  -- lengths that agree on a list choose the same from it
-  abbrev apart : A → ℕ
-  apart x = (len x - len′ x) + (len′ x - len x)
-
-  abbrev Agreed : Option A → Type 0
-  Agreed none = Unit {0}
-  Agreed (some x) = apart x ≡ 0
-
-  agreed-one : (x : A) → apart x ≡ 0 → (o : Option A) → Agreed o → (shorterOf len x o ≡ shorterOf len′ x o) × Agreed (some (shorterOf len x o))
-  unfolding shorterOf
-  agreed-one x h none b = (refl, h)
-  agreed-one x h (some y) b =
-      let at-x : len x ≡ len′ x = omega (arith, h) in
-      let at-y : len y ≡ len′ y = omega (arith, b) in
-      (rw (at-x, at-y) refl, shorter-zero len x y apart h b)
-
-  first-agrees : (xs : List A) → ((x : A) → List·Memᴰ x xs → len x ≡ len′ x)
-      → (firstShortest len xs ≡ firstShortest len′ xs) × Agreed (firstShortest len xs)
-  first-agrees [] h = (refl, tt)
-  first-agrees (x ∷ xs) h =
-      let rest = first-agrees xs (λ y m. h y (List·Memᴰ·tail m)) in
-      let here = agreed-one x (omega (arith, h x (List·Memᴰ·head refl))) (firstShortest len xs) rest.1 in
-      (ap some (here .0 ∙ ap (shorterOf len′ x) rest.0), here .1)
-
-module _ {A : Type 0} (len : A → ℕ) where
-  -- elements beside their lengths
-  abbrev beside : A → ℕ × A
+module _ (len : Plan → ℕ) where
+  -- plans beside their lengths
+  abbrev beside : Plan → Rest
   beside x = (len x, x)
 
-  abbrev besides : Option A → Option (ℕ × A)
+  abbrev besides : Option Plan → Option Rest
   besides none = none
   besides (some x) = some (beside x)
 
-  either-beside : (b : Bool) (x y : A) → cond b (beside x) (beside y) ≡ beside (cond b x y)
+  either-beside : (b : Bool) (x y : Plan) → cond b (beside x) (beside y) ≡ beside (cond b x y)
   either-beside true x y = refl
   either-beside false x y = refl
 
-  shorter-beside : (x : A) (o : Option A) → shorterOf (λ (p : ℕ × A). p .0) (beside x) (besides o) ≡ beside (shorterOf len x o)
-  unfolding shorterOf
-  shorter-beside x none = refl
-  shorter-beside x (some y) = simp (either-beside) refl
+  module _ (count : Plan → ℕ) where
+    better-beside : (x : Plan) (o : Option Plan) → betterOf (betterRest count) (beside x) (besides o) ≡ beside (betterOf (isBetter len count) x o)
+    unfolding betterOf isBetter
+    better-beside x none = refl
+    better-beside x (some y) = simp (either-beside) refl
 
-  first-beside : (xs : List A) → firstShortest (λ (p : ℕ × A). p .0) (map beside xs) ≡ besides (firstShortest len xs)
-  first-beside [] = refl
-  first-beside (x ∷ xs) =
-      ap (λ o. some (shorterOf (λ (p : ℕ × A). p .0) (beside x) o)) (first-beside xs) ∙ ap some (shorter-beside x (firstShortest len xs))
+    first-beside : (xs : List Plan) → firstBest (betterRest count) (map beside xs) ≡ besides (firstBest (isBetter len count) xs)
+    first-beside [] = refl
+    first-beside (x ∷ xs) =
+        ap (λ o. some (betterOf (betterRest count) (beside x) o)) (first-beside xs) ∙ ap some (better-beside x (firstBest (isBetter len count) xs))
 
-  abbrev seconds : Option (ℕ × A) → Option A
+  abbrev seconds : Option Rest → Option Plan
   seconds none = none
   seconds (some p) = some (p .1)
 
-  from-beside : (o : Option A) → o ≡ seconds (besides o)
+  from-beside : (o : Option Plan) → o ≡ seconds (besides o)
   from-beside none = refl
   from-beside (some y) = refl
 
@@ -510,7 +460,7 @@ fits-test cells (Gap k i) h =
 fits-test cells Once h = tt
 fits-test cells Twice h = tt
 
--- a plan that is found within the bound of its own length is the best plan of the job; that the listed actions fit is computed
+-- a plan that is found within the bound of its own length is the first of the best; that the listed actions fit is computed
 module _ (job : Job) (n : ℕ) (plan : Plan) (fit : allOf (fits (job .layout .cells)) (actionsOf (job .layout .cells)) ≡ true) where
   well-formed : (other : Plan) → List·Memᴰ other (servingPlans job) → WellFormed (job .layout) other
   unfolding servingPlans
@@ -522,13 +472,26 @@ module _ (job : Job) (n : ℕ) (plan : Plan) (fit : allOf (fits (job .layout .ce
   same-length other m =
       plan-length (job .layout) other (well-formed other m) ∙ cost-sums (job .layout) (other .actions) (other .passages)
 
-  pub found-best : boundedBest job n ≡ some (n, plan) → bestPlan job ≡ plan
-  unfolding bestPlan
-  found-best found =
+  -- so plans are compared alike by the one and by the other
+  same-better : (count : Plan → ℕ) (x y : Plan) → List·Memᴰ x (servingPlans job) → List·Memᴰ y (servingPlans job)
+      → isBetter (planLength (job .layout)) count x y ≡ isBetter (cost (job .layout)) count x y
+  unfolding isBetter
+  same-better count x y m l = simp (same-length x m, same-length y l) refl
+
+  -- whatever is counted in those that are equally long
+  pub found-first-best : (count : Plan → ℕ) → boundedBest job n count ≡ some (n, plan)
+      → firstBest (isBetter (planLength (job .layout)) count) (servingPlans job) ≡ some plan
+  found-first-best count found =
       let len = cost (job .layout) in
+      let better = isBetter len count in
       let serving = servingPlans job in
       let kept = select (λ p. leb (len p) n) serving in
-      let beside-it = sym (first-beside len kept) ∙ sym (bounded-serving job n) ∙ found in
-      let among = from-beside len (firstShortest len kept) ∙ ap (seconds len) beside-it in
-      let agree = first-agrees (planLength (job .layout)) len serving same-length in
-      ap (λ o. Option·getD o (emptyPlan (job .layout))) (agree .0 ∙ found-first len n serving plan among)
+      let beside-it = sym (first-beside len count kept) ∙ sym (bounded-serving job n count) ∙ found in
+      let among = from-beside len (firstBest better kept) ∙ ap (seconds len) beside-it in
+      let agree = first-best-agrees (isBetter (planLength (job .layout)) count) better serving (same-better count) in
+      agree ∙ found-first better len (shorter-better len count) n serving plan among
+
+  -- with the entered aisles it is the best plan of the job
+  pub found-best : boundedBest job n enteredAisles ≡ some (n, plan) → bestPlan job ≡ plan
+  unfolding bestPlan
+  found-best found = ap (λ o. Option·getD o (emptyPlan (job .layout))) (found-first-best enteredAisles found)

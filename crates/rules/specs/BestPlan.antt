@@ -1,11 +1,12 @@
--- Document 01, "Policies", the ties: the order of plans, and the first of the shortest that serve the list.
+-- Document 01, "Policies", the ties, as request #108 has them: the order of plans, and the best of those that serve the list: of the shortest
+-- those that enter the fewest aisles, and of these the first.
 use Prim.Native.Nat.{ℕ, zero, suc, _+_, _-_, _≤_, _<_}
 use mathlib.Core.Path.{_≡_}
 use mathlib.Core.Logic.{_⊎_}
 use mathlib.Core.List.{List, [], _∷_, _++_, map, reverse}
-use mathlib.Core.Bool.{Bool, true, false, cond, _&&_}
+use mathlib.Core.Bool.{Bool, true, false, cond, _&&_, _||_}
 use mathlib.Core.Option.{Option, none, some, Option·getD}
-use lib.Dec.{leb}
+use lib.Dec.{eqb, ltb}
 use lib.ListN.{replicate}
 use Rattle.rules.specs.declared.Layout.{Layout}
 use Rattle.rules.specs.declared.Action.{Action}
@@ -16,7 +17,7 @@ use Rattle.rules.specs.Lists.{from, select, concatOf}
 use Rattle.rules.specs.Jobs.{Job}
 use Rattle.rules.specs.Plans.{Plan, planLength, planPasses}
 use Rattle.rules.specs.Serving.{serves, PlanServes}
-use Rattle.rules.specs.Policies.{Allowed}
+use Rattle.rules.specs.Policies.{enteredAisles, Allowed}
 use Rattle.rules.specs.Machine.{accepts}
 
 -- the numbers from n down to 1
@@ -82,15 +83,19 @@ unfoldable pub PlanBefore : ℕ → Plan → Plan → Type 0
 PlanBefore cells x y = Before cells (x .actions) (x .passages) (y .actions) (y .passages)
 
 module _ {A : Type 0} where
-  -- the first of two, unless the second is shorter
-  unfoldable pub shorterOf : (A → ℕ) → A → Option A → A
-  shorterOf len x none = x
-  shorterOf len x (some y) = cond (leb (len x) (len y)) x y
+  -- one is better than another: it is shorter, or it is as long and enters fewer aisles
+  unfoldable pub isBetter : (A → ℕ) → (A → ℕ) → A → A → Bool
+  isBetter len aisles x y = ltb (len x) (len y) || (eqb (len x) (len y) && ltb (aisles x) (aisles y))
 
-  -- the first of the shortest in a list
-  abbrev pub firstShortest : (A → ℕ) → List A → Option A
-  firstShortest len [] = none
-  firstShortest len (x ∷ xs) = some (shorterOf len x (firstShortest len xs))
+  -- the first of two, unless the second is better
+  unfoldable pub betterOf : (A → A → Bool) → A → Option A → A
+  betterOf better x none = x
+  betterOf better x (some y) = cond (better y x) y x
+
+  -- the first of the best in a list
+  abbrev pub firstBest : (A → A → Bool) → List A → Option A
+  firstBest better [] = none
+  firstBest better (x ∷ xs) = some (betterOf better x (firstBest better xs))
 
 -- the plans that the job's policy allows and that serve its list, in order. `accepts` (Machine) is the executable test of
 -- `Allowed` (Policies): that the two agree is proved (tours/proofs/Machine, `accepts-allowed`)
@@ -102,18 +107,22 @@ servingPlans job =
 unfoldable pub emptyPlan : Layout → Plan
 emptyPlan z = record { actions = replicate (z .aisles) Void; passages = replicate (z .aisles - 1) P00 }
 
--- the plan of the sheet: the first of the shortest. (There is one for every job that is not refused: of an empty list the plan
--- that treads nothing. Else that only stands in where there is none.)
+-- the plan of the sheet: of the shortest the first of those that enter the fewest aisles. (There is one for every job that is not refused: of
+-- an empty list the plan that treads nothing. Else that only stands in where there is none.)
 unfoldable pub bestPlan : Job → Plan
-bestPlan job = Option·getD (firstShortest (planLength (job .layout)) (servingPlans job)) (emptyPlan (job .layout))
+bestPlan job =
+    Option·getD (firstBest (isBetter (planLength (job .layout)) enteredAisles) (servingPlans job)) (emptyPlan (job .layout))
 
 -- its declarative twin, among the plans that some rules allow: the plan is one of them and serves the list; no other such plan is shorter;
--- and of those that are no longer it is the first in the order of plans
+-- none that is no longer enters fewer aisles; and of those that are no longer and enter no more it is the first in the order of plans
 pub record BestAmong (Allows : Plan → Type 0) (job : Job) (plan : Plan) : Type 0 where
   pub allowed : Allows plan
   pub serving : PlanServes job plan
   pub least : (other : Plan) → Allows other → PlanServes job other → planLength (job .layout) plan ≤ planLength (job .layout) other
-  pub first : (other : Plan) → Allows other → PlanServes job other → planLength (job .layout) other ≤ planLength (job .layout) plan → (other ≡ plan) ⊎ PlanBefore (job .layout .cells) plan other
+  pub fewest : (other : Plan) → Allows other → PlanServes job other → planLength (job .layout) other ≤ planLength (job .layout) plan
+      → enteredAisles plan ≤ enteredAisles other
+  pub first : (other : Plan) → Allows other → PlanServes job other → planLength (job .layout) other ≤ planLength (job .layout) plan
+      → enteredAisles other ≤ enteredAisles plan → (other ≡ plan) ⊎ PlanBefore (job .layout .cells) plan other
 
 -- among those that the job's policy allows: that this is `bestPlan`, and no other plan, for every job that is not refused is proved
 -- (optimum/proofs/Best, `best-plan`, `best-plan-only`)

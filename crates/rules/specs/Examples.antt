@@ -561,6 +561,47 @@ doorCases =
     ∷ under Midpoint (doorAt 3) (tour 18 (Once ∷ Bottom 1 ∷ Once ∷ []) (P11 ∷ P11 ∷ []))  -- TRAVERSAL's rule alone
     ∷ []
 
+-- request #108's own store
+unfoldable pub fewerStore : Policy → Job
+fewerStore = ownJob 3 3 2 1 2 5 2 (stocked 1 3 7 2 ∷ stocked 2 1 7 1 ∷ stocked 3 1 7 1 ∷ []) ((7 ⨯ 2) ∷ [])
+
+-- there aisle 1 is left out
+unfoldable pub besideAisleOne : Expected
+besideAisleOne = tour 18 (Void ∷ Bottom 1 ∷ Bottom 1 ∷ []) (P00 ∷ P02 ∷ [])
+
+-- aisles of one cell, w apart, the depot at the last: aisle 1 has all that the list wants, each of the others half of it
+unfoldable pub fewerApart : ℕ → Policy → Job
+fewerApart w = ownJob 3 1 1 1 1 w 3 (stocked 1 1 7 2 ∷ stocked 2 1 7 1 ∷ stocked 3 1 7 1 ∷ []) ((7 ⨯ 2) ∷ [])
+
+-- there aisle 1 alone is entered; the others, by this action and with this passage between them, are as near
+unfoldable pub aisleOneAlone : Action → Passage → Expected
+aisleOneAlone a p = tied 6 (Bottom 1 ∷ Void ∷ Void ∷ []) (P02 ∷ P02 ∷ []) (Void ∷ a ∷ a ∷ []) (P00 ∷ p ∷ [])
+
+-- article 7 is in both cells of aisle 1, and in aisle 2 on the way to article 8 in aisle 3
+unfoldable pub pastOrInto : Policy → Job
+pastOrInto = ownJob 3 2 1 1 1 1 1 (stocked 1 1 7 1 ∷ stocked 1 2 7 1 ∷ stocked 2 1 7 1 ∷ stocked 3 1 8 1 ∷ []) ((7 ⨯ 2) ∷ (8 ⨯ 1) ∷ [])
+
+-- there aisle 2 is passed by; this plan is as long
+unfoldable pub pastAisleTwo : List Action → List Passage → Expected
+pastAisleTwo others gaps = tied 10 (Bottom 2 ∷ Void ∷ Bottom 1 ∷ []) (P02 ∷ P02 ∷ []) others gaps
+
+-- cases of request #108; each row against a misreading
+unfoldable pub fewerCases : List Case
+fewerCases =
+    under Exact fewerStore (tied 18 (Bottom 3 ∷ Void ∷ Void ∷ []) (P02 ∷ P00 ∷ []) (Void ∷ Bottom 1 ∷ Bottom 1 ∷ []) (P00 ∷ P02 ∷ []))  -- fewer aisles before document 01's order
+    ∷ under Return (fewerApart 1) (aisleOneAlone (Bottom 1) P02)  -- so under every policy
+    ∷ under Composite (fewerApart 1) (aisleOneAlone (Bottom 1) P02)
+    ∷ under Traversal (fewerApart 1) (aisleOneAlone Once P11)  -- the aisles count, not the turns in them
+    ∷ under Midpoint (fewerApart 1) (aisleOneAlone Once P11)
+    ∷ under Largest (fewerApart 1) (aisleOneAlone Once P11)
+    ∷ underEvery (fewerApart 2) (long 8)  -- the length before the aisles: two are entered
+    ∷ underEvery (fewerApart 2) (allowing true (Bottom 1 ∷ Void ∷ Void ∷ []) (P02 ∷ P02 ∷ []))  -- though one would do, with 10
+    ∷ under Exact pastOrInto (pastAisleTwo (Bottom 1 ∷ Bottom 1 ∷ Bottom 1 ∷ []) (P02 ∷ P02 ∷ []))  -- a VOID aisle between entered ones is not entered
+    ∷ under Exact pastOrInto (pastAisleTwo (Once ∷ Void ∷ Once ∷ []) (P11 ∷ P11 ∷ []))  -- of the two among these three that enter as few, the first
+    ∷ under Exact (timed 6 (window 1 5 6 ∷ []) fewerStore) besideAisleOne  -- aisle 1 is shut
+    ∷ under Exact (posted 2 1 fewerStore) besideAisleOne  -- cell 3 of aisle 1 is further, by a post
+    ∷ []
+
 -- an L section with posts
 unfoldable pub twoLines : List ℕ
 twoLines =

@@ -1,9 +1,10 @@
--- The rows of the table, from the one behind the last aisle to the first.
+-- The rows of the table and their ones, from those behind the last aisle to the first.
 use Prim.Native.Nat.{ℕ, zero, suc, _+_, _*_, _-_, _≤_, _<_}
 use native.Mathlib.Omega.{arith}
 use mathlib.Core.Path.{_≡_, refl, sym, _∙_, ap, ap₂, subst}
 use mathlib.Core.List.{List}
 use mathlib.Core.Bool.{Bool, true, false, cond, _&&_, _||_}
+use lib.Count.{ones-ones}
 use lib.Dec.{eqb}
 use borrow.Author.Tests.{eqb-true, eqb-false, eq-eqb, ne-eqb}
 use lib.ListN.{length, getD, set, replicate, length-set, length-replicate, getD-replicate}
@@ -15,15 +16,18 @@ use Rattle.rules.specs.Jobs.{Job, holdsListed}
 use Rattle.rules.specs.Refusals.{weight, Admitted}
 use Rattle.rules.specs.Policies.{walkBackEnd}
 use Rattle.rules.specs.Machine.{isClosed, mayEnter, enterable}
-use Rattle.optimum.specs.Routing.{noTour}
+use Rattle.optimum.specs.Routing.{noTour, noKey}
 use Rattle.machine.specs.States.{stateOf}
 use Rattle.machine.specs.Steps.{bit, policyOf}
 use Rattle.machine.proofs.StepLaws.{policy-of-code, policy-code-below}
 use Rattle.demand.specs.Maps.{mapSize, MapsAsked, MapsReady}
 use Rattle.demand.proofs.Composition.{met-zero}
+use Rattle.demand.proofs.Filling.{zero-at}
 use Rattle.table.specs.declared.filling.Order.{Order}
 use Rattle.aisles.specs.declared.layers.Aisle.{Aisle}
 use Rattle.rows.specs.Rows.{numbers}
+use Rattle.rows.specs.Pairs.{keyOf, Holds}
+use Rattle.rows.proofs.Keys.{packed-low, held-as}
 use Rattle.between.specs.declared.Between.{Between}
 use Rattle.between.specs.Between.{betweenOf}
 use Rattle.between.proofs.Laws.{graded}
@@ -56,11 +60,12 @@ end-place s q l = go (eqb s 1) refl (eqb q 0) refl
     go true e false f = ne-eqb (q * 8 + s) 1 (λ p. eqb-false q 0 f (omega (arith, eqb-true s 1 e)))
     go false e b f = ne-eqb (q * 8 + s) 1 (λ p. eqb-false s 1 e (omega arith))
 
--- the row behind the last aisle
+-- the row behind the last aisle: its length
 pub end-length : length endRow ≡ numbers
 unfolding endRow
 end-length = length-set (replicate numbers noTour) 1 0 ∙ length-replicate numbers noTour
 
+-- and its numbers
 end-at : (k : ℕ) → k < numbers → getD endRow k 0 ≡ cond (eqb k 1) 0 noTour
 unfolding endRow
 end-at k h = go (eqb k 1) refl
@@ -72,11 +77,19 @@ end-at k h = go (eqb k 1) refl
     go true e = ap (λ n. getD (set none 1 0) n 0) (eqb-true k 1 e) ∙ getD-set-same none 1 0 0 (omega (arith, length-replicate numbers noTour))
     go false e = getD-set-other none 1 k 0 0 (eqb-false k 1 e) ∙ getD-replicate numbers k noTour 0 h
 
--- it holds the table's values with no aisle left
-pub end-holds : (job : Job) → weight (job .lines) ≤ 256 → (j : ℕ) → RowHolds job 0 j endRow
+-- with no aisle left there are no ones: the key is 0, or that of 'none'
+end-key : (b : Bool) → Holds 0 (cond b 0 noTour) 0 (cond b 0 noKey)
+unfolding keyOf
+end-key true = record { sound = λ l. packed-low 0 0 (omega arith); same = omega (arith, ones-ones 0) }
+end-key false = record { sound = λ l. absurd (omega arith); same = omega arith }
+
+-- without ones beside it it holds the table's values with no aisle left
+pub end-holds : (job : Job) → weight (job .lines) ≤ 256 → (j : ℕ) → RowHolds job 0 j endRow (replicate numbers 0)
 end-holds job small j s q l h =
-    end-at (q * 8 + s) (omega arith)
-    ∙ ap (λ b. cond b 0 noTour) (end-place s q l ∙ ap₂ _&&_ (sym (closed-code s)) (sym (met-zero job q h)))
+    let at = end-at (q * 8 + s) (omega arith) in
+    let done = end-place s q l ∙ ap₂ _&&_ (sym (closed-code s)) (sym (met-zero job q h)) in
+    let test = eqb (q * 8 + s) 1 in
+    held-as at (zero-at numbers (q * 8 + s)) (subst (λ b. Holds 0 (cond test 0 noTour) 0 (cond b 0 noKey)) done (end-key test))
 
 -- a flag is the number of its test
 flag-is : (r : ℕ) (b : Bool) → bit r ≡ b → r < 2 → r ≡ flagOf b
@@ -197,10 +210,11 @@ module _ (job : Job) (j : ℕ) (x : Aisle) (x-is : x ≡ aisleOf job j) where
   unfolding aisleOf
   same-weight = ap (λ (y : Aisle). y .weight) x-is
 
-  -- the row behind the actions, out of the row of the next aisle
-  pub behind-holds : (after next : List ℕ) → RowHolds job right (suc j) next → AfterFilled x after next → AfterHolds job right j after
-  behind-holds after next holds filled =
-      after-value job right j next holds refl after (subst (λ (y : Aisle). AfterFilled y after next) x-is filled)
+  -- the rows behind the actions, out of the rows of the next aisle
+  pub behind-holds : right ≤ 16 → (after after-spared next next-spared : List ℕ) → RowHolds job right (suc j) next next-spared
+      → AfterFilled x after after-spared next next-spared → AfterHolds job right j after after-spared
+  behind-holds small after after-spared next next-spared holds filled =
+      after-value job right j next next-spared holds refl small after after-spared (subst (λ (y : Aisle). AfterFilled y after after-spared next next-spared) x-is filled)
 
   module _ (ok : Admitted job) where
     pub in-range : InRange x
@@ -211,8 +225,9 @@ module _ (job : Job) (j : ℕ) (x : Aisle) (x-is : x ≡ aisleOf job j) where
     ready fronts backs maps fronts-long backs-long =
         subst (λ y. AisleReady y fronts backs) (sym x-is) (aisle-ready job ok j fronts backs maps fronts-long backs-long)
 
-    -- the row of the aisle, out of the row behind its actions
-    pub layer-holds : (after fronts backs row : List ℕ) → MapsReady job j fronts backs → AfterHolds job right j after → RowFilled x row after fronts backs
-        → RowHolds job (suc right) j row
-    layer-holds after fronts backs row maps holds filled =
-        row-value job (within (job .layout) (ok .layout) .cells .1) (ok .stock) right j after fronts backs row maps holds (subst (λ (y : Aisle). RowFilled y row after fronts backs) x-is filled)
+    -- the rows of the aisle, out of the rows behind its actions
+    pub layer-holds : right < 16 → (after after-spared fronts backs row row-spared : List ℕ) → MapsReady job j fronts backs → AfterHolds job right j after after-spared
+        → RowFilled x row row-spared after after-spared fronts backs → RowHolds job (suc right) j row row-spared
+    layer-holds room after after-spared fronts backs row row-spared maps holds filled =
+        row-value job (within (job .layout) (ok .layout) .cells .1) (ok .stock) right j room after after-spared fronts backs row row-spared maps holds
+        (subst (λ (y : Aisle). RowFilled y row row-spared after after-spared fronts backs) x-is filled)

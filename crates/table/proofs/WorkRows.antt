@@ -1,4 +1,4 @@
--- A row of the work area: read where it stands, and written in its place.
+-- The rows of an aisle in the work area and in the list of ones: read where they stand, and written in their places.
 use Prim.Native.Nat.{ℕ, suc, _+_, _*_, _-_, _≤_, _<_}
 use native.Mathlib.Omega.{arith}
 use native.Mathlib.Nat.{eq-or-lt-of-le}
@@ -13,14 +13,17 @@ use Rattle.rules.specs.Refusals.{weight}
 use Rattle.optimum.specs.Demand.{radices, demandOf}
 use Rattle.machine.specs.States.{stateOf}
 use Rattle.rows.specs.Rows.{numbers}
+use Rattle.rows.specs.Pairs.{Holds}
+use Rattle.rows.proofs.Keys.{held-as}
 use Rattle.table.specs.TableHolds.{values, RowHolds, TableFrom}
 
 -- a part of a list, read
 pub part-at : (xs : List ℕ) (a e k : ℕ) → a + k < e → getD (take (e - a) (drop a xs)) k 0 ≡ getD xs (a + k) 0
 part-at xs a e k h = getD-take (e - a) (drop a xs) k 0 (omega arith) ∙ getD-drop a xs k 0
 
--- a list with other numbers from place a to place e: it holds them there, and past e what it held
+-- a list with other numbers from place a to place e
 module _ (xs ys : List ℕ) (a e : ℕ) (order : a ≤ e) (within : e ≤ length xs) (fits : length ys ≡ e - a) where
+  -- the numbers that are put
   put-at : (k : ℕ) → a + k < e → getD (putMid a (e - a) xs ys) (a + k) 0 ≡ getD ys k 0
   put-at k h =
       let front : length (take a xs) ≡ a = length-take-le a xs (omega arith) in
@@ -28,6 +31,7 @@ module _ (xs ys : List ℕ) (a e : ℕ) (order : a ≤ e) (within : e ≤ length
       ∙ getD-append-add (take a xs) (ys ++ postOf a (e - a) xs) k 0
       ∙ List·getD-append ys (postOf a (e - a) xs) 0 k (omega arith)
 
+  -- those past them
   put-past : (k : ℕ) → e ≤ k → getD (putMid a (e - a) xs ys) k 0 ≡ getD xs k 0
   put-past k h =
       let whole : e + (k - e) ≡ k = omega arith in
@@ -37,38 +41,53 @@ module _ (xs ys : List ℕ) (a e : ℕ) (order : a ≤ e) (within : e ≤ length
       ∙ getD-drop e xs (k - e) 0
       ∙ ap (λ n. getD xs n 0) whole
 
+-- where a state and a demand of aisle i stand
+abbrev place : ℕ → ℕ → ℕ → ℕ
+place i s q = (i - 1) * numbers + (q * 8 + s)
+
 module _ (job : Job) (small : weight (job .lines) ≤ 256) where
-  -- the row of aisle i, which is a part of the work area
-  pub row-read : (work : List ℕ) (j i a e : ℕ) → TableFrom job j work → j ≤ i → i ≤ job .layout .aisles → a ≡ (i - 1) * numbers → e ≡ a + numbers
-      → RowHolds job (suc (job .layout .aisles) - i) i (take (e - a) (drop a work))
-  row-read work j i a e table low high starts ends s q l h =
-      part-at work a e (q * 8 + s) (omega arith) ∙ ap (λ n. getD work (n + (q * 8 + s)) 0) starts ∙ table i s q low high l h
+  -- what the table holds for aisle i with n aisles left
+  abbrev Entry : List ℕ → List ℕ → ℕ → ℕ → ℕ → ℕ → Type 0
+  Entry work spared n i s q = Holds n (getD work (place i s q) 0) (getD spared (place i s q) 0) (values job n i (stateOf s) (demandOf (radices job) q))
 
-  -- what the table holds for aisle i
-  abbrev Entry : List ℕ → ℕ → ℕ → ℕ → Type 0
-  Entry work i s q = getD work ((i - 1) * numbers + (q * 8 + s)) 0 ≡ values job (suc (job .layout .aisles) - i) i (stateOf s) (demandOf (radices job) q)
+  -- the rows of aisle i, which are parts of the work area and of the list of ones
+  pub row-read : (work spared : List ℕ) (j i a e : ℕ) → TableFrom job j work spared → j ≤ i → i ≤ job .layout .aisles → a ≡ (i - 1) * numbers → e ≡ a + numbers
+      → RowHolds job (suc (job .layout .aisles) - i) i (take (e - a) (drop a work)) (take (e - a) (drop a spared))
+  row-read work spared j i a e table low high starts ends s q l h = held-as (read work) (read spared) (table i s q low high l h)
+    where
+      read : (xs : List ℕ) → getD (take (e - a) (drop a xs)) (q * 8 + s) 0 ≡ getD xs (place i s q) 0
+      read xs = part-at xs a e (q * 8 + s) (omega arith) ∙ ap (λ n. getD xs (n + (q * 8 + s)) 0) starts
 
-  -- the row of aisle j, written in its place
-  pub row-written : (work row : List ℕ) (j a e : ℕ) → 1 ≤ j → j ≤ job .layout .aisles → a ≡ (j - 1) * numbers → e ≡ a + numbers
-      → e ≤ length work → length row ≡ e - a → TableFrom job (suc j) work → RowHolds job (suc (job .layout .aisles - j)) j row
-      → TableFrom job j (putMid a (e - a) work row)
-  row-written work row j a e low high starts ends within fits table holds i s q l m t h = ⊎-elim here later (eq-or-lt-of-le l)
+  -- the rows of aisle j, written in their places
+  pub row-written : (work spared row row-spared : List ℕ) (j a e : ℕ) → 1 ≤ j → j ≤ job .layout .aisles → a ≡ (j - 1) * numbers → e ≡ a + numbers
+      → e ≤ length work → e ≤ length spared → length row ≡ e - a → length row-spared ≡ e - a → TableFrom job (suc j) work spared
+      → RowHolds job (suc (job .layout .aisles - j)) j row row-spared → TableFrom job j (putMid a (e - a) work row) (putMid a (e - a) spared row-spared)
+  row-written work spared row row-spared j a e low high starts ends within within′ fits fits′ table holds i s q l m t h = ⊎-elim here later (eq-or-lt-of-le l)
     where
       work′ : List ℕ
       work′ = putMid a (e - a) work row
 
+      spared′ : List ℕ
+      spared′ = putMid a (e - a) spared row-spared
+
       left-is : suc (job .layout .aisles - j) ≡ suc (job .layout .aisles) - j
       left-is = omega arith
 
-      at-j : Entry work′ j s q
-      at-j =
-          ap (λ n. getD work′ (n + (q * 8 + s)) 0) (sym starts)
-          ∙ put-at work row a e (omega arith) within fits (q * 8 + s) (omega arith)
-          ∙ holds s q t h
-          ∙ ap (λ n. values job n j (stateOf s) (demandOf (radices job) q)) left-is
+      -- in the rows of aisle j stands what is written
+      read : (xs ys : List ℕ) → e ≤ length xs → length ys ≡ e - a → getD (putMid a (e - a) xs ys) (place j s q) 0 ≡ getD ys (q * 8 + s) 0
+      read xs ys in-xs f =
+          ap (λ n. getD (putMid a (e - a) xs ys) (n + (q * 8 + s)) 0) (sym starts)
+          ∙ put-at xs ys a e (omega arith) in-xs f (q * 8 + s) (omega arith)
 
-      here : j ≡ i → Entry work′ i s q
-      here same = subst (λ k. Entry work′ k s q) same at-j
+      here : j ≡ i → Entry work′ spared′ (suc (job .layout .aisles) - i) i s q
+      here same =
+          subst (λ k. Entry work′ spared′ (suc (job .layout .aisles) - k) k s q) same
+          (subst (λ n. Entry work′ spared′ n j s q) left-is
+          (held-as (read work row within fits) (read spared row-spared within′ fits′) (holds s q t h)))
 
-      later : j < i → Entry work′ i s q
-      later k = put-past work row a e (omega arith) within fits ((i - 1) * numbers + (q * 8 + s)) (omega arith) ∙ table i s q k m t h
+      -- in those of later aisles what stood there
+      past : (xs ys : List ℕ) → e ≤ length xs → length ys ≡ e - a → j < i → getD (putMid a (e - a) xs ys) (place i s q) 0 ≡ getD xs (place i s q) 0
+      past xs ys in-xs f k = put-past xs ys a e (omega arith) in-xs f (place i s q) (omega arith)
+
+      later : j < i → Entry work′ spared′ (suc (job .layout .aisles) - i) i s q
+      later k = held-as (past work row within fits k) (past spared row-spared within′ fits′ k) (table i s q k m t h)

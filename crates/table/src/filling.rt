@@ -1,4 +1,4 @@
-// The table of an order: its rows in the work area, from the last aisle to the first.
+// The table of an order: its rows in the work area, and the ones beside them, from the last aisle to the first.
 use crate::passages::fill_after;
 use aisles::layers::Aisle;
 use aisles::layers::fill_row;
@@ -126,46 +126,65 @@ pub fn end_row() -> [u16; NUMBERS]
     row
 }
 
-// The row behind the actions of aisle j, out of the row of the aisle behind it.
-fn fill_behind(after: &mut [u16], work: &[u16], x: Aisle, j: usize)
-    requires { ⌜ BehindAsked x (now after) (now work) ⌝ }
-    ensures { λ r. ⌜ BehindFilled x j (now (after .entry)) (now (after .exit)) (now (work .entry)) ⌝ }
+// The rows behind the actions of aisle j, out of the rows of the aisle behind it; behind the last one no aisle is left to spare.
+fn fill_behind<'a>(
+    after: &mut [u16],
+    spared: &mut [u16],
+    work: &'a [u16],
+    theirs: &'a [u16],
+    x: Aisle,
+    j: usize,
+)
+    requires { ⌜ BehindAsked x (now after) (now spared) (now work) (now theirs) ⌝ }
+    ensures { λ r. ⌜ BehindFilled x j (now (after .entry)) (now (after .exit)) (now (spared .entry)) (now (spared .exit))
+        (now (work .entry)) (now (theirs .entry)) ⌝ }
 {
     if j < x.layout.aisles {
         let at = j * NUMBERS;
         let end = at + NUMBERS;
-        fill_after(after, &work[at..end], x);
+        fill_after(after, spared, &work[at..end], &theirs[at..end], x);
         return;
     }
     let last = end_row();
-    fill_after(after, &last, x);
+    let none = [0u16; NUMBERS];
+    fill_after(after, spared, &last, &none, x);
 }
 
-// The row of aisle j, in its place.
-fn fill_layer(work: &mut [u16], o: Order, j: usize)
-    requires { ⌜ LayerAsked o j (now work) ⌝ }
-    ensures { λ r. ⌜ LayerFilled o j (now (work .entry)) (now (work .exit)) ⌝ }
+// The rows of aisle j, of lengths and of ones, in their places.
+fn fill_layer(work: &mut [u16], spared: &mut [u16], o: Order, j: usize)
+    requires { ⌜ LayerAsked o j (now work) (now spared) ⌝ }
+    ensures { λ r. ⌜ LayerFilled o j (now (work .entry)) (now (work .exit)) (now (spared .entry)) (now (spared .exit)) ⌝ }
 {
     let mut fronts = [0u16; MAP];
     let mut backs = [0u16; MAP];
     let mut after = [0u16; NUMBERS];
+    let mut ones = [0u16; NUMBERS];
     let cells = o.layout.cells;
     fill_maps(&mut fronts, &mut backs, o.shelf, o.digits, cells, j);
     let x = aisle_of(o, j);
-    fill_behind(&mut after, work, x, j);
+    fill_behind(&mut after, &mut ones, work, spared, x, j);
     let at = (j - 1) * NUMBERS;
     let end = at + NUMBERS;
-    fill_row(&mut work[at..end], &after, &fronts, &backs, x);
+    fill_row(
+        &mut work[at..end],
+        &mut spared[at..end],
+        &after,
+        &ones,
+        &fronts,
+        &backs,
+        x,
+    );
 }
 
-// The whole table.
-pub fn fill_table(work: &mut [u16], o: Order)
-    requires { ⌜ ((job : Job) × OrderOf job o) × (workArea ≤ length (now work)) ⌝ }
-    ensures { λ r. ⌜ ((job : Job) → OrderOf job o → TableFrom job 1 (now (work .exit))) × (length (now (work .exit)) ≡ length (now (work .entry))) ⌝ }
+// The whole table: the lengths in the work area, and the ones beside them.
+pub fn fill_table(work: &mut [u16], spared: &mut [u16], o: Order)
+    requires { ⌜ ((job : Job) × OrderOf job o) × (workArea ≤ length (now work)) × (workArea ≤ length (now spared)) ⌝ }
+    ensures { λ r. ⌜ ((job : Job) → OrderOf job o → TableFrom job 1 (now (work .exit)) (now (spared .exit)))
+        × (length (now (work .exit)) ≡ length (now (work .entry))) × (length (now (spared .exit)) ≡ length (now (spared .entry))) ⌝ }
 {
     let mut j = o.layout.aisles;
     while 0 < j {
-        fill_layer(work, o, j);
+        fill_layer(work, spared, o, j);
         j -= 1;
     }
 }

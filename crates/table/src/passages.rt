@@ -1,4 +1,4 @@
-// The row behind the actions of an aisle: the ways on over each passage.
+// The rows behind the actions of an aisle, of lengths and of ones: the ways on over each passage.
 use aisles::layers::Aisle;
 use demand::digits::DEMANDS;
 use machine::passage_step;
@@ -10,7 +10,7 @@ use rows::permute;
 use rows::relax_row;
 ghost use Prim.Native.Nat.{_*_, _+_, _<_, _≤_, ℕ};
 ghost use Rattle.demand.specs.Digits.{demands};
-ghost use Rattle.rows.specs.Rows.{PastKept, states};
+ghost use Rattle.rows.specs.Rows.{PastKept, numbers, states};
 ghost use Rattle.machine.specs.Steps.{passageOf};
 ghost use Rattle.aisles.specs.Layers.{InRange};
 ghost use Rattle.table.specs.Crossings.{AfterFilled, CrossingReady, PassageTried, crossCode};
@@ -61,34 +61,48 @@ fn plain_map() -> [u16; DEMANDS]
     out
 }
 
-// The ways over one passage behind an aisle, for each demand and state.
-fn relax_passage(after: &mut [u16], next: &[u16], x: Aisle, passage: usize)
-    requires { ⌜ CrossingReady x (now after) (now next) × (passage < 5) ⌝ }
-    ensures { λ r. ⌜ PassageTried x (now (after .entry)) (now (after .exit)) (now (next .entry)) passage ⌝ }
+// The ways over one passage behind an aisle, for each demand and state. The rows `perm` and `ones` are scratch.
+fn relax_passage(
+    after: &mut [u16],
+    spared: &mut [u16],
+    perm: &mut [u16],
+    ones: &mut [u16],
+    next: &[u16],
+    theirs: &[u16],
+    x: Aisle,
+    passage: usize,
+)
+    requires { ⌜ CrossingReady x (now after) (now spared) (now next) (now theirs) × (passage < 5) × (numbers ≤ length (now perm)) × (numbers ≤ length (now ones)) ⌝ }
+    ensures { λ r. ⌜ PassageTried x (now (after .entry)) (now (after .exit)) (now (spared .entry)) (now (spared .exit))
+        (now (next .entry)) (now (theirs .entry)) passage
+        × (length (now (perm .exit)) ≡ length (now (perm .entry))) × (length (now (ones .exit)) ≡ length (now (ones .entry))) ⌝ }
 {
     let weight = x.weight;
     let steps = passage_steps(x, passage);
     if lives(steps) {
         let plain = plain_map();
-        let mut perm = [0u16; NUMBERS];
-        permute(&mut perm, next, steps, weight);
+        permute(perm, next, steps, weight);
+        permute(ones, theirs, steps, weight);
         let cost = passage_length(passage, x.layout.width) as u16;
-        relax_row(after, &perm, &plain, 0, cost, weight);
+        relax_row(after, spared, perm, ones, &plain, 0, cost, weight);
     }
 }
 
-// The row behind the actions of an aisle: for each demand and state the least over the passages that are tried.
-pub fn fill_after(after: &mut [u16], next: &[u16], x: Aisle)
-    requires { ⌜ CrossingReady x (now after) (now next) ⌝ }
-    ensures { λ r. ⌜ AfterFilled x (now (after .exit)) (now (next .entry))
-        × (length (now (after .exit)) ≡ length (now (after .entry))) × PastKept (x .weight) (now (after .entry)) (now (after .exit)) ⌝ }
+// The rows behind the actions of an aisle: for each demand and state the least over the passages that are tried.
+pub fn fill_after(after: &mut [u16], spared: &mut [u16], next: &[u16], theirs: &[u16], x: Aisle)
+    requires { ⌜ CrossingReady x (now after) (now spared) (now next) (now theirs) ⌝ }
+    ensures { λ r. ⌜ AfterFilled x (now (after .exit)) (now (spared .exit)) (now (next .entry)) (now (theirs .entry))
+        × (length (now (after .exit)) ≡ length (now (after .entry))) × (length (now (spared .exit)) ≡ length (now (spared .entry)))
+        × PastKept (x .weight) (now (after .entry)) (now (after .exit)) × PastKept (x .weight) (now (spared .entry)) (now (spared .exit)) ⌝ }
 {
     let tried = x.tried;
     let weight = x.weight;
+    let mut perm = [0u16; NUMBERS];
+    let mut ones = [0u16; NUMBERS];
     fill_none(after, weight * STATES);
     let mut p = 0;
     while p < tried {
-        relax_passage(after, next, x, p);
+        relax_passage(after, spared, &mut perm, &mut ones, next, theirs, x, p);
         p += 1;
     }
 }

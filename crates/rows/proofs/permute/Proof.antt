@@ -1,4 +1,4 @@
--- `rows::permute` meets its contract: the states before s have the values of the states that they lead to.
+-- `rows::permute` meets its contract: the states before s have the numbers of the states that they lead to.
 use native.Mathlib.Omega.{arith}
 use Prim.Native.Nat.{_-_, _≤_}
 use mathlib.Core.Path.{_≡_, subst}

@@ -1,4 +1,4 @@
--- `rows::permute_state` meets its contract: the demands before q have the value of the state that s leads to.
+-- `rows::permute_state` meets its contract: the demands before q have the number of the state that s leads to.
 use native.Mathlib.Omega.{arith}
 use Prim.Native.Nat.{_-_, _≤_}
 use mathlib.Core.Path.{_≡_, subst}

@@ -1,4 +1,4 @@
--- `rows::step_value` meets its contract: a place of the row, or none for the dead state.
+-- `rows::step_value` meets its contract: a place of the row, or 65,535 for the dead state.
 use borrow.Author.Tests.{le-ltb, lt-ltb}
 use borrow.Author.Needs.{needs}
 use Rattle.rows.specs.Rows.{nextAt}
