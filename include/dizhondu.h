@@ -22,7 +22,7 @@ extern "C" {
 #define DIZHONDU_REFUSED 65536
 
 /* A call fits a thread with this much stack. Measured on x86-64 over all jobs of tests/vectors and tests/cases, by what a call
-   changed of a filled stack below its caller's frame: 335,376 bytes by plan_sheet and 371,904 by plan_page at most. The
+   changed of a filled stack below its caller's frame: 335,487 bytes by plan_sheet and 372,015 by plan_page at most. The
    tests make each of their calls in a thread with just this much. */
 #define DIZHONDU_STACK 393216
 
@@ -30,10 +30,12 @@ extern "C" {
 
    Returns the sheet's byte count, at most sheet_space; the bytes behind it are left as they were. A job with an empty list
    (`D 0`) is served too: a tour of length 0, which treads nothing. A job may have posts between the cells: `L 2`, and after the
-   layout line the line `k u`, a post after every k cells (1 to 24), each u wide (0 to 10). It may have opening hours: between the
-   sections S and D `M 1` with the minute of the day (0 to 1439), then `H n` (0 to 64) with lines aisle, from, to (from below to, to at
-   most 1440). An aisle with lines is open when from <= minute < to for one of them; a shut aisle is not entered, and its stock counts
-   for nothing. The policy word is EXACT, RETURN, TRAVERSAL, MIDPOINT, COMPOSITE or LARGEST. Of an odd number of entered aisles
+   layout line the line `k u`, a post after every k cells (1 to 24), each u wide (0 to 10). Its depot may be at the back: `L 3`, and
+   after the line `k u` (u 0 where there are no posts) a line FRONT or BACK; with BACK the depot is the back crossing of aisle d, and
+   the policies read TOP for BOTTOM and 20 for 02 where they name only those. It may have opening hours: between the sections S and D
+   `M 1` with the minute of the day (0 to 1439), then `H n` (0 to 64) with lines aisle, from, to (from below to, to at most 1440). An
+   aisle with lines is open when from <= minute < to for one of them; a shut aisle is not entered, and its stock counts for nothing.
+   The policy word is EXACT, RETURN, TRAVERSAL, MIDPOINT, COMPOSITE or LARGEST. Of an odd number of entered aisles
    TRAVERSAL walks one back: the leftmost where the depot lies right of the middle (2 * d > m + 1), otherwise the rightmost. Where
    several tours are the shortest, one that enters the fewest aisles is taken, and of these the first in the published order of plans. No
    tour is longer than 57,280.

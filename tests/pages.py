@@ -12,7 +12,10 @@ def lines_of(sheet, letter):
 
 def cells_reached(job, sheet):
     """For each point of the walk, as aisle and height, the number of the first step that ends there."""
-    aisle, height = int(job.split(b"\n")[1].split()[6]), 0
+    lines = job.split(b"\n")
+    cells, aisle = (int(lines[1].split()[at]) for at in (1, 6))
+    # the depot is at the front, or at the back where the third line of the L section says so (#109)
+    height = cells + 1 if lines[0] == b"L 3" and lines[3] == b"BACK" else 0
     first, steps = {}, 0
     for letter, count in lines_of(sheet, "W"):
         for _ in range(int(count)):

@@ -1,5 +1,5 @@
-"""Document 01's job file and its refusals 1 to 8, read on its own; 5 is as request #101 has it, the L section and 2 as #102, 1 as #104,
-the sections M and H, 8 and 12 as #106."""
+"""Document 01's job file and its refusals 1 to 8, read on its own; 5 is as request #101 has it, the L section and 2 as #102 and #109, 1 as
+#104, the sections M and H, 8 and 12 as #106."""
 import re
 from math import prod
 
@@ -37,14 +37,16 @@ def read(job):
         return [[number(field) for field in line(width)] for _ in range(number(count))]
 
     opening = line(2)
-    if opening not in ([b"L", b"1"], [b"L", b"2"]):
+    if opening not in ([b"L", b"1"], [b"L", b"2"], [b"L", b"3"]):
         raise NotAJobFile
     *layout, policy = line(8)
     if policy not in POLICIES:
         raise NotAJobFile
     layout = [number(field) for field in layout]
     # no posts are as good as posts of no width
-    posts = [number(field) for field in line(2)] if opening[1] == b"2" else [1, 0]
+    posts = [number(field) for field in line(2)] if opening[1] != b"1" else [1, 0]
+    if opening[1] == b"3" and line(1) not in ([b"FRONT"], [b"BACK"]):
+        raise NotAJobFile
     stock = section(b"S", 4)
     # no hours are as good as a minute without windows
     minute, windows = 0, []

@@ -252,6 +252,33 @@ def equals(policy, aisles, cells, listed, others=0):
     return text([(aisles, cells, front, pitch, back, width, between(1, aisles), policy)], shuffled(stock), orders)
 
 
+def sided(jobs, side="BACK"):
+    """The jobs with a third line in the L section; those without posts get posts of no width."""
+    for job in jobs:
+        head, layout, rest = job.split(b"\n", 2)
+        posts, rest = rest.split(b"\n", 1) if head == b"L 2" else (b"%d 0" % between(1, 24), rest)
+        yield b"\n".join([b"L 3", layout, posts, side.encode(), rest])
+
+
+def turned(job):
+    """The job turned front to back, where posts have no width: cells counted from the back, f and b exchanged, FRONT and BACK too."""
+    head, layout, *lines = job.split(b"\n")
+    aisles, cells, front, pitch, back, *others = layout.split()
+    side = b"FRONT" if head == b"L 3" and lines[1] == b"BACK" else b"BACK"
+    at = lines.index(next(line for line in lines if line.startswith(b"S "))) + 1
+    end = at + int(lines[at - 1].split()[1])
+    stock = [line.split() for line in lines[at:end]]
+    lines[at:end] = [b" ".join([aisle, b"%d" % (int(cells) + 1 - int(cell)), *rest]) for aisle, cell, *rest in stock]
+    posts = lines[0] if head != b"L 1" else b"1 0"
+    return b"\n".join([b"L 3", b" ".join([aisles, cells, back, pitch, front, *others]), posts, side, *lines[at - 1 :]])
+
+
+def and_turned(jobs):
+    """Each job, and the job turned front to back."""
+    for job in jobs:
+        yield from (job, turned(job))
+
+
 def drawn(seeds, make):
     """The jobs made from rows of seeds; in a row the policies take turns."""
     for row in seeds:
@@ -349,6 +376,28 @@ JOBS += [
         [[34, 1121, 133, 658, 1094, 397], [38, 110, 29, 256, 59, 101], [386, 141, 268, 1030, 927, 212]],
         lambda policy: equals(policy, (16, 16), (24, 24), (8, 14), 384),
     ),
+]
+
+# the depot at the back (request #109)
+chance.seed(109)
+JOBS += [
+    *sided(some(4, (1, 4), (1, 5), 12, (0, 3), SIX)),
+    *sided(some(2, (3, 9), (3, 12), 14, (0, 12), SIX)),
+    *sided(some(1, (10, 16), (12, 24), 16, (0, 20), SIX)),
+    *sided(job(policy, 16, 24, 18, 384, (60, 30, 60, 400)) for policy in SIX),
+    *sided(with_posts(some(2, (2, 6), (2, 12), 12, (0, 12), SIX))),
+    *sided(over_the_middle(6)),
+    *sided(map(largest, over_the_middle(6))),
+    *sided(many_stops(12)),
+    *sided(at_doors(pieces([2, 3, 4, 5, 7]))),
+    *sided(equals(policy, (2, 5), (2, 6), (5, 10)) for policy in SIX for _ in range(3)),
+    *sided(some(1, (1, 9), (2, 12), 0, (1, 40), SIX)),
+    *sided(some(1, (2, 6), (2, 12), 12, (0, 12), SIX), "FRONT"),
+    *and_turned(some(3, (1, 6), (1, 8), 12, (0, 6), SIX)),
+    *and_turned(sided(equals(policy, (2, 5), (2, 6), (5, 10)) for policy in SIX for _ in range(2))),
+    *sided(with_hours(some(2, (1, 5), (2, 8), 10, (0, 6), SIX), (1, 3))),
+    *sided(with_hours(some(1, (1, 5), (2, 8), 10, (0, 6), SIX), (1, 3), depot_among_them=True)),
+    *and_turned(with_hours(some(1, (1, 4), (2, 6), 10, (0, 6), SIX), (1, 2), depot_among_them=True)),
 ]
 
 if __name__ == "__main__":

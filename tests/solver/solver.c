@@ -12,6 +12,7 @@ enum { MOST_CELLS = 18, MOST_STEPS = 3000000 }; /* what the search over walks an
 /* The job. */
 static int m, C, f, p, b, w, d, lines, quantity[LINES];
 static int bay, post; /* posts (request #102): the cells between two, and the width of one */
+static int rear; /* the depot is at the back crossing (request #109) */
 static int shut[AISLES + 1]; /* aisles that are shut at the minute (request #106) */
 static char policy[16];
 static int cells; /* cells that hold an article of the list and are open */
@@ -59,9 +60,12 @@ static void read_hours(void) {
 static int read_job(void) {
     static int record[RECORDS][4];
     int count, records, article[LINES];
+    char side[8] = "FRONT";
     if (scanf(" L %d %d %d %d %d %d %d %d %15s", &count, &m, &C, &f, &p, &b, &w, &d, policy) != 9) return 0;
     bay = 1, post = 0;
-    if (count == 2 && scanf("%d %d", &bay, &post) != 2) fail("no posts");
+    if (count > 1 && scanf("%d %d", &bay, &post) != 2) fail("no posts");
+    if (count > 2 && scanf("%7s", side) != 1) fail("no side");
+    rear = strcmp(side, "BACK") == 0;
     if (scanf(" S %d", &records) != 1 || records > RECORDS) fail("no S section");
     for (int r = 0; r < records; r++)
         for (int k = 0; k < 4; k++)
@@ -86,6 +90,7 @@ static int read_job(void) {
    Distances are shortest paths from point to point; the best order of the cells is found set by set. */
 
 static int point(int aisle, int height) { return (aisle - 1) * (C + 2) + height; }
+static int depot(void) { return point(d, rear ? C + 1 : 0); }
 
 /* The distance of the stretch between two points, or FAR; inside a shut aisle there is none to tread. */
 static int stretch(int x, int y) {
@@ -148,11 +153,11 @@ static void search_walks(void) {
             int rest = set & ~(1 << x);
             reach[set][x] = FAR;
             if (rest == set) continue;
-            if (rest == 0) reach[set][x] = between[x][point(d, 0)];
+            if (rest == 0) reach[set][x] = between[x][depot()];
             for (int y = 0; y < cells; y++)
                 if (rest >> y & 1 && reach[rest][y] + between[y][at[x]] < reach[set][x])
                     reach[set][x] = reach[rest][y] + between[y][at[x]];
-            int length = reach[set][x] + between[x][point(d, 0)];
+            int length = reach[set][x] + between[x][depot()];
             if (enough && better(length, aisles)) keep(length, aisles);
         }
     }
@@ -196,6 +201,8 @@ static int back_treads(int j) {
     return (has(j, TOP | GAP | TWICE) ? 2 : has(j, ONCE)) + (j > 1 ? back[j - 1] : 0) + (j < m ? back[j] : 0);
 }
 
+static int depot_treads(void) { return rear ? back_treads(d) : front_treads(d); }
+
 /* All that is trodden in the first aisles hangs together with the crossings marked in the two lists:
    each part of an aisle begins at a crossing, so it is enough to look at crossings. */
 static int hang_together(int aisles, int *front_marks, int *back_marks) {
@@ -228,12 +235,12 @@ static int untrodden(int aisles) {
 static int hopeless(int j) {
     int front_marks[AISLES + 2] = {0}, back_marks[AISLES + 2] = {0};
     if (front_treads(j) % 2 || back_treads(j) % 2) return 1;
-    if (d <= j && front_treads(d) == 0 && !(lines == 0 && untrodden(j))) return 1;
+    if (d <= j && depot_treads() == 0 && !(lines == 0 && untrodden(j))) return 1;
     if (j < m && front[j] + back[j] > 0) {
         front_marks[j + 1] = front[j] > 0;
         back_marks[j + 1] = back[j] > 0;
     } else {
-        front_marks[d] = 1;
+        *(rear ? &back_marks[d] : &front_marks[d]) = 1;
     }
     return !hang_together(j, front_marks, back_marks);
 }
@@ -274,6 +281,11 @@ static int largest_gap(int j) {
 /* More aisles lie to the left of the depot than to its right (request #107). */
 static int door_on_the_right(void) { return d - 1 > m - d; }
 
+/* The action that goes into an aisle from the depot's side and comes back, and the passage on that side (request #109): with the depot
+   at the back the policies have TOP for BOTTOM and 20 for 02 where they have only those. */
+static enum kind near_side(void) { return rear ? TOP : BOTTOM; }
+static int near_passage(void) { return rear ? 20 : 2; }
+
 /* What the policy asks of all the actions together. */
 static int allowed(void) {
     int count = entered(m), first = 0, last = 0;
@@ -287,9 +299,9 @@ static int allowed(void) {
     int walked_back = count % 2 == 0 ? 0 : door_on_the_right() ? first : last;
     for (int j = 1; j <= m; j++) {
         if (has(j, VOID)) continue;
-        if (is("TRAVERSAL") && !has(j, j == walked_back ? BOTTOM : ONCE)) return 0;
+        if (is("TRAVERSAL") && !has(j, j == walked_back ? near_side() : ONCE)) return 0;
         if (is("MIDPOINT") || is("LARGEST")) {
-            if (count == 1 ? !has(j, BOTTOM) : (j == first || j == last) != has(j, ONCE)) return 0;
+            if (count == 1 ? !has(j, near_side()) : (j == first || j == last) != has(j, ONCE)) return 0;
             if (j == first || j == last) continue;
             if (is("LARGEST")) {
                 if (!largest_gap(j)) return 0;
@@ -311,14 +323,14 @@ static int can_serve(int j) {
 
 /* The actions and the passages that the policy knows. */
 static int kinds(void) {
-    return is("RETURN") ? VOID | BOTTOM : is("TRAVERSAL") ? VOID | BOTTOM | ONCE
+    return is("RETURN") ? VOID | near_side() : is("TRAVERSAL") ? VOID | near_side() | ONCE
          : is("MIDPOINT") || is("LARGEST") ? VOID | BOTTOM | TOP | GAP | ONCE : is("COMPOSITE") ? VOID | BOTTOM | TOP | ONCE
          : VOID | BOTTOM | TOP | GAP | ONCE | TWICE;
 }
 
 static int passage_allowed(int digits) {
-    return digits == 0 || digits == 2 || (digits == 11 && !is("RETURN"))
-        || (digits == 20 && (is("COMPOSITE") || is("EXACT"))) || (digits == 22 && is("EXACT"));
+    return digits == 0 || digits == near_passage() || (digits == 11 && !is("RETURN"))
+        || ((digits == 2 || digits == 20) && (is("COMPOSITE") || is("EXACT"))) || (digits == 22 && is("EXACT"));
 }
 
 static void choose_action(int j, int length);

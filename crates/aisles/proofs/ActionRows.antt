@@ -6,8 +6,10 @@ use mathlib.Core.Logic.{_⊎_, inl, inr}
 use mathlib.Core.List.{List, [], _∷_, List·Memᴰ, List·Memᴰ·head, List·Memᴰ·tail}
 use mathlib.Core.Bool.{Bool, true, false}
 use lib.ListN.{length, getD}
+use Rattle.rules.specs.declared.Layout.{Layout}
 use Rattle.rules.specs.declared.Action.{Action}
 use Rattle.rules.specs.declared.Action.the-variants.{Void, Bottom, Top, Gap, Once, Twice}
+use Rattle.rules.specs.Store.{sideOf}
 use Rattle.rules.specs.Plans.{Fits}
 use Rattle.rules.specs.BestPlan.{actionsOf}
 use Rattle.rules.specs.Machine.{State, dead}
@@ -18,9 +20,10 @@ use Rattle.aisles.specs.declared.candidates.Candidate.{Candidate}
 use Rattle.aisles.specs.declared.layers.Aisle.{Aisle}
 use Rattle.aisles.specs.Candidates.{candidateOf, candidateBetween}
 use Rattle.machine.specs.States.{stateCode, stateOf}
-use Rattle.machine.specs.Steps.{policyOf, walkBackEndOf, sampleAction, bit, stepBy}
+use Rattle.machine.specs.Steps.{policyOf, walkBackEndOf, sampleAction, seenKind, bit, stepBy}
 use Rattle.aisles.specs.Layers.{asksBetween, stepWith, stepCode, leftCode, candidateKey, throughCandidate, throughAction, wayWith}
 use Rattle.machine.proofs.StepLaws.{state-small}
+use Rattle.machine.proofs.Seen.{untested-kind}
 use Rattle.aisles.proofs.HalfSteps.{step-no, step-same}
 
 member-at : {A : Type 0} (d : A) (xs : List A) (k : ℕ) → k < length xs → List·Memᴰ (getD xs k d) xs
@@ -46,6 +49,11 @@ candidate-parts cells (Top i) f = record { kind-below = omega arith; front-withi
 candidate-parts cells (Gap h i) f = record { kind-below = omega arith; front-within = omega (arith, f .1, f .2); back-low = omega (arith, f .1); back-high = omega (arith, f .2) }
 candidate-parts cells Once f = record { kind-below = omega arith; front-within = omega arith; back-low = omega arith; back-high = omega arith }
 candidate-parts cells Twice f = record { kind-below = omega arith; front-within = omega arith; back-low = omega arith; back-high = omega arith }
+
+-- where the test for aisles between does not matter, it does not for the kind as it is seen
+seen-free : {A : Type 0} (z : Layout) (k : ℕ) → A ⊎ ((k ≡ 0) ⊎ (4 ≤ k)) → A ⊎ ((seenKind z k ≡ 0) ⊎ (4 ≤ seenKind z k))
+seen-free z k (inl a) = inl a
+seen-free z k (inr free) = inr (untested-kind (sideOf z) k free)
 
 -- the way over an action is that with its own answer to the test for aisles between
 pub way-is : (x : Aisle) (after : ℕ → ℕ → ℕ) (fronts backs : List ℕ) (s q : ℕ) (a : Action)
@@ -80,10 +88,10 @@ module _ (x : Aisle) (after : ℕ → ℕ → ℕ) (fronts backs : List ℕ) (s 
   -- the answer 'no' leads where the answer 'yes' does, or nowhere
   way-no : DeadNone after → (a : Action) → (way false a ≡ way true a) ⊎ (way false a ≡ noKey)
   unfolding wayWith stepWith
-  way-no dead-none a = go (step-no (policyOf (x .policy)) (walkBackEndOf (x .policy)) (sampleAction (candidateOf (x .layout .cells) a .kind)) (bit (x .may)) (stateOf s))
+  way-no dead-none a = go (step-no (policyOf (x .policy)) (walkBackEndOf (x .policy)) (sampleAction (seenKind (x .layout) (candidateOf (x .layout .cells) a .kind))) (bit (x .may)) (stateOf s))
     where
       to : Bool → State
-      to b = stepBy (x .policy) (sampleAction (candidateOf (x .layout .cells) a .kind)) (bit (x .may)) b (stateOf s)
+      to b = stepBy (x .policy) (sampleAction (seenKind (x .layout) (candidateOf (x .layout .cells) a .kind))) (bit (x .may)) b (stateOf s)
 
       go : (to false ≡ to true) ⊎ (to false ≡ dead) → (way false a ≡ way true a) ⊎ (way false a ≡ noKey)
       go (inl e) = inl (ap (way-to a) e)
@@ -106,8 +114,9 @@ module _ (x : Aisle) (after : ℕ → ℕ → ℕ) (fronts backs : List ℕ) (s 
     where
       same : way false a ≡ way true a
       same =
+          let kind = candidateOf (x .layout .cells) a .kind in
           ap (way-to a)
-          (step-same (policyOf (x .policy)) (walkBackEndOf (x .policy)) (candidateOf (x .layout .cells) a .kind) free (bit (x .may)) (stateOf s))
+          (step-same (policyOf (x .policy)) (walkBackEndOf (x .policy)) (seenKind (x .layout) kind) (seen-free (x .layout) kind free) (bit (x .may)) (stateOf s))
 
       go : (b : Bool) → candidateBetween (x .between) (candidateOf (x .layout .cells) a) ≡ b → way false a ≡ through a
       go true e = same ∙ sym (way-is x after fronts backs s q a ∙ ap (λ b. way b a) e)
@@ -117,4 +126,4 @@ module _ (x : Aisle) (after : ℕ → ℕ → ℕ) (fronts backs : List ℕ) (s 
 pub step-small : (x : Aisle) (c : Candidate) (s : ℕ) → stepCode x c s ≤ 8
 unfolding stepCode
 step-small x c s =
-    state-small (stepBy (x .policy) (sampleAction (c .kind)) (bit (x .may)) (candidateBetween (x .between) c) (stateOf s))
+    state-small (stepBy (x .policy) (sampleAction (seenKind (x .layout) (c .kind))) (bit (x .may)) (candidateBetween (x .between) c) (stateOf s))

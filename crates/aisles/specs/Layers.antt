@@ -18,7 +18,7 @@ use Rattle.aisles.specs.declared.layers.Lane.{Lane}
 use Rattle.aisles.specs.declared.layers.Turns.{Turns}
 use Rattle.between.specs.Between.{Graded}
 use Rattle.machine.specs.States.{stateCode, stateOf}
-use Rattle.machine.specs.Steps.{policyOf, walkBackEndOf, sampleAction, bit, stepBy}
+use Rattle.machine.specs.Steps.{policyOf, walkBackEndOf, sampleAction, seenKind, bit, stepBy}
 use Rattle.machine.specs.Tables.{automatonOf}
 use Rattle.aisles.specs.Candidates.{candidateOf, candidateLength, candidateBetween}
 use Rattle.demand.specs.Digits.{demands}
@@ -41,12 +41,12 @@ pub record InRange (x : Aisle) : Type 0 where
 -- the number of the state after a kind of action, with the answer of the test for aisles between given
 unfoldable pub stepWith : Aisle → ℕ → Bool → ℕ → ℕ
 stepWith x kind between s =
-    stateCode (stepBy (x .policy) (sampleAction kind) (bit (x .may)) between (stateOf s))
+    stateCode (stepBy (x .policy) (sampleAction (seenKind (x .layout) kind)) (bit (x .may)) between (stateOf s))
 
 -- the number of the state after a candidate
 unfoldable pub stepCode : Aisle → Candidate → ℕ → ℕ
 stepCode x c s =
-    stateCode (stepBy (x .policy) (sampleAction (c .kind)) (bit (x .may)) (candidateBetween (x .between) c) (stateOf s))
+    stateCode (stepBy (x .policy) (sampleAction (seenKind (x .layout) (c .kind))) (bit (x .may)) (candidateBetween (x .between) c) (stateOf s))
 
 -- the number of the demand after a candidate
 unfoldable pub leftCode : List ℕ → List ℕ → Candidate → ℕ → ℕ

@@ -10,6 +10,7 @@ use between::HEIGHTS;
 use demand::digits::DEMANDS;
 use machine::action_step;
 use machine::asks_between;
+use machine::seen_kind;
 use rows::NONE;
 use rows::NUMBERS;
 use rows::STATES;
@@ -19,6 +20,7 @@ use rows::permute;
 use rows::relax_row;
 use rows::spare_one;
 use rules::Layout;
+use values::depot_side;
 ghost use Prim.Native.Nat.{_*_, _+_, _<_, _≤_, ℕ};
 ghost use Rattle.machine.specs.Steps.{bit};
 ghost use Rattle.demand.specs.Digits.{demands};
@@ -68,10 +70,11 @@ fn steps_of(x: Aisle, kind: usize, between: usize) -> [usize; STATES]
 {
     let policy = x.policy;
     let may = x.may;
+    let seen = seen_kind(depot_side(x.layout), kind);
     let mut out = [0usize; STATES];
     let mut s = 0;
     while s < STATES {
-        out[s] = action_step(policy, kind, may, between, s);
+        out[s] = action_step(policy, seen, may, between, s);
         s += 1;
     }
     out

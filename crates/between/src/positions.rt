@@ -14,6 +14,7 @@ fn posts_before(posts: Posts, i: usize) -> usize
     match posts {
         Posts::NoPosts => 0,
         Posts::Every(k, u) => u * ((i - 1) / k),
+        Posts::Sided(k, u, _) => u * ((i - 1) / k),
     }
 }
 

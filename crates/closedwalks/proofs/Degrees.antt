@@ -2,7 +2,7 @@
 use Prim.Native.Nat.{ℕ, zero, suc, _+_, _-_, _%_, _≤_, _<_}
 use native.Mathlib.Omega.{arith}
 use mathlib.Core.Path.{_≡_, refl, sym, ap, _∙_, subst}
-use mathlib.Core.Logic.{inl, inr}
+use mathlib.Core.Logic.{_⊎_, inl, inr}
 use mathlib.Core.List.{List, [], _∷_}
 use mathlib.Core.Bool.{Bool, true, false, cond, _||_}
 use lib.Dec.{ltb, leb}
@@ -14,7 +14,9 @@ use Rattle.rules.specs.declared.Action.the-variants.{Void, Bottom, Top, Gap, On
 use Rattle.rules.specs.declared.Passage.the-variants.{P00}
 use Rattle.rules.specs.declared.Direction.the-variants.{Back, Front, Left, Right}
 use Rattle.rules.specs.Lists.{nth}
-use Rattle.rules.specs.Store.{Point, Edge, along, front, back, backHeight, depotPoint}
+use Rattle.rules.specs.declared.Side.{Side}
+use Rattle.rules.specs.declared.Side.the-variants.{FrontSide, BackSide}
+use Rattle.rules.specs.Store.{sideOf, heightAt, Point, Edge, along, front, back, backHeight, depotPoint}
 use Rattle.rules.specs.Plans.{Plan, WellFormed, multiplicity, aisleTreads, passageAt}
 use Rattle.rules.specs.Lawful.{frontDegree, backDegree}
 use Rattle.rules.specs.Walks.{canStep, stepEdge, isCrossing, crossEdge}
@@ -22,9 +24,22 @@ use Rattle.closedwalks.specs.Ways.{PointOf, share, degree}
 use Rattle.closedwalks.proofs.Splits.{none-or-some, equal-or-below}
 use Rattle.closedwalks.proofs.Steps.{level, level-crossing}
 
+-- the depot is a crossing
+height-ends : (side : Side) (cells : ℕ) → (heightAt side cells ≡ 0) ⊎ (heightAt side cells ≡ suc cells)
+height-ends FrontSide cells = inl refl
+height-ends BackSide cells = inr refl
+
+depot-ends : (z : Layout) → (depotPoint z .height ≡ 0) ⊎ (depotPoint z .height ≡ suc (z .cells))
+unfolding depotPoint
+depot-ends z = height-ends (sideOf z) (z .cells)
+
+-- so no cell
+pub depot-no-cell : (z : Layout) (c : ℕ) → 1 ≤ c → c ≤ z .cells → c ≡ depotPoint z .height → ⊥
+depot-no-cell z c low high e = elim (depot-ends z) [ inl p ↦ omega arith | inr p ↦ omega arith ]
+
 pub depot-point : (z : Layout) → 1 ≤ z .depot → z .depot ≤ z .aisles → PointOf z (depotPoint z)
 unfolding depotPoint
-depot-point z p q = record { first = p; last = q; high = omega arith }
+depot-point z p q = record { first = p; last = q; high = elim (depot-ends z) [ inl e ↦ omega arith | inr e ↦ omega arith ] }
 
 module _ (z : Layout) (treads : Edge → ℕ) (j : ℕ) where
   abbrev cellAt : ℕ → Point

@@ -19,7 +19,7 @@ use Rattle.closedwalks.proofs.Splits.{below-or-from}
 use Rattle.closedwalks.proofs.Steps.{same-refl, Stepped, stepped}
 use Rattle.rules.proofs.WalkOrder.{same-point, point-same}
 use Rattle.closedwalks.proofs.Parity.{degree-add, degree-step}
-use Rattle.closedwalks.proofs.Degrees.{depot-point, degree-cell}
+use Rattle.closedwalks.proofs.Degrees.{depot-point, depot-no-cell, degree-cell}
 use Rattle.closedwalks.proofs.Walked.{closed-leads, of-walk}
 use Rattle.rules.specs.FirstWalk.{WalkOf}
 use Rattle.closedwalks.proofs.Euler.{degree-on}
@@ -111,7 +111,7 @@ module _ (z : Layout) where
   -- a walk of a plan passes the cells that the plan passes, and no others
   pub walk-passes : 1 ≤ z .depot → z .depot ≤ z .aisles → (plan : Plan) (walk : Walk) → WalkOf z plan walk
       → (j c : ℕ) → 1 ≤ j → j ≤ z .aisles → 1 ≤ c → c ≤ z .cells → walkPasses z walk j c ≡ planPasses plan j c
-  unfolding walkPasses planPasses multiplicity InStore depotPoint
+  unfolding walkPasses planPasses multiplicity InStore
   walk-passes low high plan walk w j c p q u v =
       let cell : Point = record { aisle = j; height = c } in
       let at = depot-point z low high in
@@ -122,5 +122,5 @@ module _ (z : Layout) where
       let sum = degree-cell z treads j c u v in
       same-test (walkPasses z walk j c) (planPasses plan j c)
       (λ h. trodden-passes (actionAt plan j) c u (omega (arith, sum, near, far, passed-touched cell (depotPoint z) walk (depotPoint z) at leads h .1)))
-      (λ h. on-passed cell (depotPoint z) walk (λ e. let low : c ≡ 0 = ap (λ (p : Point). p .height) e in omega arith)
+      (λ h. on-passed cell (depotPoint z) walk (λ e. depot-no-cell z c u v (ap (λ (p : Point). p .height) e))
       (degree-on z (depotPoint z) walk (depotPoint z) cell at leads (omega (arith, sum, near, far, passes-trodden (actionAt plan j) c u h))))

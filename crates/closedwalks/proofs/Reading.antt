@@ -17,7 +17,7 @@ use Rattle.rules.specs.Lawful.{Trodden, Touched, Lawful}
 use Rattle.closedwalks.specs.Ways.{PointOf, degree, Joined}
 use Rattle.closedwalks.proofs.Splits.{none-or-some, below-or-from}
 use Rattle.closedwalks.proofs.Parity.{degree-same}
-use Rattle.closedwalks.proofs.Degrees.{degree-cell, plan-front, plan-back, nth-past}
+use Rattle.closedwalks.proofs.Degrees.{depot-no-cell, degree-cell, plan-front, plan-back, nth-past}
 use Rattle.closedwalks.proofs.Links.{Closed, linked-seen, link-turn, Covers, joined-same, joined-together}
 use Rattle.closedwalks.proofs.Aisles.{Read, aisle-reads, passage-reads}
 
@@ -76,7 +76,7 @@ module _ (z : Layout) (t : Edge → ℕ) (j h i : ℕ) (inner : i ≤ z .cells) 
 
 module _ (z : Layout) (t : Edge → ℕ) (r : Readable z t) where
   no-island : (j : ℕ) → 1 ≤ j → j ≤ z .aisles → (h k i : ℕ) → h < k → k < i → i ≤ z .cells → t (along j h) ≡ 0 → t (along j i) ≡ 0 → t (along j k) ≡ 0
-  unfolding Joined Trodden InStore startOf depotPoint
+  unfolding Joined Trodden InStore startOf
   no-island j p q h k i u v c f g =
       elim (none-or-some (t (along j k))) [
         | inl e ↦ e
@@ -84,7 +84,7 @@ module _ (z : Layout) (t : Edge → ℕ) (r : Readable z t) where
             let cell : Point = record { aisle = j; height = k } in
             let link = link-turn z t (depotPoint z) cell (r .joined (along j k) ((p, q, omega arith), s)) in
             let inside = linked-seen z t (Inside j h i) (island z t j h i c f g) cell (depotPoint z) link (refl, u, omega arith) in
-            absurd (let low = inside .1 in omega arith)
+            absurd (let low = inside .1 in let high = inside .2 in depot-no-cell z (depotPoint z .height) (omega arith) (omega arith) refl)
       ]
 
   aisle-read : (j : ℕ) → 1 ≤ j → j ≤ z .aisles → Read (z .cells) (λ k. t (along j k))

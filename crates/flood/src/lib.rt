@@ -1,10 +1,15 @@
 // What can be reached along edges that are left: a flood fill over the points. `left` has the treads left of each edge, `seen` a number
 // for each point, 0 where it is not seen. The points lie below `end`, where the last aisle's numbers end.
+use rules::Layout;
+use rules::Side;
+use values::depot_side;
 ghost use mathlib.Core.Path.{_≡_};
 ghost use mathlib.Core.Bool.{true};
 ghost use mathlib.Core.Logic.{_↔_};
 ghost use Prim.Native.Nat.{_+_, _-_, _≤_, _<_};
 ghost use lib.ListN.{length};
+ghost use Rattle.rules.specs.Store.{layoutInBounds};
+ghost use Rattle.flood.specs.Points.{depotNumber};
 ghost use Rattle.flood.specs.Flooded.{unseen, AllReached, Ranged, spreadEdge, spreadAt, sweptUp, sweptDown, Flooded, AllSeen};
 
 // The numbers of an aisle: a point has the number 26 * aisle + height, where height 0 is the front crossing, then come the cells,
@@ -14,6 +19,20 @@ pub const HEIGHTS: usize = 26;
 // The numbers of points. Aisles count from 1 to 16: a point's number is at least 26 and below 442. An edge towards the back has the
 // number of the point where it starts; an edge to the right has that number and 442 more.
 pub const POINTS: usize = 17 * HEIGHTS;
+
+// The number of the depot's point: of the front crossing of its aisle, or of the back crossing where the layout says BACK.
+pub fn depot_number(z: Layout) -> usize
+    requires { ⌜ layoutInBounds z ≡ true ⌝ }
+    ensures { λ r. ⌜ r ≡ depotNumber z ⌝ }
+{
+    let front = HEIGHTS * z.depot;
+    let back = front + z.cells + 1;
+    let side = depot_side(z);
+    match side {
+        Side::FrontSide => front,
+        Side::BackSide => back,
+    }
+}
 
 // Two points that an edge joins, of which n treads are left: where one is seen, the other is too. The number of points seen newly.
 fn spread_edge(n: u8, a: usize, b: usize, seen: &mut [u8]) -> usize

@@ -22,6 +22,7 @@ fn posts_in_bounds(posts: Posts) -> bool
     match posts {
         Posts::NoPosts => true,
         Posts::Every(k, u) => is_within(1, 24, k) & is_within(0, 10, u),
+        Posts::Sided(k, u, _) => is_within(1, 24, k) & is_within(0, 10, u),
     }
 }
 

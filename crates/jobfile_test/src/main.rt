@@ -1,13 +1,14 @@
 // Runs jobfile::read_job on jobs good and bad and prints the number of each verdict: 0 if the job is admitted.
 //
-// The jobs are data: `stdin` has them one behind the other, 197 of them in 81,526 bytes. Each is a line with a letter, a space
+// The jobs are data: `stdin` has them one behind the other, 234 of them in 84,816 bytes. Each is a line with a letter, a space
 // and the job's name, then the job's bytes as they are, then byte 30, which no job has. The letter is J for a job, T for one
 // that is also cut off behind each of its bytes. To add a job, write it behind another and its verdict into `stdout`.
 //
 // By document 01's table: the six policies, the largest and smallest numbers of each kind and those one beyond, counts that do
 // not fit the lines, sections out of order, numbers and words spelt otherwise, bytes in front, between and behind, two causes at
 // once; 383 to 385 records, 500 of one cell, and files of 16,384 and 16,385 bytes. By request #106: the sections M and H with and without
-// each other, in their place and out of it, their numbers at the bounds and one beyond, and the stock of shut aisles.
+// each other, in their place and out of it, their numbers at the bounds and one beyond, and the stock of shut aisles. By request #109:
+// the third line of the L section, its word spelt otherwise or missing, other counts, and the posts' numbers before it.
 use jobfile::Verdict;
 use libc::STDIN_FILENO;
 use libc::STDOUT_FILENO;

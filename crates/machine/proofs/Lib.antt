@@ -1,2 +1,3 @@
 pub mod Tables
 pub mod StepLaws
+pub mod Seen

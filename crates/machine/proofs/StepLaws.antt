@@ -3,6 +3,7 @@ use Prim.Native.Nat.{ℕ, _≤_, _<_}
 use native.Mathlib.Omega.{arith}
 use mathlib.Core.Path.{_≡_, refl}
 use mathlib.Core.Bool.{Bool, cond, _&&_, _||_}
+use Rattle.rules.specs.declared.Side.the-variants.{FrontSide}
 use Rattle.rules.specs.declared.Policy.{Policy}
 use Rattle.rules.specs.declared.Policy.the-variants.{Exact, Return, Traversal, Midpoint, Composite, Largest}
 use Rattle.rules.specs.declared.Action.{Action}
@@ -57,7 +58,7 @@ step-of-code Largest end a may between s = refl
 -- the machine looks at the kind of an action and at the answers of the two tests
 pub by-kind : (policy : Policy) (end : End) (between : Action → Bool) (a : Action) (may : Bool) (s : State)
     → stepOf policy end (sampleAction (kindCode a)) may (between a) s
-    ≡ cond (actionNamed policy a && (isVoid a || may)) (policyStep policy end between a s) dead
+    ≡ cond (actionNamed FrontSide policy a && (isVoid a || may)) (policyStep policy end between a s) dead
 unfolding stepOf
 by-kind policy end between Void may s = refl
 by-kind Exact end between (Bottom i) may s = refl

@@ -7,6 +7,7 @@ use mathlib.Core.List.{List, [], _∷_, map}
 use lib.Dec.{eqb}
 use lib.ListN.{getD}
 use borrow.Author.Tests.{ne-eqb}
+use Rattle.rules.specs.declared.Side.the-variants.{FrontSide}
 use Rattle.rules.specs.declared.Policy.{Policy}
 use Rattle.rules.specs.declared.Policy.the-variants.{Exact, Return, Traversal, Midpoint, Composite, Largest}
 use Rattle.rules.specs.declared.Action.{Action}
@@ -76,7 +77,7 @@ passage-entry p side s p< side< s< =
 -- what the marks of a policy's row say of an action, tested over all policies and kinds
 pub possible-by-marks : (p k h : ℕ) → p < 7 → k < 6 → h < 2
     → (not (eqb (policyMark (policyOf p) (walkBackEndOf p) k) 45) && (eqb k 0 || eqb h 1))
-    ≡ (actionNamed (policyOf p) (sampleAction k) && (isVoid (sampleAction k) || bit h))
+    ≡ (actionNamed FrontSide (policyOf p) (sampleAction k) && (isVoid (sampleAction k) || bit h))
 unfolding policyMark
 possible-by-marks p k h p< k< h< =
     let i = p * 12 + k * 2 + h in
@@ -86,11 +87,11 @@ possible-by-marks p k h p< k< h< =
     rw (p-is, k-is, h-is) at
     (same-entry false
     (λ i. not (eqb (policyMark (policyOf (i / 12)) (walkBackEndOf (i / 12)) (i / 2 % 6)) 45) && (eqb (i / 2 % 6) 0 || eqb (i % 2) 1))
-    (λ i. actionNamed (policyOf (i / 12)) (sampleAction (i / 2 % 6)) && (isVoid (sampleAction (i / 2 % 6)) || bit (i % 2)))
+    (λ i. actionNamed FrontSide (policyOf (i / 12)) (sampleAction (i / 2 % 6)) && (isVoid (sampleAction (i / 2 % 6)) || bit (i % 2)))
     84 refl i (omega arith))
 
 -- and of a passage, over all policies and passages
-pub passage-by-mark : (p x : ℕ) → p < 7 → x < 5 → not (eqb (policyMark (policyOf p) (walkBackEndOf p) (7 + x)) 45) ≡ passageNamed (policyOf p) (passageOf x)
+pub passage-by-mark : (p x : ℕ) → p < 7 → x < 5 → not (eqb (policyMark (policyOf p) (walkBackEndOf p) (7 + x)) 45) ≡ passageNamed FrontSide (policyOf p) (passageOf x)
 unfolding policyMark
 passage-by-mark p x p< x< =
     let i = p * 5 + x in
@@ -99,7 +100,7 @@ passage-by-mark p x p< x< =
     rw (p-is, x-is) at
     (same-entry false
     (λ i. not (eqb (policyMark (policyOf (i / 5)) (walkBackEndOf (i / 5)) (7 + i % 5)) 45))
-    (λ i. passageNamed (policyOf (i / 5)) (passageOf (i % 5)))
+    (λ i. passageNamed FrontSide (policyOf (i / 5)) (passageOf (i % 5)))
     35 refl i (omega arith))
 
 -- a mark of an automaton, decided by the test for aisles between, is the next state: tested over all of them

@@ -2,13 +2,18 @@
 use Prim.Native.Nat.{ℕ, zero, suc}
 use mathlib.Core.Bool.{Bool, true, false, cond, _&&_, _||_}
 use lib.Dec.{ltb}
+use Rattle.rules.specs.declared.Side.{Side}
+use Rattle.rules.specs.declared.Side.the-variants.{FrontSide}
+use Rattle.rules.specs.declared.Layout.{Layout}
 use Rattle.rules.specs.declared.Policy.{Policy}
 use Rattle.rules.specs.declared.Policy.the-variants.{Exact, Return, Traversal, Midpoint, Composite, Largest}
 use Rattle.rules.specs.declared.Action.{Action}
 use Rattle.rules.specs.declared.Action.the-variants.{Void, Bottom, Top, Gap, Once, Twice}
 use Rattle.rules.specs.declared.Passage.{Passage}
 use Rattle.rules.specs.declared.Passage.the-variants.{P00, P02, P11, P20, P22}
+use Rattle.rules.specs.Store.{sideOf}
 use Rattle.rules.specs.Plans.{kindOf, kindRank}
+use Rattle.rules.specs.Turned.{seenFrom}
 use Rattle.rules.specs.Policies.{actionNamed, passageNamed, End, leftmost, rightmost}
 use Rattle.rules.specs.Machine.{State, dead, policyBy, crossStep, isVoid}
 
@@ -57,6 +62,14 @@ sampleAction (suc (suc (suc zero))) = Gap 1 2
 sampleAction (suc (suc (suc (suc zero)))) = Once
 sampleAction (suc (suc (suc (suc (suc n))))) = Twice
 
+-- the number of a kind as it is seen from a side; how many cells the aisle has does not matter
+abbrev pub kindFrom : Side → ℕ → ℕ
+kindFrom side kind = kindCode (seenFrom side 1 (sampleAction kind))
+
+-- the number of a kind as it is seen from the depot's side
+abbrev pub seenKind : Layout → ℕ → ℕ
+seenKind z kind = kindFrom (sideOf z) kind
+
 -- the answer of a test as a number, 0 or 1
 abbrev pub bit : ℕ → Bool
 bit zero = false
@@ -64,7 +77,7 @@ bit (suc n) = true
 
 -- the state after an action, with TRAVERSAL's end and the answers of 'the aisle may be entered' and of the test for aisles between
 unfoldable pub stepOf : Policy → End → Action → Bool → Bool → State → State
-stepOf policy end a may between s = cond (actionNamed policy a && (isVoid a || may)) (policyBy policy end between a s) dead
+stepOf policy end a may between s = cond (actionNamed FrontSide policy a && (isVoid a || may)) (policyBy policy end between a s) dead
 
 -- the same under the policy of a number
 abbrev pub stepBy : ℕ → Action → Bool → Bool → State → State
@@ -72,4 +85,4 @@ stepBy policy a may between s = stepOf (policyOf policy) (walkBackEndOf policy) 
 
 -- the state after the passage behind an aisle left of the depot (0), at it (1) or right of it (2)
 unfoldable pub crossOf : Policy → Passage → ℕ → State → State
-crossOf policy p side s = cond (passageNamed policy p) (crossStep 1 side p s) dead
+crossOf policy p side s = cond (passageNamed FrontSide policy p) (crossStep 1 side p s) dead

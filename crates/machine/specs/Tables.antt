@@ -2,6 +2,7 @@
 use Prim.Native.Nat.{ℕ, zero, suc, _+_, _-_}
 use mathlib.Core.Bool.{Bool, true, false, cond}
 use lib.Dec.{ltb, eqb}
+use Rattle.rules.specs.declared.Side.the-variants.{FrontSide}
 use Rattle.rules.specs.declared.Policy.{Policy}
 use Rattle.rules.specs.declared.Policy.the-variants.{Exact, Return, Traversal, Midpoint, Composite, Largest}
 use Rattle.rules.specs.declared.Action.{Action}
@@ -49,9 +50,9 @@ testMark policy end = cond (eqb (automatonOf policy end) 2) (cond (asksGap polic
 -- a space, its test for aisles between
 unfoldable pub policyMark : Policy → End → ℕ → ℕ
 policyMark policy end c =
-    cond (ltb c 6) (digitIf (actionNamed policy (sampleAction c)) c)
+    cond (ltb c 6) (digitIf (actionNamed FrontSide policy (sampleAction c)) c)
     (cond (ltb c 7) 32
-    (cond (ltb c 12) (digitIf (passageNamed policy (passageOf (c - 7))) (c - 7))
+    (cond (ltb c 12) (digitIf (passageNamed FrontSide policy (passageOf (c - 7))) (c - 7))
     (cond (eqb c 13) (48 + automatonOf policy end)
     (cond (eqb c 15) (cond (mayEnter policy false) 43 45)
     (cond (eqb c 17) (testMark policy end)

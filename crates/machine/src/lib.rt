@@ -8,14 +8,20 @@
 // Kinds of actions: 0 VOID, 1 BOTTOM, 2 TOP, 3 GAP, 4 ONCE, 5 TWICE.
 // Passages: 0 00, 1 02, 2 11, 3 20, 4 22.
 // Sides, of the aisle before a passage: 0 left of the depot, 1 at it, 2 right of it.
+//
+// The tables are those of a depot at the front. With the depot at the back they are asked by the kind and by the passage as they are seen
+// from there (`seen_kind`, `seen_passage`).
+use rules::Side;
 ghost use mathlib.Core.Path.{_≡_};
 ghost use mathlib.Core.Bool.{false, _&&_, _||_};
 ghost use Prim.Native.Nat.{_+_, _*_, _≤_, _<_};
+ghost use Rattle.rules.specs.declared.Side.the-variants.{FrontSide};
+ghost use Rattle.rules.specs.Turned.{passageFrom};
 ghost use lib.Dec.{eqb};
 ghost use Rattle.rules.specs.Policies.{actionNamed, passageNamed};
 ghost use Rattle.rules.specs.Machine.{mayEnter, isVoid};
 ghost use Rattle.machine.specs.States.{stateCode, stateOf};
-ghost use Rattle.machine.specs.Steps.{policyOf, walkBackEndOf, sampleAction, passageOf, bit, stepBy, crossOf};
+ghost use Rattle.machine.specs.Steps.{policyOf, walkBackEndOf, sampleAction, kindFrom, passageOf, bit, stepBy, crossOf};
 ghost use Rattle.machine.specs.Tables.{asksGap, automatonOf, automatonBy, policyMark, actionMark, passageMark, decided};
 
 // The states that `decide` and the steps name.
@@ -96,7 +102,7 @@ fn number(digit: u8) -> usize
 // The policy has the action, and the action enters no aisle that may not be entered.
 fn possible(policy: usize, kind: usize, may: usize) -> bool
     requires { ⌜ (policy < 7) × (kind < 6) × (may < 2) ⌝ }
-    ensures { λ r. ⌜ r ≡ (actionNamed (policyOf policy) (sampleAction kind) && (isVoid (sampleAction kind) || bit may)) ⌝ }
+    ensures { λ r. ⌜ r ≡ (actionNamed FrontSide (policyOf policy) (sampleAction kind) && (isVoid (sampleAction kind) || bit may)) ⌝ }
 {
     let named = policy_mark(policy, kind) != b'-';
     named & ((kind == 0) | (may == 1))
@@ -113,7 +119,7 @@ pub fn enters_any(policy: usize) -> bool
 // The policy has the passage.
 fn passable(policy: usize, passage: usize) -> bool
     requires { ⌜ (policy < 7) × (passage < 5) ⌝ }
-    ensures { λ r. ⌜ r ≡ passageNamed (policyOf policy) (passageOf passage) ⌝ }
+    ensures { λ r. ⌜ r ≡ passageNamed FrontSide (policyOf policy) (passageOf passage) ⌝ }
 {
     policy_mark(policy, FIRST_PASSAGE + passage) != b'-'
 }
@@ -175,4 +181,34 @@ pub fn passage_step(policy: usize, passage: usize, side: usize, state: usize) ->
         return number(passage_digit(passage, side, state));
     }
     DEAD
+}
+
+// The kind of an action as it is seen from a side: from the back TOP for BOTTOM and BOTTOM for TOP.
+pub fn seen_kind(side: Side, kind: usize) -> usize
+    requires { ⌜ kind < 6 ⌝ }
+    ensures { λ r. ⌜ (r ≡ kindFrom side kind) × (r < 6) ⌝ }
+{
+    match side {
+        Side::FrontSide => kind,
+        Side::BackSide => match kind {
+            1 => 2,
+            2 => 1,
+            _ => kind,
+        },
+    }
+}
+
+// A passage as it is seen from a side: from the back 20 for 02 and 02 for 20.
+pub fn seen_passage(side: Side, passage: usize) -> usize
+    requires { ⌜ passage < 5 ⌝ }
+    ensures { λ r. ⌜ (passageOf r ≡ passageFrom side (passageOf passage)) × (r < 5) ⌝ }
+{
+    match side {
+        Side::FrontSide => passage,
+        Side::BackSide => match passage {
+            1 => 3,
+            3 => 1,
+            _ => passage,
+        },
+    }
 }

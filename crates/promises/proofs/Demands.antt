@@ -15,16 +15,18 @@ use mathlib.Core.Option.{some}
 use lib.ListN.{length, take, drop}
 use Rattle.rules.specs.declared.Layout.{Layout}
 use Rattle.rules.specs.declared.Policy.{Policy}
-use Rattle.rules.specs.declared.Policy.the-variants.{Exact, Traversal, Midpoint, Largest}
+use Rattle.rules.specs.declared.Policy.the-variants.{Exact, Traversal, Midpoint, Composite, Largest}
 use Rattle.rules.specs.declared.Action.the-variants.{Void, Bottom, Once}
 use Rattle.rules.specs.declared.Passage.the-variants.{P00, P02}
-use Rattle.rules.specs.declared.Posts.the-variants.{NoPosts, Every}
+use Rattle.rules.specs.declared.Side.the-variants.{FrontSide, BackSide}
+use Rattle.rules.specs.declared.Posts.{Posts}
+use Rattle.rules.specs.declared.Posts.the-variants.{NoPosts, Every, Sided}
 use Rattle.rules.specs.declared.OrderLine.{OrderLine}
 use Rattle.rules.specs.declared.Pick.{Pick}
 use Rattle.rules.specs.declared.Refusal.{Refusal}
 use Rattle.rules.specs.declared.Refusal.the-variants.{WorkArea, ListBounds, ShortOfStock, SheetSpace, PageSpace}
 use Rattle.rules.specs.declared.Reply.the-variants.{Served, Refused}
-use Rattle.rules.specs.Store.{WithoutPosts, aisleLength, position, Edge, InStore, layoutInBounds}
+use Rattle.rules.specs.Store.{WithoutPosts, sideOf, aisleLength, position, Edge, InStore, layoutInBounds}
 use Rattle.rules.specs.Hours.{Hours, NoHours}
 use Rattle.rules.specs.Jobs.{Job, jobWithPosts, jobUnder, jobWithHours}
 use Rattle.rules.specs.JobFile.{lineFeed, header, field, jobText, jobFileLimit}
@@ -38,17 +40,21 @@ use Rattle.rules.specs.Looked.{lookedFor, looked, lookedIn}
 use Rattle.rules.specs.Sheet.{sheetText}
 use Rattle.rules.specs.Answers.{answer, hostAnswer, sheetLimit, letterR, output}
 use Rattle.rules.specs.PageAnswers.{pageAnswer, hostPageAnswer, pageLimit, pageOutput}
-use Rattle.rules.specs.Policies.{enteredAisles, Entered, First, Last, IsBottom, WalkedBack, inFrontHalf, inBackHalf, Follows, ShutVoid, Allowed}
+use Rattle.rules.specs.Policies.{enteredAisles, Entered, First, Last, WalkedFrom, WalkedBack, inFrontHalf, inBackHalf, Follows, ShutVoid, Allowed}
 use Rattle.rules.specs.Serving.{PlanServes}
 use Rattle.rules.specs.Examples.{_⨯_, alpha, AllHold, AllSame, cases, ownCases, fourBetween, largestCases, stopLists, workedJob, workedPage}
 use Rattle.rules.specs.Examples.{AllLooked, lookedCases, lookedTexts, sevenAt, hoursCases, hoursLooked, hoursTexts, HasTour, doorAt, doorCases, fewerStore, fewerCases}
+use Rattle.rules.specs.Examples.{midwayCells, midwayTurned, backCases, backTexts}
+use Rattle.rules.specs.Turned.{turnedPlan}
 use Rattle.rules.proofs.Cases as Cases
+use Rattle.mirror.specs.Turned.{TurnedStore, turnedInto}
+use Rattle.mirror.proofs.Best as Mirrored
 use Rattle.closedwalks.proofs.Statements.{walk-reads-open, plain-keeps, plan-determined}
 use Rattle.promises.specs.Causes.{JobFileOf, LineOutOfStock, OfJob, Cause, tableRow, FirstCause}
 use Rattle.promises.specs.Contents.{Content}
 use Rattle.promises.specs.Calls.{RefusedCall, ServedCall, Shows, Obeys, Shortest, TreadsAs, hostWork, hostGets, HostCall, PrintsSheet, PrintsRefusal}
 use Rattle.promises.specs.EmptyLists.{NothingToFetch, emptySheet, ShowsNothing}
-use Rattle.promises.specs.Uprights.{PostsOfNothing}
+use Rattle.promises.specs.Uprights.{SecondLine, PostsOfNothing}
 use Rattle.promises.specs.Pages.{PageCause, FirstPageCause, RefusedPageCall, ServedPageCall, AlongTheWalk, ShowsPage, HostPageCall, PrintsPage, PrintsPageRefusal}
 use Rattle.promises.specs.OpeningHours.{SameAnswers, AllOpen, shutGone, PassesToHours}
 use Rattle.promises.specs.Doors.{AllowedBefore}
@@ -62,6 +68,7 @@ use Rattle.promises.proofs.OpeningHours
 use Rattle.promises.proofs.Doors.{lastWalkedBack}
 use Rattle.promises.proofs.Doors
 use Rattle.promises.proofs.FewerAisles
+use Rattle.promises.proofs.BackDepot
 use Rattle.promises.proofs.PageCalls
 use Rattle.promises.proofs.Clipboard
 use Rattle.promises.proofs.PageHost
@@ -250,7 +257,7 @@ pub lines-keep-plans : (job : Job) (plan : Plan) → (job .lines ≡ [] → ⊥)
 lines-keep-plans = EmptyLists.lines-keep-plans
 
 -- Request #102: "Cell i then lies f + (i − 1)·p + u·((i − 1) divided by k, rounded down) from the front, and L grows to match."
-pub posts-between-cells : (z : Layout) (k u : ℕ) → z .posts ≡ Every k u
+pub posts-between-cells : (z : Layout) (k u : ℕ) → SecondLine (z .posts) k u
     → ((i : ℕ) → 1 ≤ i → i ≤ z .cells → position z i ≡ z .front + (i - 1) * z .pitch + u * ((i - 1) / k))
     × (aisleLength z ≡ z .front + (z .cells - 1) * z .pitch + u * ((z .cells - 1) / k) + z .back)
 posts-between-cells = Uprights.posts-between
@@ -261,23 +268,27 @@ pub cells-without-posts : (z : Layout) → WithoutPosts (z .posts)
     × (aisleLength z ≡ z .front + (z .cells - 1) * z .pitch + z .back)
 cells-without-posts = Uprights.posts-absent
 
--- so a job whose second line is `k 0` has the answer of the same job with `L 1`, byte for byte and number for number
-pub no-posts : (job : Job) (k : ℕ) (plain lined : List ℕ) → PostsOfNothing job k plain lined
+-- so a job whose second line is `k 0` has the answer of the same job with `L 1`, byte for byte and number for number, under `L 3` too (#109);
+-- with BACK, which `L 1` can't say, that of the same job with any other k and u 0
+pub no-posts : (job : Job) (posts others : Posts) (plain lined : List ℕ) → PostsOfNothing job posts others plain lined
     → (sheet work : List ℕ) → answer lined sheet work ≡ answer plain sheet work
-no-posts = Uprights.same-answers
+no-posts = Uprights.same-calls
 
 -- so the planning host gets the same, and the program prints the same
-pub no-posts-host : (job : Job) (k : ℕ) (plain lined : List ℕ) → PostsOfNothing job k plain lined
+pub no-posts-host : (job : Job) (posts others : Posts) (plain lined : List ℕ) → PostsOfNothing job posts others plain lined
     → (sheet : List ℕ) → hostAnswer lined sheet ≡ hostAnswer plain sheet
 no-posts-host = Uprights.same-host
 
-pub no-posts-printed : (job : Job) (k : ℕ) (plain lined : List ℕ) → PostsOfNothing job k plain lined → output lined ≡ output plain
+pub no-posts-printed : (job : Job) (posts others : Posts) (plain lined : List ℕ) → PostsOfNothing job posts others plain lined → output lined ≡ output plain
 no-posts-printed = Uprights.same-output
 
 -- there are such files, under every policy
 pub no-posts-met : (policy : Policy)
     → let job = alpha ((9 ⨯ 1) ∷ []) policy in
-    PostsOfNothing job 3 (jobText (jobWithPosts NoPosts job)) (jobText (jobWithPosts (Every 3 0) job))
+    let text : Posts → List ℕ = λ posts. jobText (jobWithPosts posts job) in
+    PostsOfNothing job NoPosts (Every 3 0) (text NoPosts) (text (Every 3 0))
+    × PostsOfNothing job NoPosts (Sided 3 0 FrontSide) (text NoPosts) (text (Sided 3 0 FrontSide))
+    × PostsOfNothing job (Sided 1 0 BackSide) (Sided 3 0 BackSide) (text (Sided 1 0 BackSide)) (text (Sided 3 0 BackSide))
 no-posts-met = Uprights.both-files
 
 -- "Whoever relies on cell distances, MIDPOINT included, takes the new ones": a cell is in the front half where it lies no further from the
@@ -445,10 +456,11 @@ walked-back-left = Doors.walked-back-left
 pub walked-back-right : (z : Layout) → 2 * z .depot ≤ z .aisles + 1 → (plan : Plan) (j : ℕ) → WalkedBack z plan j ↔ Last plan j
 walked-back-right = Doors.walked-back-right
 
--- so on the sheet of a TRAVERSAL job whose depot lies to the right, of an odd number of entered aisles the leftmost is BOTTOM and the others are ONCE
+-- so on the sheet of a TRAVERSAL job whose depot lies to the right, of an odd number of entered aisles the leftmost is BOTTOM, with BACK (#109) TOP,
+-- and the others are ONCE
 pub door-right-shown : (job : Job) → job .policy ≡ Traversal → job .layout .aisles + 1 < 2 * job .layout .depot
     → (bytes sheet work : List ℕ) (c : Content) → Shows bytes sheet work job c → enteredAisles (c .plan) % 2 ≡ 1
-    → (j : ℕ) → (First (c .plan) j → IsBottom (actionAt (c .plan) j)) × (Entered (c .plan) j → (First (c .plan) j → ⊥) → actionAt (c .plan) j ≡ Once)
+    → (j : ℕ) → (First (c .plan) j → WalkedFrom (sideOf (job .layout)) (actionAt (c .plan) j)) × (Entered (c .plan) j → (First (c .plan) j → ⊥) → actionAt (c .plan) j ≡ Once)
 door-right-shown = Doors.right-shown
 
 -- there are such calls: the request's own store
@@ -527,3 +539,45 @@ fewer-met = FewerAisles.met
 -- the order of length, aisles and document 01's order under each policy, and that VOID aisles do not count is pinned by cases of its own
 pub fewer-cases-hold : AllHold fewerCases
 fewer-cases-hold = Cases.fewer-cases-hold
+
+-- Request #109: "Where u is 0, a served job turned front to back, with cells renumbered, f and b exchanged and FRONT and BACK too, has a tour of equal
+-- length, given sheet space enough." Under every policy, and whichever of `L 1`, `L 2` and `L 3` the two files have: where some call shows the sheet of a
+-- job, the turned job's text is a job file, a call on it in sheet space enough shows a sheet, and the tour on that sheet is as long
+pub turned : (job : Job) (y : Layout) → TurnedStore (job .layout) y
+    → (bytes space area : List ℕ) (c : Content) → Shows bytes space area job c
+    → (sheet work : List ℕ) → length (sheetText (turnedInto y job)) ≤ length sheet → workLimit ≤ length work
+    → (d : Content) × Shows (jobText (turnedInto y job)) sheet work (turnedInto y job) d × (d .length ≡ c .length)
+turned = BackDepot.turned
+
+-- every store without posts can be turned
+pub turned-store-there : (z : Layout) → WithoutPosts (z .posts) → (y : Layout) × TurnedStore z y
+turned-store-there = Mirrored.some-turned
+
+-- "Ranks and step letters keep their order": so the plans need not be each other turned. A store and its sheet, where they are not
+pub turned-met : (sheet work : List ℕ) → sheetLimit ≤ length sheet → workLimit ≤ length work
+    → let job = midwayCells Composite in
+    let other = midwayTurned Composite in
+    TurnedStore (job .layout) (other .layout) × (turnedInto (other .layout) job ≡ other) × Shows (jobText job) sheet work job (best job)
+    × (bestPlan other ≡ turnedPlan 5 (bestPlan job) → ⊥)
+turned-met sheet work space numbers =
+    let shown = BackDepot.midway-shown sheet work space numbers in (BackDepot.midway-turned .0, BackDepot.midway-turned .1, shown .0, shown .1)
+
+-- "the third line is FRONT or BACK": FRONT is what the files without a third line mean. With it a job has the answers of the same job with `L 2`,
+-- sheets, pages and records looked at
+pub front-unchanged : (job : Job) (k u : ℕ) (said unsaid : List ℕ)
+    → JobFileOf said (jobWithPosts (Sided k u FrontSide) job) → JobFileOf unsaid (jobWithPosts (Every k u) job)
+    → SameAnswers said unsaid × (lookedIn said ≡ lookedIn unsaid)
+front-unchanged = BackDepot.front-unchanged
+
+-- there are such files, under every policy
+pub front-unchanged-met : (policy : Policy)
+    → let job = alpha ((9 ⨯ 1) ∷ []) policy in
+    let three = jobWithPosts (Sided 2 1 FrontSide) job in
+    let two = jobWithPosts (Every 2 1) job in
+    JobFileOf (jobText three) three × JobFileOf (jobText two) two
+front-unchanged-met = BackDepot.front-files
+
+-- what each policy reads with BACK, where the walk and the page start, which ranks decide, what the third line may be, and that k and u are
+-- bounded under `L 3` is pinned by cases of its own, and texts
+pub back-cases-hold : AllHold backCases × AllSame backTexts
+back-cases-hold = Cases.back-cases-hold

@@ -9,18 +9,20 @@ use mathlib.Core.Bool.{cond}
 use mathlib.Core.Option.{some}
 use borrow.Author.Tests.{lt-ltb, le-ltb}
 use lib.ListN.{length}
+use Rattle.rules.specs.declared.Side.{Side}
+use Rattle.rules.specs.declared.Side.the-variants.{FrontSide}
 use Rattle.rules.specs.declared.Layout.{Layout}
 use Rattle.rules.specs.declared.Policy.{Policy}
 use Rattle.rules.specs.declared.Policy.the-variants.{Exact, Traversal}
 use Rattle.rules.specs.declared.Action.the-variants.{Bottom, Once}
 use Rattle.rules.specs.declared.Passage.the-variants.{P02, P11}
-use Rattle.rules.specs.Store.{aisleLength, position, distance, edgesOf}
+use Rattle.rules.specs.Store.{sideOf, aisleLength, position, distance, edgesOf}
 use Rattle.rules.specs.Jobs.{Job, listed, holdsListed}
 use Rattle.rules.specs.JobFile.{numeral, field, header, layoutText, layoutSectionText, recordText, lineText, sectionText, jobText}
 use Rattle.rules.specs.JobFile.{isDigit, isNumber, readField, readHeader, readPolicyAs, readPolicy, readLayout, readPosts}
 use Rattle.rules.specs.JobFile.{readRecord, readLine, readSection, readLayoutSection, readSections, readJob}
 use Rattle.rules.specs.Plans.{Plan, WellFormed, Fits, actionAt, passageAt, multiplicity, planPasses, lengthOf, planLength}
-use Rattle.rules.specs.Policies.{enteredAisles, Entered, First, Last, IsBottom, End, leftmost, rightmost, EnteredAt, walkBackEnd, WalkedBack}
+use Rattle.rules.specs.Policies.{enteredAisles, Entered, First, Last, WalkedFrom, End, leftmost, rightmost, EnteredAt, walkBackEnd, WalkedBack}
 use Rattle.rules.specs.Policies.{TraversalRule, OwnRule, PolicyRules, AllowedBy, Follows, Allowed}
 use Rattle.rules.specs.Machine.{actionPossible, actionStep, passageStep, accepts}
 use Rattle.rules.specs.Serving.{supply, serves, PlanServes}
@@ -58,8 +60,8 @@ pub walked-back-right : (z : Layout) → 2 * z .depot ≤ z .aisles + 1 → (pla
 walked-back-right z low = at-the-end z (at-right z low)
 
 -- where it is the rightmost, the two rules say the same
-same-rule : (z : Layout) (plan : Plan) → ((j : ℕ) → WalkedBack z plan j ↔ Last plan j) → RuleBefore plan ↔ TraversalRule z plan
-same-rule z plan last = (
+same-rule : (side : Side) (z : Layout) (plan : Plan) → ((j : ℕ) → WalkedBack z plan j ↔ Last plan j) → RuleBefore side plan ↔ TraversalRule side z plan
+same-rule side z plan last = (
   λ rule. record {
     even = rule .even;
     odd-walked-back = λ n j w. rule .odd-last n j (last j .0 w);
@@ -92,7 +94,7 @@ other-allowed {plan = plan} same best =
     }
 
 -- what a TRAVERSAL job asks is the rules with TRAVERSAL's own
-follows-own : (job : Job) (plan : Plan) → job .policy ≡ Traversal → Follows (job .policy) job plan ↔ PolicyRules (TraversalRule (job .layout) plan) job plan
+follows-own : (job : Job) (plan : Plan) → job .policy ≡ Traversal → Follows (job .policy) job plan ↔ PolicyRules (TraversalRule (sideOf (job .layout)) (job .layout) plan) job plan
 follows-own job plan word = (
   λ f. other-own (subst (λ p. OwnRule p job plan) word) (subst (λ p. Follows p job plan) word f),
   λ r. subst (λ p. Follows p job plan) (sym word) (other-own (subst (λ p. OwnRule p job plan) (sym word)) r),
@@ -102,7 +104,7 @@ module _ (job : Job) (word : job .policy ≡ Traversal) (low : 2 * job .layout .
   -- the same plans are allowed
   pub same-allowed : (plan : Plan) → AllowedBefore job plan ↔ Allowed job plan
   same-allowed plan =
-      let rule = same-rule (job .layout) plan (walked-back-right (job .layout) low plan) in
+      let rule = same-rule (sideOf (job .layout)) (job .layout) plan (walked-back-right (job .layout) low plan) in
       let own = follows-own job plan word in
       (other-rules (λ r. own .1 (other-own (rule .0) r)), other-rules (λ f. other-own (rule .1) (own .0 f)))
 
@@ -124,7 +126,7 @@ module _ (job : Job) (word : job .policy ≡ Traversal) (low : 2 * job .layout .
 -- on the sheet of a job whose depot lies to the right the leftmost of an odd number of entered aisles is walked back
 pub right-shown : (job : Job) → job .policy ≡ Traversal → job .layout .aisles + 1 < 2 * job .layout .depot
     → (bytes sheet work : List ℕ) (c : Content) → Shows bytes sheet work job c → enteredAisles (c .plan) % 2 ≡ 1
-    → (j : ℕ) → (First (c .plan) j → IsBottom (actionAt (c .plan) j)) × (Entered (c .plan) j → (First (c .plan) j → ⊥) → actionAt (c .plan) j ≡ Once)
+    → (j : ℕ) → (First (c .plan) j → WalkedFrom (sideOf (job .layout)) (actionAt (c .plan) j)) × (Entered (c .plan) j → (First (c .plan) j → ⊥) → actionAt (c .plan) j ≡ Once)
 right-shown job word high bytes sheet work c s n j =
     let (a, e) = shown-best bytes sheet work job c s in
     let allowed : Allowed job (c .plan) = subst (λ (x : Content). Allowed job (x .plan)) e (best-obeys job a .allowed) in
@@ -165,7 +167,7 @@ allowed-before =
         actions = rules .actions;
         passages = rules .passages;
         void = rules .void;
-        own = same-rule at-the-door lastWalkedBack (walked-back-right at-the-door (omega arith) lastWalkedBack) .1 (rules .own);
+        own = same-rule FrontSide at-the-door lastWalkedBack (walked-back-right at-the-door (omega arith) lastWalkedBack) .1 (rules .own);
       };
       shut = from-the-left .shut;
     }

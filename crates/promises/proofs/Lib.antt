@@ -9,12 +9,14 @@ pub mod Host
 pub mod Program
 pub mod Entering
 pub mod EmptyLists
+pub mod SameAnswers
 pub mod Uprights
 pub mod LargestGap
 pub mod StockTest
 pub mod OpeningHours
 pub mod Doors
 pub mod FewerAisles
+pub mod BackDepot
 pub mod PageCalls
 pub mod Clipboard
 pub mod PageHost

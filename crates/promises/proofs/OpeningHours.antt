@@ -4,8 +4,7 @@ use native.Mathlib.Omega.{arith}
 use mathlib.Core.Path.{_≡_, refl, sym, _∙_, ap}
 use mathlib.Core.List.{List, [], _∷_}
 use mathlib.Core.Bool.{true, false, true≢false}
-use mathlib.Core.Option.{Option, none, some}
-use lib.ListN.{replicate}
+use mathlib.Core.Option.{some}
 use Rattle.rules.specs.declared.Policy.{Policy}
 use Rattle.rules.specs.declared.Policy.the-variants.{Exact, Return, Traversal, Midpoint, Composite, Largest}
 use Rattle.rules.specs.declared.StockRecord.{StockRecord}
@@ -16,10 +15,8 @@ use Rattle.rules.specs.Jobs.{Job, jobWithHours, openStock}
 use Rattle.rules.specs.JobFile.{numeral, field, header, layoutText, layoutSectionText, recordText, windowText, lineText, sectionText, jobText}
 use Rattle.rules.specs.JobFile.{isDigit, isNumber, readField, readHeader, readPolicyAs, readPolicy, readLayout, readPosts, readRecord, readWindow}
 use Rattle.rules.specs.JobFile.{readMinute, readClock, readLine, readSection, readLayoutSection, readSections, readJob}
-use Rattle.rules.specs.Refusals.{sameCell, recordInBounds, stockInBounds, workLimit, table, pageTable, firstRow}
-use Rattle.rules.specs.Looked.{lookedOn, lookedIn}
-use Rattle.rules.specs.Answers.{Answer, decided, answer, hostAnswer, printed, sheetLimit, output}
-use Rattle.rules.specs.PageAnswers.{PageAnswer, pageDecided, pageAnswer, hostPageAnswer, pagePrinted, pageLimit, pageOutput}
+use Rattle.rules.specs.Refusals.{sameCell, recordInBounds, stockInBounds}
+use Rattle.rules.specs.Looked.{lookedIn}
 use Rattle.rules.specs.Examples.{stocked, _⨯_, alpha, window, timed, sevenAt, inAisleTwo, hoursCases}
 use Rattle.rules.proofs.Admission.{layout-within, stock-within, hours-within, same-cell, admitted}
 use Rattle.rules.proofs.OpenAlike.{changed, Alike, same-answer, same-page-answer}
@@ -28,6 +25,7 @@ use Rattle.rules.proofs.Cases.{hours-cases-hold}
 use Rattle.promises.specs.Causes.{JobFileOf, SameCell}
 use Rattle.promises.specs.OpeningHours.{SameAnswers, AllOpen, shutGone, PassesToHours}
 use Rattle.promises.proofs.Table.{job-file-read, untrue, two-said}
+use Rattle.promises.proofs.SameAnswers.{same-answers, same-looked-in}
 
 -- the tests of stock and hours agree on a job with other stock and other hours
 record Tested (job : Job) (stock : List StockRecord) (hours : Hours) : Type 0 where
@@ -38,32 +36,10 @@ record Tested (job : Job) (stock : List StockRecord) (hours : Hours) : Type 0 wh
 module _ (job : Job) (stock : List StockRecord) (hours : Hours) (alike : Alike job stock hours) (tests : Tested job stock hours) where
   -- then the files of the two jobs get the same answers
   alike-answers : (bytes others : List ℕ) → JobFileOf bytes job → JobFileOf others (changed job stock hours) → SameAnswers bytes others
-  unfolding answer pageAnswer hostAnswer hostPageAnswer output pageOutput
   alike-answers bytes others f g =
-      record {
-        call = call;
-        page-call = page-call;
-        printed = ap (λ (a : Answer). printed (a .reply) (a .sheet)) (call (replicate sheetLimit 0) (replicate workLimit 0));
-        page-printed =
-            ap (λ (a : PageAnswer). pagePrinted (a .call .reply) (a .count) (a .page))
-            (page-call (replicate sheetLimit 0) (replicate pageLimit 0) (replicate workLimit 0));
-      }
-    where
-      own : readJob bytes ≡ some job
-      own = job-file-read bytes job .1 f
-
-      other : readJob others ≡ some (changed job stock hours)
-      other = job-file-read others (changed job stock hours) .1 g
-
-      call : (sheet work : List ℕ) → answer bytes sheet work ≡ answer others sheet work
-      call sheet work =
-          let of : Option Job → Answer = λ read. decided (firstRow (table read sheet work)) read sheet work in
-          ap of own ∙ sym (same-answer job stock hours alike (tests .bounds) (tests .twice) (tests .timely) sheet work) ∙ sym (ap of other)
-
-      page-call : (sheet page work : List ℕ) → pageAnswer bytes sheet page work ≡ pageAnswer others sheet page work
-      page-call sheet page work =
-          let of : Option Job → PageAnswer = λ read. pageDecided (firstRow (pageTable read sheet page work)) read sheet page work in
-          ap of own ∙ sym (same-page-answer job stock hours alike (tests .bounds) (tests .twice) (tests .timely) sheet page work) ∙ sym (ap of other)
+      same-answers bytes others job (changed job stock hours) f g
+      (λ sheet work. sym (same-answer job stock hours alike (tests .bounds) (tests .twice) (tests .timely) sheet work))
+      (λ sheet page work. sym (same-page-answer job stock hours alike (tests .bounds) (tests .twice) (tests .timely) sheet page work))
 
 -- where every aisle is open the sections change nothing
 pub all-open : (job : Job) (timed plain : List ℕ) → AllOpen job timed plain → SameAnswers timed plain
@@ -75,12 +51,8 @@ all-open job timed plain o =
 
 -- and as many records are looked at
 pub all-open-looked : (job : Job) (timed plain : List ℕ) → AllOpen job timed plain → lookedIn timed ≡ lookedIn plain
-unfolding lookedIn
 all-open-looked job timed plain o =
-    let number : Option Job → Option ℕ = λ read. elim read [ none ↦ none | some other ↦ lookedOn other ] in
-    let own = job-file-read timed job .1 (o .with-sections) in
-    let other = job-file-read plain (jobWithHours NoHours job) .1 (o .without) in
-    ap number own ∙ sym (open-looked job (o .within) (o .every)) ∙ sym (ap number other)
+    same-looked-in timed plain job (jobWithHours NoHours job) (o .with-sections) (o .without) (sym (open-looked job (o .within) (o .every)))
 
 module _ (job : Job) (bytes : List ℕ) (p : PassesToHours job bytes) where
   -- no cell of the job has two records, as a test

@@ -146,12 +146,17 @@ module _ (bytes sheet work : List ℕ) where
           ap best (sym same) ∙ content-determined (best j) c text
 
 -- in space enough a call shows the sheet of an admitted job whose text is read
-pub job-shown : (sheet work : List ℕ) → sheetLimit ≤ length sheet → workLimit ≤ length work
-    → (job : Job) → readJob (jobText job) ≡ some job → Admitted job → Shows (jobText job) sheet work job (best job)
-job-shown sheet work space numbers job read a =
-    let none-applies = admitted-served (jobText job) sheet work job read a numbers (omega (arith, sheet-suffices job a)) in
+pub job-shown-in : (sheet work : List ℕ) (job : Job) → length (sheetText job) ≤ length sheet → workLimit ≤ length work
+    → readJob (jobText job) ≡ some job → Admitted job → Shows (jobText job) sheet work job (best job)
+job-shown-in sheet work job enough numbers read a =
+    let none-applies = admitted-served (jobText job) sheet work job read a numbers enough in
     let (other, e, t) = served-for (jobText job) sheet work none-applies in
     let (found, s) = shown (jobText job) sheet work _ (ap (λ x. x .reply) t) in
     let own = job-file-read (jobText job) found .1 (s .file) in
     let same : found ≡ job = cc in
     subst (λ (j : Job). Shows (jobText job) sheet work j (best j)) same s
+
+-- 16,384 bytes are enough
+pub job-shown : (sheet work : List ℕ) → sheetLimit ≤ length sheet → workLimit ≤ length work
+    → (job : Job) → readJob (jobText job) ≡ some job → Admitted job → Shows (jobText job) sheet work job (best job)
+job-shown sheet work space numbers job read a = job-shown-in sheet work job (omega (arith, sheet-suffices job a)) numbers read a

@@ -6,6 +6,7 @@ use lib.ListN.{length, drop}
 use Rattle.rules.specs.JobFile.{Reading, leadingDigits, valueOf}
 use Rattle.rules.specs.declared.Layout.{Layout}
 use Rattle.rules.specs.declared.Policy.{Policy}
+use Rattle.rules.specs.declared.Side.{Side}
 use Rattle.rules.specs.declared.Posts.{Posts}
 use Rattle.rules.specs.declared.StockRecord.{StockRecord}
 use Rattle.rules.specs.declared.Window.{Window}
@@ -14,6 +15,7 @@ use Rattle.reading.specs.declared.cursor.Step.{Step}
 use Rattle.reading.specs.declared.cursor.Field.{Field}
 use Rattle.reading.specs.declared.cursor.Digits.{Digits}
 use Rattle.reading.specs.declared.lines.PolicyWord.{PolicyWord}
+use Rattle.reading.specs.declared.lines.SideWord.{SideWord}
 use Rattle.reading.specs.declared.lines.LayoutLine.{LayoutLine}
 use Rattle.reading.specs.declared.lines.PostsLine.{PostsLine}
 use Rattle.reading.specs.declared.lines.RecordLine.{RecordLine}
@@ -39,6 +41,11 @@ fieldOf s Field.Bad = none
 abbrev pub policyOf : List ℕ → PolicyWord → Reading Policy
 policyOf s (PolicyWord.Named policy c) = some (policy, drop (c .at) s)
 policyOf s PolicyWord.Bad = none
+
+-- a side that was read, or nothing
+abbrev pub sideWordOf : List ℕ → SideWord → Reading Side
+sideWordOf s (SideWord.Named side c) = some (side, drop (c .at) s)
+sideWordOf s SideWord.Bad = none
 
 -- a layout and a policy that were read, or nothing
 abbrev pub layoutOf : List ℕ → LayoutLine → Reading (Layout × Policy)

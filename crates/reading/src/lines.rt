@@ -6,16 +6,23 @@ use rules::Layout;
 use rules::OrderLine;
 use rules::Policy;
 use rules::Posts;
+use rules::Side;
 use rules::StockRecord;
 use rules::Window;
 ghost use mathlib.Core.Path.{_≡_};
 ghost use lib.ListN.{drop};
-ghost use Rattle.rules.specs.JobFile.{readPolicy, readLayout, readPostsLine, readRecord, readWindow, readLine};
-ghost use Rattle.reading.specs.Places.{policyOf, layoutOf, postsOf, recordOf, windowOf, lineOf};
+ghost use Rattle.rules.specs.JobFile.{readPolicy, readSide, readLayout, readPostsLine, readSidedLines, readRecord, readWindow, readLine};
+ghost use Rattle.reading.specs.Places.{policyOf, sideWordOf, layoutOf, postsOf, recordOf, windowOf, lineOf};
 
 // What reading a policy word finds.
 pub enum PolicyWord {
     Named(Policy, Cursor),
+    Bad,
+}
+
+// What reading the word for the depot's side finds.
+pub enum SideWord {
+    Named(Side, Cursor),
     Bad,
 }
 
@@ -25,7 +32,7 @@ pub enum LayoutLine {
     Bad,
 }
 
-// What reading its second line finds.
+// What reading its second line finds, or its second and third.
 pub enum PostsLine {
     Read(Posts, Cursor),
     Bad,
@@ -73,6 +80,19 @@ impl Cursor {
             return PolicyWord::Named(Policy::Largest, next);
         }
         PolicyWord::Bad
+    }
+
+    // FRONT or BACK and a line feed.
+    fn side(self, s: &[u8]) -> SideWord
+        ensures { λ r. ⌜ sideWordOf (now (s .entry)) r ≡ readSide (drop (self .at) (now (s .entry))) ⌝ }
+    {
+        if let Step::Next(next) = self.word(s, b"FRONT\n") {
+            return SideWord::Named(Side::FrontSide, next);
+        }
+        if let Step::Next(next) = self.word(s, b"BACK\n") {
+            return SideWord::Named(Side::BackSide, next);
+        }
+        SideWord::Bad
     }
 
     // The first line of the L section: seven numbers and the policy word.
@@ -127,6 +147,23 @@ impl Cursor {
             return PostsLine::Bad;
         };
         let posts = Posts::Every(cells, wide);
+        PostsLine::Read(posts, next)
+    }
+
+    // The second line of the L section and the third: the posts, and the word for the depot's side.
+    pub fn sided_lines(self, s: &[u8]) -> PostsLine
+        ensures { λ r. ⌜ postsOf (now (s .entry)) r ≡ readSidedLines (drop (self .at) (now (s .entry))) ⌝ }
+    {
+        let Field::Number(cells, c1) = self.field(s, 32) else {
+            return PostsLine::Bad;
+        };
+        let Field::Number(wide, c2) = c1.field(s, 10) else {
+            return PostsLine::Bad;
+        };
+        let SideWord::Named(word, next) = c2.side(s) else {
+            return PostsLine::Bad;
+        };
+        let posts = Posts::Sided(cells, wide, word);
         PostsLine::Read(posts, next)
     }
 

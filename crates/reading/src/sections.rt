@@ -188,6 +188,9 @@ impl Cursor {
         if count == 2 {
             return self.posts(s);
         }
+        if count == 3 {
+            return self.sided_lines(s);
+        }
         PostsLine::Bad
     }
 

@@ -12,6 +12,7 @@ use Rattle.rules.specs.declared.Action.{Action}
 use Rattle.rules.specs.declared.Passage.{Passage}
 use Rattle.rules.specs.Lists.{firstOf}
 use Rattle.rules.specs.Plans.{backTreads, frontTreads}
+use Rattle.rules.specs.Turned.{seenPassage}
 use Rattle.rules.specs.BestPlan.{actionsOf, passagesInOrder}
 use Rattle.optimum.specs.Routing.{sat}
 use Rattle.machine.specs.States.{stateCode, stateOf}
@@ -46,7 +47,7 @@ abbrev pub stepTo : Aisle → List ℕ → List ℕ → At → Candidate → At
 stepTo x fronts backs at c = record { state = stepCode x c (at .state); demand = leftCode fronts backs c (at .demand) }
 
 abbrev pub crossTo : Aisle → At → Passage → At
-crossTo x at p = record { state = stateCode (crossOf (policyOf (x .policy)) p (x .side) (stateOf (at .state))); demand = at .demand }
+crossTo x at p = record { state = stateCode (crossOf (policyOf (x .policy)) (seenPassage (x .layout) p) (x .side) (stateOf (at .state))); demand = at .demand }
 
 -- a set of entered aisles with the one whose bit has that number, if a candidate of the kind enters it; only VOID does not
 unfoldable pub withAisle : ℕ → ℕ → ℕ → ℕ

@@ -11,11 +11,14 @@ use demand::digits::DEMANDS;
 use demand::digits::wide;
 use machine::action_step;
 use machine::passage_step;
+use machine::seen_kind;
+use machine::seen_passage;
 use rows::entered_of;
 use rows::step_value;
 use rules::Action;
 use table::passages::passage_length;
 use values::Stage;
+use values::depot_side;
 ghost use Prim.Native.Nat.{_*_, _+_, _<_, _≤_};
 ghost use Rattle.machine.specs.Steps.{passageOf};
 ghost use Rattle.optimum.specs.Routing.{noTour, sat};
@@ -118,7 +121,8 @@ fn step_to<'a>(fronts: &'a [u16], backs: &'a [u16], x: Aisle, at: At, c: Candida
     let back = c.back;
     let q = at.demand;
     let between = passes_between(x.between, c);
-    let state = action_step(x.policy, c.kind, x.may, between, at.state);
+    let seen = seen_kind(depot_side(x.layout), c.kind);
+    let state = action_step(x.policy, seen, x.may, between, at.state);
     let f = wide(fronts[front * DEMANDS + q]);
     let demand = wide(backs[back * DEMANDS + f]);
     At { state, demand }
@@ -206,7 +210,8 @@ fn cross_to(x: Aisle, at: At, p: usize) -> At
     requires { ⌜ InRange x × (at .state < 9) × (p < 5) ⌝ }
     ensures { λ r. ⌜ r ≡ crossTo x at (passageOf p) ⌝ }
 {
-    let state = passage_step(x.policy, p, x.side, at.state);
+    let seen = seen_passage(depot_side(x.layout), p);
+    let state = passage_step(x.policy, seen, x.side, at.state);
     let demand = at.demand;
     At { state, demand }
 }

@@ -2,7 +2,7 @@
 use Prim.Native.Nat.{ℕ, _≤_, _<_}
 use mathlib.Core.Path.{_≡_, refl, sym, _∙_, ap}
 use mathlib.Core.Logic.{_↔_, Iff·rfl}
-use mathlib.Core.Bool.{Bool, true, false, not, and-eq-true-iff, true≢false, false≢true}
+use mathlib.Core.Bool.{Bool, true, false, not, and-eq-true-iff, true≢false, false≢true, _&&_}
 use mathlib.Core.List.{List, [], _∷_, _++_, List·Memᴰ}
 use native.Mathlib.Omega.{arith}
 use mathlib.Core.Option.{Option, none, some}
@@ -10,7 +10,7 @@ use borrow.Author.Tests.{leb-true, le-leb, ltb-true, lt-ltb, ltb-false, le-ltb, 
 use lib.Dec.{leb, ltb, eqb}
 use lib.ListN.{length}
 use Rattle.rules.specs.declared.Posts.{Posts}
-use Rattle.rules.specs.declared.Posts.the-variants.{NoPosts, Every}
+use Rattle.rules.specs.declared.Posts.the-variants.{NoPosts, Every, Sided}
 use Rattle.rules.specs.declared.Layout.{Layout}
 use Rattle.rules.specs.declared.Policy.{Policy}
 use Rattle.rules.specs.declared.StockRecord.{StockRecord}
@@ -51,11 +51,15 @@ once {A} alike P says xs = (
     go x y true e h = absurd (h (says x y .0 e))
     go x y false e h = e
 
+-- the bounds of k and u, as tests and as comparisons
+post-numbers : (k u : ℕ) → (within 1 24 k && within 0 10 u ≡ true) ↔ ((1 ≤ k) × (k ≤ 24) × (u ≤ 10))
+post-numbers k u = simp (and-eq-true-iff, within-bounds) (λ p. (p .0 .0, p .0 .1, p .1 .1), λ b. ((b .0, b .1), (omega arith, b .2)))
+
 -- the test of the posts' numbers says so
-posts-within : (p : Posts) → (postsInBounds p ≡ true) ↔ PostsWithin p
+pub posts-within : (p : Posts) → (postsInBounds p ≡ true) ↔ PostsWithin p
 posts-within NoPosts = (λ e. tt, λ b. refl)
-posts-within (Every k u) =
-    simp (and-eq-true-iff, within-bounds) (λ p. (p .0 .0, p .0 .1, p .1 .1), λ b. ((b .0, b .1), (omega arith, b .2)))
+posts-within (Every k u) = post-numbers k u
+posts-within (Sided k u side) = post-numbers k u
 
 -- the test of the layout's numbers says so
 pub layout-within : (z : Layout) → (layoutInBounds z ≡ true) ↔ LayoutWithin z

@@ -27,10 +27,11 @@ use Rattle.rules.specs.Examples.{betaWith, cellsBetween, fourBetween, be
 use Rattle.rules.specs.Examples.{restocked, lookedCases, lookedTexts, AllLooked}
 use Rattle.rules.specs.Examples.{window, timed, sevenAt, inAisleOne, inAisleTwo, overstocked, hoursCases, hoursLooked, beforeList, noJobFile, hoursTexts}
 use Rattle.rules.specs.Examples.{doorAt, wantedIn, threePlaces, spareAisle, doorCases}
+use Rattle.rules.specs.Examples.{sided, fromBehind, topOfTwo, midwayCells, midwayTurned, eitherWay, longBehind, backCases, threeLines, thirdLine, pageFromBehind, backTexts}
 use Rattle.rules.specs.Examples.{fewerStore, besideAisleOne, fewerApart, aisleOneAlone, pastOrInto, pastAisleTwo, fewerCases}
 use Rattle.rules.specs.Hours.{openAt, windowInBounds}
 use Rattle.rules.specs.FirstWalk.{without, stepsOf, firstWalk}
-use Rattle.rules.specs.JobFile.{numeral, field, header, sectionText, jobText, layoutText, layoutSectionText, recordText, windowText, lineText, isDigit, isNumber, readField, readHeader, readPolicyAs, readPolicy, readLayout, readPostsLine, readPosts, readRecord, readWindow, readMinute, readClock, readLine, readSection, readLayoutSection, readSections, readJob}
+use Rattle.rules.specs.JobFile.{numeral, field, header, sectionText, jobText, layoutText, layoutSectionText, recordText, windowText, lineText, isDigit, isNumber, readField, readHeader, readPolicyAs, readPolicy, readLayout, readPostsLine, readSideAs, readSide, readSidedLines, readPosts, readRecord, readWindow, readMinute, readClock, readLine, readSection, readLayoutSection, readSections, readJob}
 use Rattle.rules.specs.Jobs.{listed, holdsListed, cellHoldsListed}
 use Rattle.rules.specs.Looked.{withFirst, firstHold, lookedFor, looked, lookedOn, lookedIn}
 use Rattle.rules.specs.Machine.{partKeeps, keepsLargestGap, actionPossible, actionStep, passageStep, treadsNothing, accepts}
@@ -351,6 +352,55 @@ fewer-cases-computed =
 pub fewer-cases-hold : AllHold fewerCases
 fewer-cases-hold = all-hold fewerCases fewer-cases-computed
 
+-- the rows of request #109
+back-cases-computed : AllComputed backCases
+unfolding actionsOf passagesInOrder single prepend isBetter betterOf enteredAisles stocked _⨯_ alpha beta steps listed holdsListed actionPossible actionStep passageStep accepts
+    actionAt passageAt multiplicity lengthOf planLength planPasses inFrontHalf inBackHalf supply serves aisleLength position backHeight depotPoint distance edgesOf
+    boundedBest actionLength passageLength recordInBounds stockInBounds sameCell lineInBounds listInBounds sameArticle weight allStock shortOfStock jobRows
+    jobRefusal within layoutInBounds ownJob treadsNothing cellHoldsListed listedCells untrodden partKeeps keepsLargestGap openAt windowInBounds window timed
+    without stepsOf firstWalk sameEdge samePoint isCrossing canStep stepTo stepEdge one doorAt wantedIn oneEach thirdCells sided fromBehind topOfTwo
+    midwayCells midwayTurned eitherWay longBehind servingPlans RefusedWith backCases
+back-cases-computed =
+    ((refl, refl, refl, refl), record { allowed = refl; serving = refl; length = refl }, record { allowed = refl; serving = refl; length = refl })
+    ▸ ((refl, refl, refl, refl), record { allowed = refl; serving = refl; length = refl }, record { allowed = refl; serving = refl; length = refl })
+    ▸ ((refl, refl, refl, refl), refl)
+    ▸ (refl, refl, refl, refl)
+    ▸ (refl, refl, refl, refl)
+    ▸ (refl, refl, refl, refl)
+    ▸ (refl, refl, refl, refl)
+    ▸ (refl, refl, refl, refl)
+    ▸ under-each _ (refl, refl, refl, refl) (refl, refl, refl, refl) (refl, refl, refl, refl) (refl, refl, refl, refl) (refl, refl, refl, refl) (refl, refl, refl, refl)
+    ▸ (refl, refl, refl, refl)
+    ▸ (refl, refl)
+    ▸ (refl, refl)
+    ▸ (refl, refl)
+    ▸ (refl, refl)
+    ▸ (refl, refl)
+    ▸ (refl, refl)
+    ▸ (refl, refl, refl, refl)
+    ▸ (refl, refl, refl, refl)
+    ▸ under-each _ (refl, refl, refl, refl) (refl, refl, refl, refl) (refl, refl, refl, refl) (refl, refl, refl, refl) (refl, refl, refl, refl) (refl, refl, refl, refl)
+    ▸ under-each _ ((refl, refl, refl, refl), refl) ((refl, refl, refl, refl), refl) ((refl, refl, refl, refl), refl)
+    ((refl, refl, refl, refl), refl) ((refl, refl, refl, refl), refl) ((refl, refl, refl, refl), refl)
+    ▸ (refl, refl, refl, refl)
+    ▸ (refl, refl, refl, refl)
+    ▸ (λ policy. (LayoutBounds, refl, refl))
+    ▸ (λ policy. (LayoutBounds, refl, refl))
+    ▸ (λ policy. (LayoutBounds, refl, refl))
+    ▸ tt
+
+-- the table of request #109, and its texts
+pub back-cases-hold : AllHold backCases × AllSame backTexts
+unfolding backTexts threeLines thirdLine pageFromBehind noJobFile sided fromBehind ownJob stocked _⨯_ numeral field header layoutText layoutSectionText
+    isDigit isNumber readField readHeader readPolicyAs readPolicy readLayout readPostsLine readSideAs readSide readSidedLines readPosts readRecord readLine
+    readSection readLayoutSection readSections readJob within layoutInBounds answer refused hostAnswer output aligned column pageLine pickCell pickedAt alongWalk
+    pageOf cellsOf lackOf lessOf recordAt taken passedRecords picksOf planPasses actionAt passageAt multiplicity without stepsOf firstWalk edgesOf backHeight
+    depotPoint sameEdge samePoint isCrossing canStep stepTo stepEdge one
+back-cases-hold = (
+  all-hold backCases back-cases-computed,
+  refl ▸ refl ▸ refl ▸ refl ▸ refl ▸ refl ▸ refl ▸ refl ▸ refl ▸ refl ▸ refl ▸ refl ▸ refl ▸ refl ▸ refl ▸ tt,
+)
+
 -- the table of request #105, what its program prints, and the numbers that are handed on
 pub looked-cases-hold : AllLooked lookedCases × AllSame lookedTexts
 unfolding lookedCases lookedTexts restocked stocked _⨯_ alpha wrongLayout wrongStock sharedCell sharedArticle nineLines eightLines ownJob workedJob
@@ -364,14 +414,14 @@ looked-cases-hold = (
 
 -- the texts of words and lines, byte for byte
 pub texts-hold : AllSame texts
-unfolding texts twoLines counted posted thirdCells jobText sectionText readPolicyAs readPolicy readLayout readPostsLine readPosts readRecord readLine
-    readSection within layoutInBounds ownJob stocked _⨯_ numeral field header layoutText layoutSectionText recordText lineText passageText pickText
+unfolding texts twoLines counted posted thirdCells jobText sectionText readPolicyAs readPolicy readLayout readPostsLine readSideAs readSide readSidedLines
+    readPosts readRecord readLine readSection within layoutInBounds ownJob stocked _⨯_ numeral field header layoutText layoutSectionText recordText lineText passageText pickText
     isDigit isNumber readField readHeader readLayoutSection readSections readJob answer refused hostAnswer output fromTheBack pageFromTheBack oneEach
     aligned column pageLine pickCell pickedAt alongWalk pageOf cellsOf lackOf lessOf recordAt taken passedRecords picksOf planPasses actionAt passageAt
     multiplicity without stepsOf firstWalk edgesOf backHeight depotPoint sameEdge samePoint isCrossing canStep stepTo stepEdge one pageRefused pageTable
     pageAnswer hostPageAnswer pageOutput
 texts-hold =
-    refl ▸ refl ▸ refl ▸ refl ▸ refl ▸ refl ▸ refl ▸ refl ▸ refl ▸ refl ▸ refl ▸ refl ▸ refl ▸ refl ▸ refl ▸ refl ▸ refl ▸ refl ▸ refl ▸ refl ▸ refl ▸ refl ▸ refl ▸ refl ▸ refl ▸ tt
+    refl ▸ refl ▸ refl ▸ refl ▸ refl ▸ refl ▸ refl ▸ refl ▸ refl ▸ refl ▸ refl ▸ refl ▸ refl ▸ refl ▸ refl ▸ refl ▸ refl ▸ refl ▸ refl ▸ refl ▸ refl ▸ refl ▸ refl ▸ refl ▸ refl ▸ refl ▸ tt
 
 -- a sheet space of 69 bytes is too short for the worked sheet: 9, and the work area is all zero
 pub short-space : CallGives (replicate 69 0) (replicate 32768 1) 9 0

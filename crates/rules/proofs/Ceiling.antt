@@ -5,7 +5,7 @@ use mathlib.Core.Bool.{true}
 use native.Mathlib.Nat.{mul-le-mul, div-le-self}
 use native.Mathlib.Omega.{arith}
 use Rattle.rules.specs.declared.Posts.{Posts}
-use Rattle.rules.specs.declared.Posts.the-variants.{NoPosts, Every}
+use Rattle.rules.specs.declared.Posts.the-variants.{NoPosts, Every, Sided}
 use Rattle.rules.specs.declared.Layout.{Layout}
 use Rattle.rules.specs.Store.{postsBefore, cellPosition, aisleLength, layoutInBounds, PostsWithin}
 use Rattle.rules.specs.Plans.{Plan, WellFormed, planLength}
@@ -16,6 +16,7 @@ use Rattle.rules.proofs.Lengths.{plan-length-bound}
 pub posts-bound : (p : Posts) → PostsWithin p → (i : ℕ) → i ≤ 24 → postsBefore p i ≤ 230
 posts-bound NoPosts b i le = omega arith
 posts-bound (Every q u) b i le = mul-le-mul {n₂ = 10} {m₂ = 23} (b .2) (omega (arith, div-le-self (i - 1) q))
+posts-bound (Sided q u side) b i le = mul-le-mul {n₂ = 10} {m₂ = 23} (b .2) (omega (arith, div-le-self (i - 1) q))
 
 -- so no cell lies further than 980 from the front, and no aisle is longer than 1,040
 pub cell-position-980 : (z : Layout) → layoutInBounds z ≡ true → (i : ℕ) → i ≤ 24 → cellPosition z i ≤ 980

@@ -16,8 +16,11 @@ use Rattle.rules.specs.declared.Action.{Action}
 use Rattle.rules.specs.declared.Action.the-variants.{Void, Bottom, Top, Gap, Once, Twice}
 use Rattle.rules.specs.declared.Passage.{Passage}
 use Rattle.rules.specs.declared.Passage.the-variants.{P00, P02, P11, P20, P22}
+use Rattle.rules.specs.Turned.{seenFrom, passageFrom}
 use Rattle.rules.specs.Lists.{allOf}
-use Rattle.rules.specs.Store.{Edge, along, front, back, InStore, LayoutWithin, distance, edgesOf, depotPoint, samePoint, aisleLength}
+use Rattle.rules.specs.declared.Side.{Side}
+use Rattle.rules.specs.declared.Side.the-variants.{FrontSide, BackSide}
+use Rattle.rules.specs.Store.{sideOf, Point, Edge, along, front, back, InStore, LayoutWithin, distance, edgesOf, depotPoint, samePoint, aisleLength}
 use Rattle.rules.specs.Jobs.{Job}
 use Rattle.rules.specs.Plans.{Plan, WellFormed, Fits, actionAt, passageAt, aisleTreads, backTreads, frontTreads, multiplicity, lengthOf, planLength, entered}
 use Rattle.rules.specs.Lawful.{TreadsNothing}
@@ -142,12 +145,16 @@ module _ (z : Layout) where
   unfolding stepsOf
   empty-steps = sum-none (multiplicity (emptyPlan z)) (edgesOf z) empty-untrodden
 
+  point-self : (x : Point) → samePoint x x ≡ true
+  unfolding samePoint
+  point-self x = rw (eq-eqb (x .aisle) (x .aisle) refl, eq-eqb (x .height) (x .height) refl)
+
   pub empty-walk : firstWalk z (emptyPlan z) ≡ []
-  unfolding firstWalk samePoint depotPoint
+  unfolding firstWalk
   empty-walk =
       let treads = multiplicity (emptyPlan z) in
       ap (λ n. Option·getD (firstFrom z n treads (depotPoint z)) []) empty-steps
-      ∙ ap (λ b. Option·getD (cond (b && true) (some []) none) []) (eq-eqb (z .depot) (z .depot) refl)
+      ∙ ap (λ b. Option·getD (cond b (some []) none) []) (point-self (depotPoint z))
 
 -- within the bounds every other action and passage adds to the length
 module _ (z : Layout) (bounds : LayoutWithin z) where
@@ -181,13 +188,22 @@ module _ (z : Layout) (bounds : LayoutWithin z) where
       tested-empty z plan wf (rw (voids, nones))
 
 -- every policy names VOID and 00
-pub named-void : (p : Policy) → (actionNamed p Void ≡ true) × (passageNamed p P00 ≡ true)
-named-void Exact = (refl, refl)
-named-void Return = (refl, refl)
-named-void Traversal = (refl, refl)
-named-void Midpoint = (refl, refl)
-named-void Composite = (refl, refl)
-named-void Largest = (refl, refl)
+pub named-void : (side : Side) (p : Policy) → (actionNamed side p Void ≡ true) × (passageNamed side p P00 ≡ true)
+named-void side Exact = (refl, refl)
+named-void side Return = (refl, refl)
+named-void side Traversal = (refl, refl)
+named-void side Midpoint = (refl, refl)
+named-void side Composite = (refl, refl)
+named-void side Largest = (refl, refl)
+
+-- VOID and 00 are the same from either side
+pub seen-void : (side : Side) (cells : ℕ) → seenFrom side cells Void ≡ Void
+seen-void FrontSide cells = refl
+seen-void BackSide cells = refl
+
+pub seen-00 : (side : Side) → passageFrom side P00 ≡ P00
+seen-00 FrontSide = refl
+seen-00 BackSide = refl
 
 module _ (job : Job) where
   abbrev idle : Plan
@@ -204,7 +220,7 @@ module _ (job : Job) where
   empty-end leftmost j f = empty-entered j (f .0)
   empty-end rightmost j l = empty-entered j (l .0)
 
-  empty-traversal : TraversalRule (job .layout) idle
+  empty-traversal : TraversalRule (sideOf (job .layout)) (job .layout) idle
   empty-traversal =
       record {
         even = λ e j i. absurd (empty-entered j i);
@@ -212,7 +228,7 @@ module _ (job : Job) where
         odd-others = λ e j i l. absurd (empty-entered j i);
       }
 
-  empty-midpoint : {Between : ℕ → Action → Type 0} → MidpointRule Between idle
+  empty-midpoint : {Between : ℕ → Action → Type 0} → MidpointRule (sideOf (job .layout)) Between idle
   unfolding First Last
   empty-midpoint =
       record {
@@ -232,7 +248,7 @@ module _ (job : Job) where
 
   empty-rules : PolicyRules (OwnRule (job .policy) job idle) job idle
   empty-rules =
-      let named = named-void (job .policy) in
+      let named = named-void (sideOf (job .layout)) (job .policy) in
       record {
         actions = λ j. rw (empty-action (job .layout) j) (named .0);
         passages = λ j. rw (empty-passage (job .layout) j) (named .1);

@@ -9,7 +9,7 @@ use lib.Dec.{ltb}
 use lib.ListN.{length}
 use borrow.Author.Tests.{lt-ltb, le-ltb, le-leb, lt-leb, ltb-true, ltb-false}
 use Rattle.rules.specs.declared.Posts.{Posts}
-use Rattle.rules.specs.declared.Posts.the-variants.{NoPosts, Every}
+use Rattle.rules.specs.declared.Posts.the-variants.{NoPosts, Every, Sided}
 use Rattle.rules.specs.declared.Layout.{Layout}
 use Rattle.rules.specs.declared.Action.{Action}
 use Rattle.rules.specs.declared.Action.the-variants.{Void, Bottom, Top, Gap, Once, Twice}
@@ -30,11 +30,13 @@ div-monotone (suc k) {x} {y} l = le-div-iff-mul-le {k = suc k} {x = x / suc k} {
 posts-monotone : (p : Posts) (h k : ℕ) → h ≤ k → postsBefore p h ≤ postsBefore p k
 posts-monotone NoPosts h k le = omega arith
 posts-monotone (Every q u) h k le = mul-le-mul-left u (div-monotone q (omega arith))
+posts-monotone (Sided q u side) h k le = mul-le-mul-left u (div-monotone q (omega arith))
 
 -- without posts cell i lies f + (i − 1)·p from the front
-none-before : (p : Posts) → WithoutPosts p → (i : ℕ) → postsBefore p i ≡ 0
+pub none-before : (p : Posts) → WithoutPosts p → (i : ℕ) → postsBefore p i ≡ 0
 none-before NoPosts w i = refl
 none-before (Every k u) w i = rw w (omega arith)
+none-before (Sided k u side) w i = rw w (omega arith)
 
 pub cell-without-posts : (z : Layout) → WithoutPosts (z .posts) → (i : ℕ) → cellPosition z i ≡ z .front + (i - 1) * z .pitch
 cell-without-posts z w i = omega (arith, none-before (z .posts) w i)
@@ -59,12 +61,12 @@ module _ (z : Layout) where
   position-back (suc k) h = rw (le-ltb k (z .cells) (omega arith))
 
   -- a height is the front crossing, a cell or beyond the cells
-  data Height (i : ℕ) : Type 0 where
+  pub data Height (i : ℕ) : Type 0 where
     at-front : i ≡ 0 → Height i
     at-cell : 1 ≤ i → i ≤ z .cells → Height i
     at-back : z .cells < i → Height i
 
-  height : (i : ℕ) → Height i
+  pub height : (i : ℕ) → Height i
   height zero = at-front refl
   height (suc k) = go (ltb k (z .cells)) refl
     where

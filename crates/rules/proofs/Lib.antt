@@ -2,6 +2,7 @@ pub mod Lists
 pub mod Numbers
 pub mod Reading
 pub mod Admission
+pub mod Texts
 pub mod Answering
 pub mod Taken
 pub mod Lengths
@@ -15,7 +16,8 @@ pub mod EmptyList
 pub mod Pruning
 pub mod Cases
 pub mod Ceiling
-pub mod NoPosts
+pub mod SamePosts
+pub mod Named
 pub mod WrongTurnings
 pub mod PageAnswering
 pub mod WalkOrder

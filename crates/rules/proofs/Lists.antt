@@ -6,7 +6,7 @@ use mathlib.Core.List.{List, [], _∷_, _++_, map, List·Memᴰ, List·Memᴰ·h
 use mathlib.Core.Bool.{Bool, true, false, cond, _&&_, _||_, true≢false, false≢true, and-eq-true-iff}
 use native.Mathlib.Nat.{eq-or-lt-of-le, suc-mul}
 use native.Mathlib.Omega.{arith}
-use lib.ListN.{length, getD, replicate}
+use lib.ListN.{length, length-append, getD, replicate}
 use Rattle.rules.specs.Lists.{from, sumOf, concatOf, nth, allOf, anyOf, anyTwo, select, Sorted}
 
 -- tests joined by "or"
@@ -166,6 +166,11 @@ module _ {A : Type 0} where
       some-true : {y : A} {ys : List A} → List·Memᴰ y ys → t y ≡ true → anyOf t ys ≡ true
       some-true (List·Memᴰ·head e) h = rw (← e, h)
       some-true (List·Memᴰ·tail {x} {xs} m) h = rw (some-true m h) (or-right (t x))
+
+  -- tests that agree on the list have one answer
+  pub any-agree : (s t : A → Bool) (xs : List A) → ((x : A) → List·Memᴰ x xs → s x ≡ t x) → anyOf s xs ≡ anyOf t xs
+  any-agree s t [] same = refl
+  any-agree s t (x ∷ xs) same = ap₂ _||_ (same x (List·Memᴰ·head refl)) (any-agree s t xs (λ y m. same y (List·Memᴰ·tail m)))
 
   -- the selected elements are those of which the test holds
   pub member-select : {x : A} (t : A → Bool) (xs : List A) → List·Memᴰ x (select t xs) ↔ (List·Memᴰ x xs × (t x ≡ true))
@@ -362,6 +367,23 @@ module _ {A B : Type 0} where
       go true e = ap (λ l. f x ∷ l) e
       go false e = e
 
+  -- the test of a mapped list
+  pub any-map : (t : B → Bool) (f : A → B) (xs : List A) → anyOf t (map f xs) ≡ anyOf (λ x. t (f x)) xs
+  any-map t f [] = refl
+  any-map t f (x ∷ xs) = ap (λ b. t (f x) || b) (any-map t f xs)
+
+  -- the element with the number j of a mapped list
+  pub nth-map : (f : A → B) (xs : List A) (j : ℕ) (d : A) → nth (map f xs) j (f d) ≡ f (nth xs j d)
+  nth-map f xs zero d = refl
+  nth-map f [] (suc j) d = refl
+  nth-map f (x ∷ xs) (suc zero) d = refl
+  nth-map f (x ∷ xs) (suc (suc j)) d = nth-map f xs (suc j) d
+
+  -- the length of several lists, one behind the other
+  pub concat-length : (f : A → List B) (xs : List A) → length (concatOf f xs) ≡ sumOf (λ x. length (f x)) xs
+  concat-length f [] = refl
+  concat-length f (x ∷ xs) = rw (length-append, concat-length f xs)
+
   pub concat-cong : (f g : A → List B) → ((x : A) → f x ≡ g x) → (xs : List A) → concatOf f xs ≡ concatOf g xs
   concat-cong f g e [] = refl
   concat-cong f g e (x ∷ xs) = ap₂ (λ k l. k ++ l) (e x) (concat-cong f g e xs)
@@ -380,6 +402,11 @@ module _ {A B C : Type 0} where
   map-concat f g (x ∷ xs) = map-append f (g x) (concatOf g xs) ∙ ap (λ l. map f (g x) ++ l) (map-concat f g xs)
 
 module _ {A : Type 0} where
+  -- mapped twice by what undoes itself, a list is as it was
+  pub map-twice : (f : A → A) (xs : List A) → ((x : A) → List·Memᴰ x xs → f (f x) ≡ x) → map f (map f xs) ≡ xs
+  map-twice f [] again = refl
+  map-twice f (x ∷ xs) again = ap₂ _∷_ (again x (List·Memᴰ·head refl)) (map-twice f xs (λ y m. again y (List·Memᴰ·tail m)))
+
   -- a sum of nothings is nothing, and where a sum is nothing each of its terms is
   pub sum-none : (f : A → ℕ) (xs : List A) → ((x : A) → f x ≡ 0) → sumOf f xs ≡ 0
   sum-none f [] h = refl

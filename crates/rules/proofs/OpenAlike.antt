@@ -7,6 +7,7 @@ use mathlib.Core.Option.{Option, none, some, Option·getD}
 use mathlib.Core.Bool.{Bool, cond, not, _&&_, _||_}
 use lib.Dec.{leb, ltb, eqb}
 use lib.ListN.{length, drop}
+use Rattle.rules.specs.declared.Side.the-variants.{FrontSide}
 use Rattle.rules.specs.declared.Policy.{Policy}
 use Rattle.rules.specs.declared.Policy.the-variants.{Exact, Return, Traversal, Midpoint, Composite, Largest}
 use Rattle.rules.specs.declared.Action.{Action}
@@ -17,6 +18,7 @@ use Rattle.rules.specs.declared.OrderLine.{OrderLine}
 use Rattle.rules.specs.declared.Refusal.{Refusal}
 use Rattle.rules.specs.declared.Refusal.the-variants.{PageSpace}
 use Rattle.rules.specs.declared.Reply.the-variants.{Served}
+use Rattle.rules.specs.Turned.{seen}
 use Rattle.rules.specs.Lists.{from, concatOf, sumOf, allOf, anyOf, anyTwo, select, headOr}
 use Rattle.rules.specs.Store.{Point, position, backHeight}
 use Rattle.rules.specs.Hours.{Hours, hoursInBounds}
@@ -83,7 +85,7 @@ module _ (job : Job) (stock : List StockRecord) (hours : Hours) where
     same-step : (j : ℕ) (a : Action) (s : State) → actionStep changed j a s ≡ actionStep job j a s
     unfolding actionStep actionPossible
     same-step j a s =
-        ap₂ (λ enter between. cond (actionNamed (job .policy) a && (isVoid a || enter)) (policyBy (job .policy) (walkBackEnd (job .layout)) between a s) dead)
+        ap₂ (λ enter between. cond (actionNamed FrontSide (job .policy) (seen (job .layout) a) && (isVoid a || enter)) (policyBy (job .policy) (walkBackEnd (job .layout)) between (seen (job .layout) a) s) dead)
         (alike .enters j) (same-between (job .policy) j a)
 
     same-run : (actions : List Action) (passages : List Passage) (j : ℕ) (s : State) → runFrom changed j s actions passages ≡ runFrom job j s actions passages

@@ -10,6 +10,7 @@ use mathlib.Core.Option.{Option, none, some, Option·getD}
 use lib.Dec.{leb}
 use native.Mathlib.Omega.{arith}
 use borrow.Author.Tests.{leb-true, leb-false, le-leb, lt-leb}
+use Rattle.rules.specs.declared.Side.the-variants.{FrontSide}
 use Rattle.rules.specs.declared.Policy.{Policy}
 use Rattle.rules.specs.declared.Policy.the-variants.{Exact, Return, Traversal, Midpoint, Composite, Largest}
 use Rattle.rules.specs.declared.Layout.{Layout}
@@ -17,6 +18,7 @@ use Rattle.rules.specs.declared.Action.{Action}
 use Rattle.rules.specs.declared.Action.the-variants.{Void, Bottom, Top, Gap, Once, Twice}
 use Rattle.rules.specs.declared.Passage.{Passage}
 use Rattle.rules.specs.declared.Passage.the-variants.{P00, P02, P11, P20, P22}
+use Rattle.rules.specs.Turned.{seen, seenPassage}
 use Rattle.rules.specs.Lists.{headOr, select, concatOf, sumOf, allOf}
 use Rattle.rules.specs.Lengths.{actionLength, passageLength}
 use Rattle.rules.specs.Jobs.{Job, emptyList}
@@ -81,11 +83,11 @@ cond-dead false s e = refl
 
 pub action-dead : (job : Job) (j : ℕ) (a : Action) → actionStep job j a dead ≡ dead
 unfolding actionStep
-action-dead job j a = cond-dead (actionPossible job j a) _ (policy-dead (job .policy) (walkBackEnd (job .layout)) (betweenTest (job .policy) job j) a)
+action-dead job j a = cond-dead (actionPossible job j a) _ (policy-dead (job .policy) (walkBackEnd (job .layout)) (λ b. betweenTest (job .policy) job j a) (seen (job .layout) a))
 
 pub passage-dead : (job : Job) (j : ℕ) (p : Passage) → passageStep job j p dead ≡ dead
 unfolding passageStep
-passage-dead job j p = cond-dead (passageNamed (job .policy) p) _ (cross-dead (job .layout .depot) j p)
+passage-dead job j p = cond-dead (passageNamed FrontSide (job .policy) (seenPassage (job .layout) p)) _ (cross-dead (job .layout .depot) j (seenPassage (job .layout) p))
 
 pub run-dead : (job : Job) (actions : List Action) (j : ℕ) (passages : List Passage) → runFrom job j dead actions passages ≡ dead
 run-dead job [] j passages = refl

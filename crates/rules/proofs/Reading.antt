@@ -11,7 +11,9 @@ use lib.ListN.{length, drop}
 use lib.Seq.{drop-append-seam}
 use borrow.Author.Tests.{leb-true, le-leb, eqb-true, eq-eqb}
 use Rattle.rules.specs.declared.Posts.{Posts}
-use Rattle.rules.specs.declared.Posts.the-variants.{NoPosts, Every}
+use Rattle.rules.specs.declared.Side.{Side}
+use Rattle.rules.specs.declared.Side.the-variants.{FrontSide, BackSide}
+use Rattle.rules.specs.declared.Posts.the-variants.{NoPosts, Every, Sided}
 use Rattle.rules.specs.declared.Layout.{Layout}
 use Rattle.rules.specs.declared.Policy.{Policy}
 use Rattle.rules.specs.declared.Policy.the-variants.{Exact, Return, Traversal, Midpoint, Composite, Largest}
@@ -19,10 +21,10 @@ use Rattle.rules.specs.declared.StockRecord.{StockRecord}
 use Rattle.rules.specs.declared.Window.{Window}
 use Rattle.rules.specs.declared.OrderLine.{OrderLine}
 use Rattle.rules.specs.Lists.{concatOf}
-use Rattle.rules.specs.Store.{withPosts}
+use Rattle.rules.specs.Store.{sideIn, withPosts}
 use Rattle.rules.specs.Hours.{Hours, NoHours, At}
 use Rattle.rules.specs.Jobs.{Job}
-use Rattle.rules.specs.JobFile.{Reading, _>>=_, space, lineFeed, numeral, field, header, isDigit, leadingDigits, valueOf, isNumber, readByte, readField, readHeader, readWord, policyWord, readPolicyAs, orElse, readPolicy, layoutText, readLayout, postsText, layoutLines, layoutSectionText, readPostsLine, readPosts, recordText, readRecord, windowText, readWindow, lineText, readLine, readLines, sectionText, readSection, letterL, letterS, letterM, letterH, letterD, readLayoutSection, readMinute, readClock, hoursText, readHours, jobText, readSections, atEnd, jobFileLimit, readJob, WritablePosts, WritableLayout, WritableRecord, WritableWindow, WritableLine, WritableSection, WritableHours, Writable}
+use Rattle.rules.specs.JobFile.{Reading, _>>=_, space, lineFeed, numeral, field, header, isDigit, leadingDigits, valueOf, isNumber, readByte, readField, readHeader, readWord, policyWord, readPolicyAs, orElse, readPolicy, sideWord, readSideAs, readSide, layoutText, readLayout, postsText, layoutLines, layoutSectionText, readPostsLine, readSidedLines, readPosts, recordText, readRecord, windowText, readWindow, lineText, readLine, readLines, sectionText, readSection, letterL, letterS, letterM, letterH, letterD, readLayoutSection, readMinute, readClock, hoursText, readHours, jobText, readSections, atEnd, jobFileLimit, readJob, WritablePosts, WritableLayout, WritableRecord, WritableWindow, WritableLine, WritableSection, WritableHours, Writable}
 use Rattle.rules.proofs.Numbers.{numeral-digits, valueOf-numeral, isNumber-numeral, numeral-isNumber, leadingDigits-append, leadingDigits-digits, leadingDigits-drop}
 
 -- a reader and a text are inverse: the text of each valid value is read as it, and whatever is read is such a text
@@ -174,11 +176,14 @@ word-inverse (c ∷ w) =
 unfoldable pub policyText : Policy → List ℕ
 policyText policy = policyWord policy ++ (lineFeed ∷ [])
 
+-- fixed bytes that stand for a given value
+stands-inverse : {A : Type 0} (a : A) (text : List ℕ) → Inverse (λ (s : List ℕ). readWord text s >>= λ r. some (a, r .1)) (λ (x : A). text) (λ (x : A). x ≡ a)
+stands-inverse a text = valid-as (λ x. (λ v. v .0, λ v. (v, refl))) (made (λ word. a) (λ x. text) (λ word e. sym e) (word-inverse text))
+
 -- the word of a given policy and the line feed behind it
 policyAs-inverse : (policy : Policy) → Inverse (readPolicyAs policy) (λ (p : Policy). policyText policy) (λ (p : Policy). p ≡ policy)
 unfolding readPolicyAs policyText
-policyAs-inverse policy =
-    valid-as (λ p. (λ v. v .0, λ v. (v, refl))) (made (λ word. policy) (λ p. policyText policy) (λ word e. sym e) (word-inverse (policyText policy)))
+policyAs-inverse policy = stands-inverse policy (policyText policy)
 
 -- one of two readings gave what either of them gives
 or-else : {A C : Type 0} {a b : Option A} {x : A} → (a ≡ some x → C) → (b ≡ some x → C) → orElse a b ≡ some x → C
@@ -203,6 +208,30 @@ policy-inverse = record { reads = reads; written = written }
       where
         one : (q : Policy) → readPolicyAs q s ≡ some (p, rest) → (s ≡ policyText p ++ rest) × Unit {0}
         one q e = let w = policyAs-inverse q .written s p rest e in (rw (w .1) (w .0), tt)
+
+-- the word of a side and the line feed behind it
+unfoldable sideText : Side → List ℕ
+sideText side = sideWord side ++ (lineFeed ∷ [])
+
+-- the word of a given side and the line feed behind it
+sideAs-inverse : (side : Side) → Inverse (readSideAs side) (λ (x : Side). sideText side) (λ (x : Side). x ≡ side)
+unfolding readSideAs sideText
+sideAs-inverse side = stands-inverse side (sideText side)
+
+-- the word of either side and the line feed behind it
+side-inverse : Inverse readSide sideText (λ (side : Side). Unit {0})
+unfolding readSide readSideAs sideText
+side-inverse = record { reads = reads; written = written }
+  where
+    reads : (side : Side) (rest : List ℕ) → Unit {0} → readSide (sideText side ++ rest) ≡ some (side, rest)
+    reads FrontSide rest v = refl
+    reads BackSide rest v = refl
+
+    written : (s : List ℕ) (side : Side) (rest : List ℕ) → readSide s ≡ some (side, rest) → (s ≡ sideText side ++ rest) × Unit {0}
+    written s side rest = or-else (one FrontSide) (one BackSide)
+      where
+        one : (x : Side) → readSideAs x s ≡ some (side, rest) → (s ≡ sideText side ++ rest) × Unit {0}
+        one x e = let w = sideAs-inverse x .written s side rest e in (rw (w .1) (w .0), tt)
 
 -- a layout that says no posts, and whose numbers can be written
 abbrev Plain : Layout × Policy → Type 0
@@ -231,6 +260,7 @@ posts-line-inverse = record { reads = reads; written = written }
     reads : (p : Posts) (rest : List ℕ) → (layoutLines p ≡ 2) × WritablePosts p → readPostsLine (postsText p ++ rest) ≡ some (p, rest)
     reads NoPosts rest v = absurd (omega arith)
     reads (Every k u) rest v = rw (append-assoc, space-field .reads k (field lineFeed u ++ rest) (v .1 .0), line-field .reads u rest (v .1 .1))
+    reads (Sided k u side) rest v = absurd (omega arith)
 
     written : (s : List ℕ) (p : Posts) (rest : List ℕ) → readPostsLine s ≡ some (p, rest) → (s ≡ postsText p ++ rest) × ((layoutLines p ≡ 2) × WritablePosts p)
     written s p rest e =
@@ -244,21 +274,64 @@ posts-line-inverse = record { reads = reads; written = written }
         subst₂ (λ (q : Posts) (end : List ℕ). (s ≡ postsText q ++ end) × ((layoutLines q ≡ 2) × WritablePosts q)) (same .0) (same .1)
         (rw append-assoc (first .0 ∙ ap (λ (t : List ℕ). field space k ++ t) (second .0)), (refl, (first .1, second .1)))
 
+-- its second line and its third
+sided-lines-inverse : Inverse readSidedLines postsText (λ (p : Posts). (layoutLines p ≡ 3) × WritablePosts p)
+unfolding readSidedLines sideText
+sided-lines-inverse = record { reads = reads; written = written }
+  where
+    reads : (p : Posts) (rest : List ℕ) → (layoutLines p ≡ 3) × WritablePosts p → readSidedLines (postsText p ++ rest) ≡ some (p, rest)
+    reads NoPosts rest v = absurd (omega arith)
+    reads (Every k u) rest v = absurd (omega arith)
+    reads (Sided k u side) rest v =
+        rw (append-assoc, append-assoc, space-field .reads k (field lineFeed u ++ (sideText side ++ rest)) (v .1 .0), line-field .reads u (sideText side ++ rest) (v .1 .1), side-inverse .reads side rest tt)
+
+    -- the third line, behind the numbers of the second
+    word : (k u : ℕ) (s : List ℕ) (p : Posts) (rest : List ℕ) → readSide s >>= (λ t. some (Sided k u (t .0), t .1)) ≡ some (p, rest)
+        → (side : Side) × (p ≡ Sided k u side) × (s ≡ sideText side ++ rest)
+    word k u s p rest e =
+        let w = made (Sided k u) sideIn (λ side v. refl) side-inverse .written s p rest e in
+        (sideIn p, w .1 .0, w .0)
+
+    written : (s : List ℕ) (p : Posts) (rest : List ℕ) → readSidedLines s ≡ some (p, rest) → (s ≡ postsText p ++ rest) × ((layoutLines p ≡ 3) × WritablePosts p)
+    written s p rest e =
+        let w = read-some (readField space s) (λ q. readField lineFeed (q .1) >>= λ r. readSide (r .1) >>= λ t. some (Sided (q .0) (r .0) (t .0), t .1)) e in
+        second (w .0 .0) (w .0 .1) (w .1) (w .2)
+      where
+        third : (k u : ℕ) (behind last : List ℕ) → readField space s ≡ some (k, behind) → readField lineFeed behind ≡ some (u, last)
+            → readSide last >>= (λ t. some (Sided k u (t .0), t .1)) ≡ some (p, rest) → (s ≡ postsText p ++ rest) × ((layoutLines p ≡ 3) × WritablePosts p)
+        third k u behind last first next e =
+            let (side, same, text) = word k u last p rest e in
+            let number = space-field .written s k behind first in
+            let width = line-field .written behind u last next in
+            let all = number .0 ∙ ap (λ (t : List ℕ). field space k ++ t) (width .0 ∙ ap (λ (t : List ℕ). field lineFeed u ++ t) text) in
+            rw same (rw (append-assoc, append-assoc) all, (refl, (number .1, width .1)))
+
+        second : (k : ℕ) (behind : List ℕ) → readField space s ≡ some (k, behind)
+            → readField lineFeed behind >>= (λ r. readSide (r .1) >>= λ t. some (Sided k (r .0) (t .0), t .1)) ≡ some (p, rest)
+            → (s ≡ postsText p ++ rest) × ((layoutLines p ≡ 3) × WritablePosts p)
+        second k behind first e =
+            let v = read-some (readField lineFeed behind) (λ r. readSide (r .1) >>= λ t. some (Sided k (r .0) (t .0), t .1)) e in
+            third k (v .0 .0) behind (v .0 .1) first (v .1) (v .2)
+
 -- what is behind the first line, by the section's count
 posts-inverse : (n : ℕ) → Inverse (readPosts n) postsText (λ (p : Posts). (layoutLines p ≡ n) × WritablePosts p)
 unfolding readPosts
-posts-inverse n = record { reads = reads; written = λ s p rest e. written s p rest (eqb n 1) (eqb n 2) refl refl e }
+posts-inverse n = record { reads = reads; written = λ s p rest e. written s p rest (eqb n 1) (eqb n 2) (eqb n 3) refl refl refl e }
   where
     reads : (p : Posts) (rest : List ℕ) → (layoutLines p ≡ n) × WritablePosts p → readPosts n (postsText p ++ rest) ≡ some (p, rest)
     reads NoPosts rest v = rw (← v .0) refl
     reads (Every k u) rest v = rw (← v .0) (posts-line-inverse .reads (Every k u) rest (refl, v .1))
+    reads (Sided k u side) rest v = rw (← v .0) (sided-lines-inverse .reads (Sided k u side) rest (refl, v .1))
 
-    written : (s : List ℕ) (p : Posts) (rest : List ℕ) (b c : Bool) → eqb n 1 ≡ b → eqb n 2 ≡ c
-        → _≡_ {A = Reading Posts} (elim b [ true ↦ some (NoPosts, s) | false ↦ elim c [ true ↦ readPostsLine s | false ↦ none ] ]) (some (p, rest))
+    written : (s : List ℕ) (p : Posts) (rest : List ℕ) (b c d : Bool) → eqb n 1 ≡ b → eqb n 2 ≡ c → eqb n 3 ≡ d
+        → _≡_ {A = Reading Posts}
+        (elim b [ true ↦ some (NoPosts, s) | false ↦ elim c [ true ↦ readPostsLine s | false ↦ elim d [ true ↦ readSidedLines s | false ↦ none ] ] ])
+        (some (p, rest))
         → (s ≡ postsText p ++ rest) × ((layoutLines p ≡ n) × WritablePosts p)
-    written s p rest true c one two e = let same = same-reading e in rw (← same .0) (same .1, (sym (eqb-true n 1 one), tt))
-    written s p rest false true one two e = rw (eqb-true n 2 two) (posts-line-inverse .written s p rest e)
-    written s p rest false false one two e = nothing-read e
+    written s p rest true c d one two three e = let same = same-reading e in rw (← same .0) (same .1, (sym (eqb-true n 1 one), tt))
+    written s p rest false true d one two three e = rw (eqb-true n 2 two) (posts-line-inverse .written s p rest e)
+    written s p rest false false true one two three e = rw (eqb-true n 3 three) (sided-lines-inverse .written s p rest e)
+    written s p rest false false false one two three e = nothing-read e
 
 -- a line of the S section
 pub record-inverse : Inverse readRecord recordText WritableRecord
@@ -336,10 +409,11 @@ section-inverse letter i =
     (λ xs. (λ v. record { count = v .0; each = v .1 .1 }, λ v. (v .count, (refl, v .each))))
     (bind (λ xs. length xs) (header-inverse letter) (λ n. lines-inverse i n) (λ n xs p q. q .0))
 
--- one line or two
+-- one line, two or three
 few-lines : (p : Posts) → layoutLines p ≤ 65535
 few-lines NoPosts = omega arith
 few-lines (Every k u) = omega arith
+few-lines (Sided k u side) = omega arith
 
 -- what the first line says of a layout
 abbrev firstLine : Layout × Policy → Layout × Policy

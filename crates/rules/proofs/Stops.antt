@@ -158,7 +158,7 @@ stop-passed job j (fromBack i) s m = go (List·Memᴰ·append-cases (listedCells
     go (inr l) = inl (List·Memᴰ·eq-of-singleton l)
 
 -- and such a cell is a stop
-passed-stop : (job : Job) (j : ℕ) (part : Part) (c : ℕ) → ListedOn job j part c → List·Memᴰ c (stopsOn job j part)
+pub passed-stop : (job : Job) (j : ℕ) (part : Part) (c : ℕ) → ListedOn job j part c → List·Memᴰ c (stopsOn job j part)
 passed-stop job j (fromFront i) c on = List·Memᴰ·tail (listed-cells job j (fromFront i) c .1 on)
 passed-stop job j (fromBack i) c on = Memᴰ·append-left (backHeight (job .layout) ∷ []) (listed-cells job j (fromBack i) c .1 on)
 
@@ -169,7 +169,7 @@ sorted-cells job j part =
     sorted-select _<_ (λ c. partPasses part c && cellHoldsListed job j c) (from 1 (job .layout .cells)) (sorted-from 1 (job .layout .cells))
 
 -- and so are the stops
-sorted-stops : (job : Job) (j : ℕ) (part : Part) → Sorted _<_ (stopsOn job j part)
+pub sorted-stops : (job : Job) (j : ℕ) (part : Part) → Sorted _<_ (stopsOn job j part)
 unfolding backHeight
 sorted-stops job j (fromFront i) = (λ c m. listed-cells job j (fromFront i) c .0 m .low, sorted-cells job j (fromFront i))
 sorted-stops job j (fromBack i) =

@@ -5,7 +5,9 @@ use mathlib.Core.List.{List, [], _∷_, _++_, map}
 use mathlib.Core.Bool.{Bool, true, false}
 use lib.ListN.{length, drop, replicate}
 use mathlib.Core.Option.{Option, none, some}
-use Rattle.rules.specs.declared.Posts.the-variants.{NoPosts, Every}
+use Rattle.rules.specs.declared.Side.{Side}
+use Rattle.rules.specs.declared.Side.the-variants.{FrontSide, BackSide}
+use Rattle.rules.specs.declared.Posts.the-variants.{NoPosts, Every, Sided}
 use Rattle.rules.specs.declared.Policy.{Policy}
 use Rattle.rules.specs.declared.Policy.the-variants.{Exact, Return, Traversal, Midpoint, Composite, Largest}
 use Rattle.rules.specs.declared.StockRecord.{StockRecord}
@@ -23,7 +25,7 @@ use Rattle.rules.specs.Lists.{headOr}
 use Rattle.rules.specs.Store.{withPosts}
 use Rattle.rules.specs.Hours.{NoHours, At}
 use Rattle.rules.specs.Jobs.{Job, jobWithPosts, jobWithHours}
-use Rattle.rules.specs.JobFile.{policyWord, layoutText, layoutSectionText, recordText, lineText, letterS, letterD, sectionText, hoursText, jobText}
+use Rattle.rules.specs.JobFile.{policyWord, sideWord, field, layoutText, layoutSectionText, recordText, lineText, letterS, letterD, sectionText, hoursText, jobText}
 use Rattle.rules.specs.Refusals.{weight, jobRefusal, numberOf, bad, checkBytes}
 use Rattle.rules.specs.Looked.{lookedOn, lookedIn, handedOn, lookedText}
 use Rattle.rules.specs.Plans.{Plan, planLength, planPasses}
@@ -602,6 +604,115 @@ fewerCases =
     ∷ under Exact (posted 2 1 fewerStore) besideAisleOne  -- cell 3 of aisle 1 is further, by a post
     ∷ []
 
+-- a job with a third line in the L section: k u and the depot's side
+unfoldable pub sided : ℕ → ℕ → Side → (Policy → Job) → Policy → Job
+sided k u side job policy = jobWithPosts (Sided k u side) (job policy)
+
+-- the depot at the back, and no posts
+unfoldable pub fromBehind : (Policy → Job) → Policy → Job
+fromBehind job = sided 1 0 BackSide job
+
+-- store α with article 9 to fetch, from the back: the single aisle is TOP
+unfoldable pub topOfTwo : Expected
+topOfTwo = tour 18 (Void ∷ Top 1 ∷ []) (P20 ∷ [])
+
+-- a store like β, its aisles longer behind the cells: the cells wanted in the aisles 1 and 3 lie midway
+unfoldable pub midwayCells : Policy → Job
+midwayCells = ownJob 3 5 1 1 3 1 3 (stocked 1 4 3 1 ∷ stocked 2 1 1 1 ∷ stocked 2 5 2 1 ∷ stocked 3 4 4 1 ∷ []) oneEach
+
+-- that store turned front to back
+unfoldable pub midwayTurned : Policy → Job
+midwayTurned = fromBehind (ownJob 3 5 3 1 1 1 3 (stocked 1 2 3 1 ∷ stocked 2 5 1 1 ∷ stocked 2 1 2 1 ∷ stocked 3 2 4 1 ∷ []) oneEach)
+
+-- its aisle 1 is walked back from either side, to the cell midway: both ways are as long, and BOTTOM ranks first
+unfoldable pub eitherWay : ℕ → Expected
+eitherWay i = tied 28 (Bottom i ∷ Once ∷ Once ∷ []) (P02 ∷ P11 ∷ []) (Top i ∷ Once ∷ Once ∷ []) (P20 ∷ P11 ∷ [])
+
+-- aisles far longer behind the cells than before them
+unfoldable pub longBehind : Policy → Job
+longBehind = ownJob 3 5 1 1 5 1 1 (stocked 1 3 1 1 ∷ stocked 2 4 2 1 ∷ stocked 3 3 3 1 ∷ []) ((1 ⨯ 1) ∷ (2 ⨯ 1) ∷ (3 ⨯ 1) ∷ [])
+
+-- cases of request #109; each row against a misreading
+unfoldable pub backCases : List Case
+backCases =
+    under Composite midwayCells (eitherWay 4)  -- a turned pair: equally long ..
+    ∷ under Composite midwayTurned (eitherWay 2)  -- .. and ranks are not turned over: BOTTOM before TOP, 02 before 20
+    ∷ under Exact (fromBehind beta) (walked 20 (Once ∷ Gap 1 5 ∷ Once ∷ []) (P11 ∷ P11 ∷ [])
+    (steps Front 6 ∷ steps Right 1 ∷ steps Back 1 ∷ steps Front 1 ∷ steps Right 1 ∷ steps Back 6 ∷ steps Left 1 ∷ steps Front 1 ∷ steps Back 1 ∷ steps Left 1 ∷ []))  -- the walk starts at the back; F comes before R
+    ∷ under Return (fromBehind beta) (tour 26 (Top 3 ∷ Top 1 ∷ Top 3 ∷ []) (P20 ∷ P20 ∷ []))  -- TOP for BOTTOM and 20 for 02
+    ∷ under Traversal (fromBehind beta) (tour 22 (Once ∷ Once ∷ Top 3 ∷ []) (P11 ∷ P20 ∷ []))  -- the aisle walked back is TOP
+    ∷ under Midpoint (fromBehind beta) (tour 20 (Once ∷ Gap 1 5 ∷ Once ∷ []) (P11 ∷ P11 ∷ []))
+    ∷ under Largest (fromBehind beta) (tour 20 (Once ∷ Gap 1 5 ∷ Once ∷ []) (P11 ∷ P11 ∷ []))
+    ∷ under Composite (fromBehind beta) (tour 22 (Top 3 ∷ Once ∷ Once ∷ []) (P20 ∷ P11 ∷ []))
+    ∷ underEvery (fromBehind (alpha ((9 ⨯ 1) ∷ []))) topOfTwo  -- a single aisle is TOP
+    ∷ under Traversal (fromBehind (doorAt 3)) (tour 18 (Top 5 ∷ Once ∷ Once ∷ []) (P20 ∷ P11 ∷ []))  -- left and right stay: from the right-hand door the leftmost
+    ∷ under Traversal (fromBehind beta) (allowing false (Once ∷ Once ∷ Bottom 3 ∷ []) (P11 ∷ P02 ∷ []))  -- not BOTTOM too
+    ∷ under Midpoint (fromBehind (wantedIn 3 1 ((1, 3) ∷ (2, 3) ∷ []))) (allowing false (Once ∷ Once ∷ Void ∷ []) (P11 ∷ P02 ∷ []))  -- nor 02
+    ∷ under Midpoint (fromBehind (wantedIn 3 1 ((1, 3) ∷ (2, 3) ∷ []))) (allowing true (Once ∷ Once ∷ Void ∷ []) (P11 ∷ P20 ∷ []))  -- but 20
+    ∷ under Largest (fromBehind (wantedIn 3 1 ((1, 3) ∷ (2, 3) ∷ []))) (allowing false (Once ∷ Once ∷ Void ∷ []) (P11 ∷ P02 ∷ []))
+    ∷ under Composite (fromBehind (wantedIn 3 1 ((1, 3) ∷ (2, 3) ∷ []))) (allowing true (Once ∷ Once ∷ Void ∷ []) (P11 ∷ P02 ∷ []))  -- COMPOSITE names both
+    ∷ under Exact (fromBehind (wantedIn 3 1 ((1, 3) ∷ []))) (allowing false (Bottom 3 ∷ Void ∷ Void ∷ []) (P00 ∷ P00 ∷ []))  -- the depot's crossing is the back one
+    ∷ under Midpoint (fromBehind longBehind) (tour 32 (Once ∷ Bottom 4 ∷ Once ∷ []) (P11 ∷ P11 ∷ []))  -- the halves stay: cell 4 is nearer the front
+    ∷ under Largest (fromBehind (wantedIn 3 1 ((1, 3) ∷ (2, 1) ∷ (3, 3) ∷ []))) (tour 18 (Once ∷ Bottom 1 ∷ Once ∷ []) (P11 ∷ P11 ∷ []))  -- so does the gap rule: a turn at cell 1
+    ∷ underEvery (fromBehind (timed 6 (window 1 5 6 ∷ []) (alpha ((9 ⨯ 1) ∷ [])))) topOfTwo  -- the depot at a shut aisle's back
+    ∷ underEvery (fromBehind (alpha [])) (walked 0 (Void ∷ Void ∷ []) (P00 ∷ []) [])  -- an empty list
+    ∷ under Return (sided 3 1 BackSide thirdCells) (tour 32 (Top 3 ∷ Top 3 ∷ []) (P20 ∷ []))  -- posts are counted from the front: one lies behind cell 3
+    ∷ under Return (sided 2 1 FrontSide (alpha ((9 ⨯ 1) ∷ []))) (tour 14 (Void ∷ Bottom 1 ∷ []) (P02 ∷ []))  -- FRONT says what is so without it
+    ∷ underEvery (sided 0 0 BackSide thirdCells) (refusal 2)  -- 2 covers k and u under `L 3` too
+    ∷ underEvery (sided 25 0 FrontSide thirdCells) (refusal 2)
+    ∷ underEvery (sided 24 11 BackSide thirdCells) (refusal 2)
+    ∷ []
+
+-- an L section with posts and the depot's side
+unfoldable pub threeLines : List ℕ
+threeLines =
+    76 ∷ 32 ∷ 51 ∷ 10  -- L 3
+    ∷ 49 ∷ 32 ∷ 50 ∷ 32 ∷ 51 ∷ 32 ∷ 52 ∷ 32 ∷ 53 ∷ 32 ∷ 54 ∷ 32 ∷ 55 ∷ 32 ∷ 69 ∷ 88 ∷ 65 ∷ 67 ∷ 84 ∷ 10  -- 1 2 3 4 5 6 7 EXACT
+    ∷ 56 ∷ 32 ∷ 57 ∷ 10  -- 8 9
+    ∷ 66 ∷ 65 ∷ 67 ∷ 75 ∷ 10  -- BACK
+    ∷ []
+
+-- a file of three lines in the L section: its second line says that k, its third line has these bytes, and its S and D sections are empty
+unfoldable pub thirdLine : ℕ → List ℕ → List ℕ
+thirdLine k bytes =
+    76 ∷ 32 ∷ 51 ∷ 10  -- L 3
+    ∷ 49 ∷ 32 ∷ 49 ∷ 32 ∷ 49 ∷ 32 ∷ 49 ∷ 32 ∷ 49 ∷ 32 ∷ 49 ∷ 32 ∷ 49 ∷ 32 ∷ 69 ∷ 88 ∷ 65 ∷ 67 ∷ 84 ∷ 10  -- 1 1 1 1 1 1 1 EXACT
+    ∷ (field 32 k ++ (48 ∷ 10 ∷ [])) ++ (bytes  -- k 0
+    ++ (83 ∷ 32 ∷ 48 ∷ 10  -- S 0
+    ∷ 68 ∷ 32 ∷ 48 ∷ 10  -- D 0
+    ∷ []))
+
+-- the page of a plan in one aisle of three cells, the depot at the back: its cell 3 is reached first
+unfoldable pub pageFromBehind : List ℕ
+pageFromBehind =
+    32 ∷ 49 ∷ 45 ∷ 32 ∷ 51 ∷ 32 ∷ 32 ∷ 32 ∷ 49 ∷ 46 ∷ 46 ∷ 46 ∷ 46 ∷ 46 ∷ 46 ∷ 46 ∷ 46 ∷ 46 ∷ 46 ∷ 32 ∷ 32 ∷ 32 ∷ 32 ∷ 56 ∷ 10  --  1- 3   1..........    8
+    ∷ 32 ∷ 49 ∷ 45 ∷ 32 ∷ 49 ∷ 32 ∷ 32 ∷ 32 ∷ 49 ∷ 46 ∷ 46 ∷ 46 ∷ 46 ∷ 46 ∷ 46 ∷ 46 ∷ 46 ∷ 46 ∷ 46 ∷ 32 ∷ 32 ∷ 32 ∷ 32 ∷ 55 ∷ 10  --  1- 1   1..........    7
+    ∷ []
+
+-- texts with a third line, and what is no such line
+unfoldable pub backTexts : List (List ℕ × List ℕ)
+backTexts =
+    (layoutSectionText (withPosts (Sided 8 9 BackSide) (ownJob 1 2 3 4 5 6 7 [] [] Exact .layout)) Exact, threeLines)  -- L 3, that line, 8 9, BACK
+    ∷ (sideWord FrontSide, 70 ∷ 82 ∷ 79 ∷ 78 ∷ 84 ∷ [])  -- FRONT
+    ∷ (
+      pageOf (fromBehind (ownJob 1 3 1 1 1 1 1 (stocked 1 1 7 1 ∷ stocked 1 3 8 1 ∷ []) ((7 ⨯ 1) ∷ (8 ⨯ 1) ∷ [])) Exact)
+          (record { actions = Top 1 ∷ []; passages = [] }),
+      pageFromBehind,
+    )  -- the page follows the walk from the back
+    ∷ (output (thirdLine 25 (66 ∷ 65 ∷ 67 ∷ 75 ∷ 10 ∷ [])), 82 ∷ 32 ∷ 49 ∷ 10 ∷ 50 ∷ 10 ∷ [])  -- R 1, 2: BACK is read, a k of 25 is out of bounds
+    ∷ (output (thirdLine 25 (70 ∷ 82 ∷ 79 ∷ 78 ∷ 84 ∷ 10 ∷ [])), 82 ∷ 32 ∷ 49 ∷ 10 ∷ 50 ∷ 10 ∷ [])  -- R 1, 2: and so is FRONT
+    ∷ (output (thirdLine 25 (82 ∷ 69 ∷ 65 ∷ 82 ∷ 10 ∷ [])), noJobFile)  -- REAR is another word: 1 before any bound
+    ∷ (output (thirdLine 25 (98 ∷ 97 ∷ 99 ∷ 107 ∷ 10 ∷ [])), noJobFile)  -- back
+    ∷ (output (thirdLine 25 (66 ∷ 65 ∷ 67 ∷ 10 ∷ [])), noJobFile)  -- BAC
+    ∷ (output (thirdLine 25 (70 ∷ 82 ∷ 79 ∷ 78 ∷ 84 ∷ 83 ∷ 10 ∷ [])), noJobFile)  -- FRONTS
+    ∷ (output (thirdLine 25 (32 ∷ 66 ∷ 65 ∷ 67 ∷ 75 ∷ 10 ∷ [])), noJobFile)  -- a space before BACK
+    ∷ (output (thirdLine 25 (66 ∷ 65 ∷ 67 ∷ 75 ∷ 32 ∷ 10 ∷ [])), noJobFile)  -- a space behind it
+    ∷ (output (thirdLine 25 (66 ∷ 65 ∷ 67 ∷ 75 ∷ 13 ∷ 10 ∷ [])), noJobFile)  -- a carriage return
+    ∷ (output (thirdLine 25 (10 ∷ [])), noJobFile)  -- nothing
+    ∷ (output (thirdLine 25 []), noJobFile)  -- no third line
+    ∷ (output (thirdLine 25 (66 ∷ 65 ∷ 67 ∷ 75 ∷ 10 ∷ 66 ∷ 65 ∷ 67 ∷ 75 ∷ 10 ∷ [])), noJobFile)  -- two
+    ∷ []
+
 -- an L section with posts
 unfoldable pub twoLines : List ℕ
 twoLines =
@@ -659,7 +770,8 @@ texts =
     ∷ (pageOutput [], 82 ∷ 32 ∷ 49 ∷ 10 ∷ 49 ∷ 10 ∷ [])  -- R 1, 1
     ∷ (output [], 82 ∷ 32 ∷ 49 ∷ 10 ∷ 49 ∷ 10 ∷ [])  -- R 1, 1: no bytes are no job file
     ∷ (output (counted 49), 82 ∷ 32 ∷ 49 ∷ 10 ∷ 49 ∷ 10 ∷ [])  -- R 1, 1: `L 1` with a second line is none
-    ∷ (output (counted 51), 82 ∷ 32 ∷ 49 ∷ 10 ∷ 49 ∷ 10 ∷ [])  -- R 1, 1: nor is `L 3`
+    ∷ (output (counted 51), 82 ∷ 32 ∷ 49 ∷ 10 ∷ 49 ∷ 10 ∷ [])  -- R 1, 1: nor is `L 3` with two lines
+    ∷ (output (counted 52), 82 ∷ 32 ∷ 49 ∷ 10 ∷ 49 ∷ 10 ∷ [])  -- R 1, 1: nor is `L 4`
     ∷ (output (jobText (posted 25 0 thirdCells Exact)), 82 ∷ 32 ∷ 49 ∷ 10 ∷ 50 ∷ 10 ∷ [])  -- R 1, 2: a k of 25 is out of bounds
     ∷ []
 

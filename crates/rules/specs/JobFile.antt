@@ -1,12 +1,15 @@
--- Document 01, "Job file", with the sections of request #106: the text of a job, and reading bytes as a job.
+-- Document 01, "Job file", with the lines of the L section of requests #102 and #109 and the sections of request #106: the text of a job, and
+-- reading bytes as a job.
 use Prim.Native.Nat.{ℕ, zero, suc, _+_, _*_, _-_, _≤_, _/_, _%_}
 use mathlib.Core.List.{List, [], _∷_, _++_, List·Memᴰ}
 use mathlib.Core.Bool.{Bool, true, false, _&&_, not}
 use mathlib.Core.Option.{Option, none, some}
 use lib.Dec.{ltb, leb, eqb}
 use lib.ListN.{length, drop}
+use Rattle.rules.specs.declared.Side.{Side}
+use Rattle.rules.specs.declared.Side.the-variants.{FrontSide, BackSide}
 use Rattle.rules.specs.declared.Posts.{Posts}
-use Rattle.rules.specs.declared.Posts.the-variants.{NoPosts, Every}
+use Rattle.rules.specs.declared.Posts.the-variants.{NoPosts, Every, Sided}
 use Rattle.rules.specs.declared.Layout.{Layout}
 use Rattle.rules.specs.declared.Policy.{Policy}
 use Rattle.rules.specs.declared.Policy.the-variants.{Exact, Return, Traversal, Midpoint, Composite, Largest}
@@ -64,15 +67,22 @@ layoutText z policy =
     ++ (field space (z .depot)
     ++ (policyWord policy ++ (lineFeed ∷ []))))))))
 
--- its second line, where the posts have one: k u
+-- the words for the depot's side, byte for byte
+abbrev pub sideWord : Side → List ℕ
+sideWord FrontSide = 70 ∷ 82 ∷ 79 ∷ 78 ∷ 84 ∷ []  -- FRONT
+sideWord BackSide = 66 ∷ 65 ∷ 67 ∷ 75 ∷ []  -- BACK
+
+-- its second line, where the posts have one: k u; and its third, where the depot's side has one: FRONT or BACK
 abbrev pub postsText : Posts → List ℕ
 postsText NoPosts = []
 postsText (Every k u) = field space k ++ field lineFeed u
+postsText (Sided k u side) = field space k ++ (field lineFeed u ++ (sideWord side ++ (lineFeed ∷ [])))
 
 -- the number of its lines
 abbrev pub layoutLines : Posts → ℕ
 layoutLines NoPosts = 1
 layoutLines (Every k u) = 2
+layoutLines (Sided k u side) = 3
 
 -- a line of the S section: aisle cell article quantity
 unfoldable pub recordText : StockRecord → List ℕ
@@ -102,7 +112,7 @@ letterH = 72  -- H
 abbrev pub letterD : ℕ
 letterD = 68  -- D
 
--- the L section: its letter, its count and its one or two lines
+-- the L section: its letter, its count and its one, two or three lines
 unfoldable pub layoutSectionText : Layout → Policy → List ℕ
 layoutSectionText z policy = header letterL (layoutLines (z .posts)) ++ (layoutText z policy ++ postsText (z .posts))
 
@@ -207,6 +217,16 @@ readPolicy s =
     (orElse (readPolicyAs Composite s)
     (readPolicyAs Largest s)))))
 
+-- the side, if its word and a line feed stand here
+unfoldable pub readSideAs : Side → List ℕ → Reading Side
+readSideAs side s = do
+  (word, s) ← readWord (sideWord side ++ (lineFeed ∷ [])) s
+  some (side, s)
+
+-- FRONT or BACK and a line feed
+unfoldable pub readSide : List ℕ → Reading Side
+readSide s = orElse (readSideAs FrontSide s) (readSideAs BackSide s)
+
 -- the first line of the L section, which says no posts
 unfoldable pub readLayout : List ℕ → Reading (Layout × Policy)
 readLayout s = do
@@ -227,10 +247,22 @@ readPostsLine s = do
   (u, s) ← readField lineFeed s
   some (Every k u, s)
 
--- what is behind the first line: nothing where the count is 1, the second line where it is 2; other counts are no job file
+-- its second line and its third
+unfoldable pub readSidedLines : List ℕ → Reading Posts
+readSidedLines s = do
+  (k, s) ← readField space s
+  (u, s) ← readField lineFeed s
+  (side, s) ← readSide s
+  some (Sided k u side, s)
+
+-- what is behind the first line: nothing where the count is 1, the second line where it is 2, the second and the third where it is 3; other
+-- counts are no job file
 unfoldable pub readPosts : ℕ → List ℕ → Reading Posts
 readPosts n s =
-    elim (eqb n 1) [ true ↦ some (NoPosts, s) | false ↦ elim (eqb n 2) [ true ↦ readPostsLine s | false ↦ none ] ]
+    elim (eqb n 1) [
+      | true ↦ some (NoPosts, s)
+      | false ↦ elim (eqb n 2) [ true ↦ readPostsLine s | false ↦ elim (eqb n 3) [ true ↦ readSidedLines s | false ↦ none ] ]
+    ]
 
 -- a line of the S section
 unfoldable pub readRecord : List ℕ → Reading StockRecord
@@ -270,7 +302,7 @@ readSection letter read s = do
   (n, s) ← readHeader letter s
   readLines read n s
 
--- the L section, whose count is 1 or 2
+-- the L section, whose count is 1, 2 or 3
 unfoldable pub readLayoutSection : List ℕ → Reading (Layout × Policy)
 readLayoutSection s = do
   (n, s) ← readHeader letterL s
@@ -333,6 +365,7 @@ pub record WritableLayout (z : Layout) : Type 0 where
 abbrev pub WritablePosts : Posts → Type 0
 WritablePosts NoPosts = Unit {0}
 WritablePosts (Every k u) = (k ≤ 65535) × (u ≤ 65535)
+WritablePosts (Sided k u side) = (k ≤ 65535) × (u ≤ 65535)
 
 -- a stock record whose numbers can be written in a job file
 pub record WritableRecord (r : StockRecord) : Type 0 where

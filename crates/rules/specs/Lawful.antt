@@ -29,14 +29,18 @@ pub data Linked (z : Layout) (treads : Edge → ℕ) (y : Point) : Point → Typ
   here : Linked z treads y y
   step : {x w : Point} (e : Edge) → Trodden z treads e → Joins z e x w → Linked z treads y w → Linked z treads y x
 
--- "lawful": a plan of the store in which each crossing has an even number of treads, all trodden edges hang together,
--- and the depot's crossing touches one of them
-pub record Lawful (z : Layout) (plan : Plan) : Type 0 where
+-- "lawful", with the depot at a given crossing: a plan of the store in which each crossing has an even number of treads, all trodden edges
+-- hang together, and the depot's crossing touches one of them
+pub record LawfulAt (depot : Point) (z : Layout) (plan : Plan) : Type 0 where
   pub well-formed : WellFormed z plan
   pub front-even : (j : ℕ) → 1 ≤ j → j ≤ z .aisles → frontDegree (multiplicity plan) j % 2 ≡ 0
   pub back-even : (j : ℕ) → 1 ≤ j → j ≤ z .aisles → backDegree z (multiplicity plan) j % 2 ≡ 0
   pub together : (x y : Point) → Touched z (multiplicity plan) x → Touched z (multiplicity plan) y → Linked z (multiplicity plan) y x
-  pub depot-touched : Touched z (multiplicity plan) (depotPoint z)
+  pub depot-touched : Touched z (multiplicity plan) depot
+
+-- "lawful", with the depot where the store has it
+abbrev pub Lawful : Layout → Plan → Type 0
+Lawful z plan = LawfulAt (depotPoint z) z plan
 
 -- the plan that treads nothing: a plan of the store in which every edge has no tread
 pub record TreadsNothing (z : Layout) (idle : Plan) : Type 0 where

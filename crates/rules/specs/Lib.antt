@@ -11,6 +11,7 @@ pub mod Lawful
 pub mod Walks
 pub mod Serving
 pub mod Policies
+pub mod Turned
 pub mod Machine
 pub mod BestPlan
 pub mod Picks

@@ -1,10 +1,13 @@
 -- The executable test whether a job's policy allows a plan: a machine that goes through the plan from left to right, and for an
 -- empty list whether the plan treads nothing.
 -- Its states are those of Ratliff and Rosenthal (the paper's names in brackets) and one more, `ending`.
+-- With the depot at the back (#109) the tables are read by the plan as it is seen from there (Turned): then 'front', BOTTOM and 02 below are the
+-- back, TOP and 20 of the plan. The test for aisles between is asked of the action itself.
 use Prim.Native.Nat.{ℕ, zero, suc, _-_}
 use mathlib.Core.List.{List, [], _∷_, tail}
 use mathlib.Core.Bool.{Bool, true, false, cond, not, _&&_, _||_}
 use lib.Dec.{ltb, leb, eqb}
+use Rattle.rules.specs.declared.Side.the-variants.{FrontSide}
 use Rattle.rules.specs.declared.Policy.{Policy}
 use Rattle.rules.specs.declared.Policy.the-variants.{Exact, Return, Traversal, Midpoint, Composite, Largest}
 use Rattle.rules.specs.declared.Action.{Action}
@@ -16,6 +19,7 @@ use Rattle.rules.specs.Store.{position}
 use Rattle.rules.specs.Hours.{isOpen}
 use Rattle.rules.specs.Jobs.{Job, emptyList, holdsListed, cellHoldsListed}
 use Rattle.rules.specs.Plans.{Plan}
+use Rattle.rules.specs.Turned.{seen, seenPassage}
 use Rattle.rules.specs.Policies.{actionNamed, passageNamed, End, leftmost, rightmost, walkBackEnd, halved, Part, partsOf, turnOf, stopsOn, untrodden, through}
 
 -- what has been trodden so far, seen from the right
@@ -140,13 +144,14 @@ isVoid (Gap h i) = false
 isVoid Once = false
 isVoid Twice = false
 
--- the action is possible in aisle j under the job's policy
+-- the action is possible in aisle j under the job's policy: as it is seen from the depot's side, the policy names it at the front, and it is VOID or
+-- the aisle may be entered
 unfoldable pub actionPossible : Job → ℕ → Action → Bool
-actionPossible job j a = actionNamed (job .policy) a && (isVoid a || enterable job j)
+actionPossible job j a = actionNamed FrontSide (job .policy) (seen (job .layout) a) && (isVoid a || enterable job j)
 
 -- the state after the action of aisle j
 unfoldable pub actionStep : Job → ℕ → Action → State → State
-actionStep job j a s = cond (actionPossible job j a) (policyStep (job .policy) (walkBackEnd (job .layout)) (betweenTest (job .policy) job j) a s) dead
+actionStep job j a s = cond (actionPossible job j a) (policyBy (job .policy) (walkBackEnd (job .layout)) (betweenTest (job .policy) job j a) (seen (job .layout) a) s) dead
 
 -- the state after a passage behind an aisle; whether the depot is here, has been reached, has been passed
 abbrev pub crossBy : (here reached passed : Bool) → Passage → State → State
@@ -202,7 +207,7 @@ crossStep d j p s = crossBy (eqb j d) (leb d j) (ltb d j) p s
 
 -- the state after the passage behind aisle j, if the policy has it
 unfoldable pub passageStep : Job → ℕ → Passage → State → State
-passageStep job j p s = cond (passageNamed (job .policy) p) (crossStep (job .layout .depot) j p s) dead
+passageStep job j p s = cond (passageNamed FrontSide (job .policy) (seenPassage (job .layout) p)) (crossStep (job .layout .depot) j (seenPassage (job .layout) p) s) dead
 
 -- the state behind the last aisle; the first of the actions is that of aisle j. Behind the last aisle the passage is 00
 abbrev pub runFrom : Job → ℕ → State → List Action → List Passage → State

@@ -1,5 +1,5 @@
--- Document 01, "Policies", request #104, LARGEST, request #106, shut aisles, and request #107, TRAVERSAL from the right-hand door: the plans
--- that a job's policy allows.
+-- Document 01, "Policies", request #104, LARGEST, request #106, shut aisles, request #107, TRAVERSAL from the right-hand door, and request #109,
+-- the depot at the back: the plans that a job's policy allows.
 use Prim.Native.Nat.{ℕ, zero, suc, _+_, _*_, _-_, _%_, _≤_, _<_}
 use mathlib.Core.Path.{_≡_}
 use mathlib.Core.List.{List, [], _∷_, _++_, List·Memᴰ}
@@ -13,38 +13,50 @@ use Rattle.rules.specs.declared.Action.the-variants.{Void, Bottom, Top, 
 use Rattle.rules.specs.declared.Passage.{Passage}
 use Rattle.rules.specs.declared.Passage.the-variants.{P00, P02, P11, P20, P22}
 use Rattle.rules.specs.Lists.{from, sumOf, anyOf, select}
-use Rattle.rules.specs.Store.{along, aisleLength, position, backHeight, distance}
+use Rattle.rules.specs.declared.Side.{Side}
+use Rattle.rules.specs.declared.Side.the-variants.{FrontSide, BackSide}
+use Rattle.rules.specs.Store.{sideOf, along, aisleLength, position, backHeight, distance}
 use Rattle.rules.specs.Hours.{Hours, isOpen}
 use Rattle.rules.specs.Jobs.{Job, holdsListed, cellHoldsListed}
 use Rattle.rules.specs.Plans.{Plan, Kind, VOID, BOTTOM, TOP, GAP, ONCE, TWICE, kindOf, kindRank, actionAt, passageAt, aisleTreads, backTreads, frontTreads, entered}
 use Rattle.rules.specs.Lawful.{LawfulFor}
 
--- the kinds of actions that a policy names
-abbrev pub kindsNamed : Policy → List Kind
-kindsNamed Exact = VOID ∷ BOTTOM ∷ TOP ∷ GAP ∷ ONCE ∷ TWICE ∷ []
-kindsNamed Return = VOID ∷ BOTTOM ∷ []
-kindsNamed Traversal = VOID ∷ BOTTOM ∷ ONCE ∷ []
-kindsNamed Midpoint = VOID ∷ BOTTOM ∷ TOP ∷ GAP ∷ ONCE ∷ []
-kindsNamed Composite = VOID ∷ BOTTOM ∷ TOP ∷ ONCE ∷ []
-kindsNamed Largest = VOID ∷ BOTTOM ∷ TOP ∷ GAP ∷ ONCE ∷ []
+-- BOTTOM, where a policy names it without TOP: with the depot at the back it reads TOP
+abbrev pub sideKind : Side → Kind
+sideKind FrontSide = BOTTOM
+sideKind BackSide = TOP
 
--- the passages that a policy names
-abbrev pub passagesNamed : Policy → List Passage
-passagesNamed Exact = P00 ∷ P02 ∷ P11 ∷ P20 ∷ P22 ∷ []
-passagesNamed Return = P00 ∷ P02 ∷ []
-passagesNamed Traversal = P00 ∷ P02 ∷ P11 ∷ []
-passagesNamed Midpoint = P00 ∷ P02 ∷ P11 ∷ []
-passagesNamed Composite = P00 ∷ P02 ∷ P11 ∷ P20 ∷ []
-passagesNamed Largest = P00 ∷ P02 ∷ P11 ∷ []
+-- 02, where a policy names it without 20: with the depot at the back it reads 20
+abbrev pub sidePassage : Side → Passage
+sidePassage FrontSide = P02
+sidePassage BackSide = P20
+
+-- the kinds of actions that a policy names, with the depot at the given side
+abbrev pub kindsNamed : Side → Policy → List Kind
+kindsNamed side Exact = VOID ∷ BOTTOM ∷ TOP ∷ GAP ∷ ONCE ∷ TWICE ∷ []
+kindsNamed side Return = VOID ∷ sideKind side ∷ []
+kindsNamed side Traversal = VOID ∷ sideKind side ∷ ONCE ∷ []
+kindsNamed side Midpoint = VOID ∷ BOTTOM ∷ TOP ∷ GAP ∷ ONCE ∷ []
+kindsNamed side Composite = VOID ∷ BOTTOM ∷ TOP ∷ ONCE ∷ []
+kindsNamed side Largest = VOID ∷ BOTTOM ∷ TOP ∷ GAP ∷ ONCE ∷ []
+
+-- the passages that a policy names, with the depot at the given side
+abbrev pub passagesNamed : Side → Policy → List Passage
+passagesNamed side Exact = P00 ∷ P02 ∷ P11 ∷ P20 ∷ P22 ∷ []
+passagesNamed side Return = P00 ∷ sidePassage side ∷ []
+passagesNamed side Traversal = P00 ∷ sidePassage side ∷ P11 ∷ []
+passagesNamed side Midpoint = P00 ∷ sidePassage side ∷ P11 ∷ []
+passagesNamed side Composite = P00 ∷ P02 ∷ P11 ∷ P20 ∷ []
+passagesNamed side Largest = P00 ∷ sidePassage side ∷ P11 ∷ []
 
 -- the action is of a kind that the policy names
-abbrev pub actionNamed : Policy → Action → Bool
-actionNamed policy a = anyOf (λ k. eqb (kindRank k) (kindRank (kindOf a))) (kindsNamed policy)
+abbrev pub actionNamed : Side → Policy → Action → Bool
+actionNamed side policy a = anyOf (λ k. eqb (kindRank k) (kindRank (kindOf a))) (kindsNamed side policy)
 
 -- the passage is one that the policy names: it has the same two digits
-abbrev pub passageNamed : Policy → Passage → Bool
-passageNamed policy p =
-    anyOf (λ q. eqb (backTreads q) (backTreads p) && eqb (frontTreads q) (frontTreads p)) (passagesNamed policy)
+abbrev pub passageNamed : Side → Policy → Passage → Bool
+passageNamed side policy p =
+    anyOf (λ q. eqb (backTreads q) (backTreads p) && eqb (frontTreads q) (frontTreads p)) (passagesNamed side policy)
 
 -- the number of entered aisles
 unfoldable pub enteredAisles : Plan → ℕ
@@ -66,6 +78,15 @@ Last plan j = Entered plan j × ((i : ℕ) → j < i → Entered plan i → ⊥)
 unfoldable pub IsBottom : Action → Type 0
 IsBottom a = (i : ℕ) × (a ≡ Bottom i)
 
+-- TOP, of any cell
+unfoldable pub IsTop : Action → Type 0
+IsTop a = (i : ℕ) × (a ≡ Top i)
+
+-- BOTTOM; with the depot at the back TOP: walked from the depot's side and back to it
+abbrev pub WalkedFrom : Side → Action → Type 0
+WalkedFrom FrontSide a = IsBottom a
+WalkedFrom BackSide a = IsTop a
+
 -- an end of the row of entered aisles
 pub data End : Type 0 where
   leftmost : End
@@ -84,10 +105,11 @@ walkBackEnd z = cond (ltb (z .aisles + 1) (2 * z .depot)) leftmost rightmost
 abbrev pub WalkedBack : Layout → Plan → ℕ → Type 0
 WalkedBack z plan j = EnteredAt (walkBackEnd z) plan j
 
--- TRAVERSAL: with an even number of entered aisles all are ONCE; with an odd number the aisle walked back is BOTTOM and the others ONCE
-pub record TraversalRule (z : Layout) (plan : Plan) : Type 0 where
+-- TRAVERSAL: with an even number of entered aisles all are ONCE; with an odd number the aisle walked back is BOTTOM (TOP with the depot at
+-- the back) and the others ONCE
+pub record TraversalRule (side : Side) (z : Layout) (plan : Plan) : Type 0 where
   pub even : enteredAisles plan % 2 ≡ 0 → (j : ℕ) → Entered plan j → actionAt plan j ≡ Once
-  pub odd-walked-back : enteredAisles plan % 2 ≡ 1 → (j : ℕ) → WalkedBack z plan j → IsBottom (actionAt plan j)
+  pub odd-walked-back : enteredAisles plan % 2 ≡ 1 → (j : ℕ) → WalkedBack z plan j → WalkedFrom side (actionAt plan j)
   pub odd-others : enteredAisles plan % 2 ≡ 1 → (j : ℕ) → Entered plan j → (WalkedBack z plan j → ⊥) → actionAt plan j ≡ Once
 
 -- the cell is no nearer to the back crossing than to the front one
@@ -168,10 +190,10 @@ pub record LargestGap (job : Job) (j : ℕ) (a : Action) : Type 0 where
   pub longest : (part : Part) → List·Memᴰ part (partsOf a) → (x y : ℕ) → Neighbours (stopsOn job j part) x y
       → position (job .layout) y - position (job .layout) x ≤ untrodden (job .layout) j a
 
--- MIDPOINT and LARGEST: a single entered aisle is BOTTOM; otherwise the first and the last entered are ONCE
+-- MIDPOINT and LARGEST: a single entered aisle is BOTTOM (TOP with the depot at the back); otherwise the first and the last entered are ONCE
 -- and those between keep to the policy's rule for them
-pub record MidpointRule (Between : ℕ → Action → Type 0) (plan : Plan) : Type 0 where
-  pub single : enteredAisles plan ≡ 1 → (j : ℕ) → Entered plan j → IsBottom (actionAt plan j)
+pub record MidpointRule (side : Side) (Between : ℕ → Action → Type 0) (plan : Plan) : Type 0 where
+  pub single : enteredAisles plan ≡ 1 → (j : ℕ) → Entered plan j → WalkedFrom side (actionAt plan j)
   pub first : (enteredAisles plan ≡ 1 → ⊥) → (j : ℕ) → First plan j → actionAt plan j ≡ Once
   pub last : (enteredAisles plan ≡ 1 → ⊥) → (j : ℕ) → Last plan j → actionAt plan j ≡ Once
   pub between : (enteredAisles plan ≡ 1 → ⊥) → (i j k : ℕ) → First plan i → Last plan k → i < j → j < k → Between j (actionAt plan j)
@@ -180,15 +202,15 @@ pub record MidpointRule (Between : ℕ → Action → Type 0) (plan : Plan) : Ty
 abbrev pub OwnRule : Policy → Job → Plan → Type 0
 OwnRule Exact job plan = Unit {0}
 OwnRule Return job plan = Unit {0}
-OwnRule Traversal job plan = TraversalRule (job .layout) plan
-OwnRule Midpoint job plan = MidpointRule (λ j a. halved (job .layout) a ≡ true) plan
+OwnRule Traversal job plan = TraversalRule (sideOf (job .layout)) (job .layout) plan
+OwnRule Midpoint job plan = MidpointRule (sideOf (job .layout)) (λ j a. halved (job .layout) a ≡ true) plan
 OwnRule Composite job plan = Unit {0}
-OwnRule Largest job plan = MidpointRule (LargestGap job) plan
+OwnRule Largest job plan = MidpointRule (sideOf (job .layout)) (LargestGap job) plan
 
 -- the rules of a policy: its actions and passages only, an aisle holding no article of the list is VOID, and its own rule
 pub record PolicyRules (Own : Type 0) (job : Job) (plan : Plan) : Type 0 where
-  pub actions : (j : ℕ) → actionNamed (job .policy) (actionAt plan j) ≡ true
-  pub passages : (j : ℕ) → passageNamed (job .policy) (passageAt plan j) ≡ true
+  pub actions : (j : ℕ) → actionNamed (sideOf (job .layout)) (job .policy) (actionAt plan j) ≡ true
+  pub passages : (j : ℕ) → passageNamed (sideOf (job .layout)) (job .policy) (passageAt plan j) ≡ true
   pub void : (j : ℕ) → holdsListed job j ≡ false → actionAt plan j ≡ Void
   pub own : Own
 

@@ -1,12 +1,14 @@
--- Document 01, "The store": points, edges, distances, the depot; request #102: posts.
+-- Document 01, "The store": points, edges, distances, the depot; request #102: posts; request #109: the depot at the back.
 use Prim.Native.Nat.{ℕ, zero, suc, _+_, _*_, _-_, _/_, _≤_, _<_}
 use mathlib.Core.Path.{_≡_}
 use mathlib.Core.Logic.{_⊎_}
 use mathlib.Core.List.{List, [], _∷_, _++_, map}
 use mathlib.Core.Bool.{Bool, true, false, cond, _&&_}
 use lib.Dec.{ltb, leb, eqb}
+use Rattle.rules.specs.declared.Side.{Side}
+use Rattle.rules.specs.declared.Side.the-variants.{FrontSide, BackSide}
 use Rattle.rules.specs.declared.Posts.{Posts}
-use Rattle.rules.specs.declared.Posts.the-variants.{NoPosts, Every}
+use Rattle.rules.specs.declared.Posts.the-variants.{NoPosts, Every, Sided}
 use Rattle.rules.specs.declared.Layout.{Layout}
 use Rattle.rules.specs.Lists.{from, concatOf}
 
@@ -14,11 +16,13 @@ use Rattle.rules.specs.Lists.{from, concatOf}
 abbrev pub postsBefore : Posts → ℕ → ℕ
 postsBefore NoPosts i = 0
 postsBefore (Every k u) i = u * ((i - 1) / k)
+postsBefore (Sided k u side) i = u * ((i - 1) / k)
 
 -- there are no posts: the job file has no line for them, or says that they are 0 wide
 abbrev pub WithoutPosts : Posts → Type 0
 WithoutPosts NoPosts = Unit {0}
 WithoutPosts (Every k u) = u ≡ 0
+WithoutPosts (Sided k u side) = u ≡ 0
 
 -- how far cell i lies from the front: f + (i − 1)·p, and the posts before it
 abbrev pub cellPosition : Layout → ℕ → ℕ
@@ -42,9 +46,28 @@ pub record Point : Type 0 where
 unfoldable pub backHeight : Layout → ℕ
 backHeight z = suc (z .cells)
 
--- the depot is the front crossing of aisle d
+-- the side that the third line of the L section says; where there is no such line, the front
+abbrev pub sideIn : Posts → Side
+sideIn NoPosts = FrontSide
+sideIn (Every k u) = FrontSide
+sideIn (Sided k u side) = side
+
+-- the side of the store at which the depot lies
+abbrev pub sideOf : Layout → Side
+sideOf z = sideIn (z .posts)
+
+-- the height of the crossings at a side, in aisles of so many cells
+abbrev pub heightAt : Side → ℕ → ℕ
+heightAt FrontSide cells = 0
+heightAt BackSide cells = suc cells
+
+-- the depot's height
+abbrev pub depotHeight : Layout → ℕ
+depotHeight z = heightAt (sideOf z) (z .cells)
+
+-- the depot is the front crossing of aisle d, with BACK its back crossing
 unfoldable pub depotPoint : Layout → Point
-depotPoint z = record { aisle = z .depot; height = 0 }
+depotPoint z = record { aisle = z .depot; height = depotHeight z }
 
 -- an edge ("stretch") joins two neighbouring points:
 -- along j k the heights k and k + 1 of aisle j, front j and back j the crossings of the aisles j and j + 1
@@ -87,7 +110,7 @@ edgesOf z =
     concatOf (λ j. map (along j) (from 0 (suc (z .cells)))) (from 1 (z .aisles))
     ++ (map front (from 1 (z .aisles - 1)) ++ map back (from 1 (z .aisles - 1)))
 
--- the store with other posts
+-- the store with other posts, and the depot at the side that they say
 abbrev pub withPosts : Posts → Layout → Layout
 withPosts posts z =
     record {
@@ -109,6 +132,7 @@ within a b n = leb a n && leb n b
 abbrev pub postsInBounds : Posts → Bool
 postsInBounds NoPosts = true
 postsInBounds (Every k u) = within 1 24 k && within 0 10 u
+postsInBounds (Sided k u side) = within 1 24 k && within 0 10 u
 
 -- the bounds of the layout's numbers: m 1 to 16; C 1 to 24; f and b 1 to 60; p 1 to 30; w 1 to 400; d 1 to m; and the posts
 unfoldable pub layoutInBounds : Layout → Bool
@@ -126,6 +150,7 @@ layoutInBounds z =
 abbrev pub PostsWithin : Posts → Type 0
 PostsWithin NoPosts = Unit {0}
 PostsWithin (Every k u) = (1 ≤ k) × (k ≤ 24) × (u ≤ 10)
+PostsWithin (Sided k u side) = (1 ≤ k) × (k ≤ 24) × (u ≤ 10)
 
 -- and those of the whole layout
 pub record LayoutWithin (z : Layout) : Type 0 where

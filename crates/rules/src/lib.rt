@@ -1,13 +1,20 @@
 // The values that code and definitions share. What they mean is said in specs/.
 
-// The posts ("uprights") between the cells: no line of the job file says any, or its line `k u` says one after every k cells,
-// each u wide.
+// The side of the store at which the depot lies ("FRONT or BACK"): at the front or at the back crossing of its aisle.
+pub enum Side {
+    FrontSide,
+    BackSide,
+}
+
+// The posts ("uprights") between the cells, and the depot's side, as the lines behind the first of the L section say them: no line
+// (`L 1`); the line `k u`, a post after every k cells, each u wide (`L 2`); or this line and the side's (`L 3`).
 pub enum Posts {
     NoPosts,
     Every(usize, usize),
+    Sided(usize, usize, Side),
 }
 
-// The store: document 01's m, C, f, p, b, w and d, in the order of the job file, and its posts.
+// The store: document 01's m, C, f, p, b, w and d, in the order of the job file, and its posts and the depot's side.
 pub struct Layout {
     pub aisles: usize,
     pub cells: usize,

@@ -7,9 +7,11 @@ use mathlib.Core.Bool.{Bool, true, false, cond}
 use mathlib.Core.Logic.{⊎-elim}
 use lib.ListN.{length, getD, take}
 use lib.Seq.{getD-take, length-take-le}
+use Rattle.rules.specs.declared.Side.the-variants.{FrontSide}
 use Rattle.rules.specs.declared.Passage.{Passage}
 use Rattle.rules.specs.declared.Passage.the-variants.{P00, P02, P11, P20, P22}
 use Rattle.rules.specs.Plans.{backTreads, frontTreads}
+use Rattle.rules.specs.Turned.{seenPassage}
 use Rattle.rules.specs.BestPlan.{passagesInOrder}
 use Rattle.rules.specs.Machine.{State, dead, crossStep}
 use Rattle.rules.specs.Policies.{passageNamed}
@@ -48,7 +50,7 @@ passage-at (suc (suc (suc (suc (suc p))))) h = absurd (omega arith)
 module _ (x : Aisle) (next : ℕ → ℕ → ℕ) (s q : ℕ) where
   -- the number of the state after a passage
   abbrev to : Passage → ℕ
-  to p = stateCode (crossOf (policyOf (x .policy)) p (x .side) (stateOf s))
+  to p = stateCode (crossOf (policyOf (x .policy)) (seenPassage (x .layout) p) (x .side) (stateOf s))
 
   -- no way on over a passage that leads to the dead state
   pub through-dead : DeadNone next → (p : Passage) → to p ≡ 8 → throughPassage x next s q p ≡ noKey
@@ -63,7 +65,9 @@ module _ (x : Aisle) (next : ℕ → ℕ → ℕ) (s q : ℕ) where
 -- from the dead state there is no way on
 dead-ways : (x : Aisle) (next : ℕ → ℕ → ℕ) (q : ℕ) → DeadNone next → (p : Passage) → throughPassage x next 8 q p ≡ noKey
 unfolding crossOf
-dead-ways x next q none p = through-dead x next 8 q none p (ap stateCode (go (passageNamed (policyOf (x .policy)) p) p))
+dead-ways x next q none p =
+    let seen = seenPassage (x .layout) p in
+    through-dead x next 8 q none p (ap stateCode (go (passageNamed FrontSide (policyOf (x .policy)) seen) seen))
   where
     go : (b : Bool) (p : Passage) → cond b (crossStep 1 (x .side) p dead) dead ≡ dead
     go true P00 = refl
@@ -122,7 +126,7 @@ module _ (x : Aisle) (after after-spared next next-spared steps : List ℕ) (p :
       record { kept = refl; spared-kept = refl; rest = λ k h. refl; spared-rest = λ k h. refl; keyed = λ r small here there. (here, done r) }
     where
       end : ℕ → State
-      end s = crossOf (policyOf (x .policy)) (passageOf p) (x .side) (stateOf s)
+      end s = crossOf (policyOf (x .policy)) (seenPassage (x .layout) (passageOf p)) (x .side) (stateOf s)
 
       done : (r s q : ℕ) → s < 8 → q < x .weight
           → keyAt r after after-spared s q ≡ min (keyAt r after after-spared s q) (throughPassage x (nextKey r next next-spared) s q (passageOf p))

@@ -5,6 +5,7 @@ use mathlib.Core.Path.{_≡_, refl, sym, _∙_, ap}
 use mathlib.Core.Bool.{Bool, true, false, cond, _||_}
 use lib.Dec.{ltb, leb, eqb}
 use borrow.Author.Tests.{ltb-true, ltb-false, eqb-true, eqb-false, lt-ltb, le-ltb, le-leb, lt-leb, ne-eqb}
+use Rattle.rules.specs.declared.Side.the-variants.{FrontSide}
 use Rattle.rules.specs.declared.Policy.{Policy}
 use Rattle.rules.specs.declared.Policy.the-variants.{Exact, Return, Traversal, Midpoint, Composite, Largest}
 use Rattle.rules.specs.declared.Action.{Action}
@@ -14,11 +15,13 @@ use Rattle.rules.specs.Plans.{Fits}
 use Rattle.rules.specs.Jobs.{Job}
 use Rattle.rules.proofs.Stops.{gapFrom, gapTo}
 use Rattle.rules.specs.Policies.{passageNamed, walkBackEnd, through}
+use Rattle.rules.specs.Turned.{seenPassage}
 use Rattle.rules.specs.Machine.{State, dead, keepsLargestGap, betweenTest, mayEnter, enterable, actionPossible, actionStep, crossStep, passageStep}
 use Rattle.machine.specs.States.{stateCode, stateOf}
-use Rattle.machine.specs.Steps.{policyOf, policyCode, kindCode, sampleAction, bit, crossOf}
+use Rattle.machine.specs.Steps.{policyOf, policyCode, kindCode, sampleAction, seenKind, bit, crossOf}
 use Rattle.machine.specs.Tables.{asksGap}
-use Rattle.machine.proofs.StepLaws.{policy-of-code, step-of-code, by-kind}
+use Rattle.machine.proofs.StepLaws.{policy-of-code, step-of-code}
+use Rattle.machine.proofs.Seen.{by-seen-kind}
 use Rattle.between.specs.Between.{allowsTurns, betweenOf}
 use Rattle.between.proofs.Laws.{allows-halves, allows-largest}
 use Rattle.aisles.specs.Candidates.{candidateOf, candidateBetween}
@@ -91,8 +94,8 @@ module _ (job : Job) (j : ℕ) (few : job .layout .cells ≤ 24) where
       let test = betweenTest (job .policy) job j in
       rw (kind-of-candidate (job .layout .cells) a, bit-of-flag (enterable job j), between-code a fits)
       (ap stateCode
-      (step-of-code (job .policy) end (sampleAction (kindCode a)) (enterable job j) (test a) (stateOf s)
-      ∙ by-kind (job .policy) end test a (enterable job j) (stateOf s)))
+      (step-of-code (job .policy) end (sampleAction (seenKind (job .layout) (kindCode a))) (enterable job j) (test a) (stateOf s)
+      ∙ by-seen-kind (job .policy) end (job .layout) (test a) a (enterable job j) (stateOf s)))
 
 -- where an aisle lies answers the three tests on the depot
 record Tests (d j side : ℕ) : Type 0 where
@@ -129,9 +132,10 @@ cross-by-side d j side t p s = rw (t .here, t .reached, t .passed) refl
 
 -- the passages of the table are the machine's
 pub cross-of : (job : Job) (j : ℕ) (p : Passage) (s : State)
-    → crossOf (policyOf (policyCode (job .policy) (walkBackEnd (job .layout)))) p (sideOf (job .layout .depot) j) s ≡ passageStep job j p s
+    → crossOf (policyOf (policyCode (job .policy) (walkBackEnd (job .layout)))) (seenPassage (job .layout) p) (sideOf (job .layout .depot) j) s ≡ passageStep job j p s
 unfolding crossOf passageStep
 cross-of job j p s =
     rw (policy-of-code (job .policy) (walkBackEnd (job .layout)))
     (let d = job .layout .depot in
-    ap (λ t. cond (passageNamed (job .policy) p) t dead) (cross-by-side d j (sideOf d j) (side-tests d j) p s))
+    let seen = seenPassage (job .layout) p in
+    ap (λ t. cond (passageNamed FrontSide (job .policy) seen) t dead) (cross-by-side d j (sideOf d j) (side-tests d j) seen s))

@@ -5,6 +5,7 @@ use mathlib.Core.List.{List}
 use lib.ListN.{length, getD, take}
 use Rattle.rules.specs.declared.Passage.{Passage}
 use Rattle.rules.specs.Plans.{backTreads, frontTreads}
+use Rattle.rules.specs.Turned.{seenPassage}
 use Rattle.rules.specs.BestPlan.{passagesInOrder}
 use Rattle.optimum.specs.Least.{leastOr}
 use Rattle.optimum.specs.Routing.{noKey}
@@ -17,12 +18,12 @@ use Rattle.rows.specs.Pairs.{walk, keyAt, nextKey, SoundRow, Holds}
 
 -- the number of the state after a passage behind the aisle, both by number
 unfoldable pub crossCode : Aisle → ℕ → ℕ → ℕ
-crossCode x passage s = stateCode (crossOf (policyOf (x .policy)) (passageOf passage) (x .side) (stateOf s))
+crossCode x passage s = stateCode (crossOf (policyOf (x .policy)) (seenPassage (x .layout) (passageOf passage)) (x .side) (stateOf s))
 
 -- the way on over a passage: its length in front of the key that the next rows hold
 unfoldable pub throughPassage : Aisle → (ℕ → ℕ → ℕ) → ℕ → ℕ → Passage → ℕ
 throughPassage x next s q p =
-    walk ((backTreads p + frontTreads p) * x .layout .width) (next (stateCode (crossOf (policyOf (x .policy)) p (x .side) (stateOf s))) q)
+    walk ((backTreads p + frontTreads p) * x .layout .width) (next (stateCode (crossOf (policyOf (x .policy)) (seenPassage (x .layout) p) (x .side) (stateOf s))) q)
 
 -- the least over the first n passages
 abbrev pub leastOver : Aisle → (ℕ → ℕ → ℕ) → ℕ → ℕ → ℕ → ℕ

@@ -2,12 +2,14 @@
 use aisles::layers::Aisle;
 use demand::digits::DEMANDS;
 use machine::passage_step;
+use machine::seen_passage;
 use rows::NUMBERS;
 use rows::STATES;
 use rows::fill_none;
 use rows::lives;
 use rows::permute;
 use rows::relax_row;
+use values::depot_side;
 ghost use Prim.Native.Nat.{_*_, _+_, _<_, _≤_, ℕ};
 ghost use Rattle.demand.specs.Digits.{demands};
 ghost use Rattle.rows.specs.Rows.{PastKept, numbers, states};
@@ -39,10 +41,11 @@ fn passage_steps(x: Aisle, passage: usize) -> [usize; STATES]
 {
     let policy = x.policy;
     let side = x.side;
+    let seen = seen_passage(depot_side(x.layout), passage);
     let mut out = [0usize; STATES];
     let mut s = 0;
     while s < STATES {
-        out[s] = passage_step(policy, passage, side, s);
+        out[s] = passage_step(policy, seen, side, s);
         s += 1;
     }
     out

@@ -15,13 +15,17 @@ use Rattle.rules.specs.declared.Passage.the-variants.{P00}
 use Rattle.rules.specs.Lists.{nth}
 use Rattle.rules.specs.Store.{Point, Edge, along, front, back, startOf, endOf, backHeight, InStore}
 use Rattle.rules.specs.Plans.{Plan, WellFormed, Fits, actionAt, passageAt, aisleTreads, backTreads, frontTreads, multiplicity, entered}
-use Rattle.rules.specs.Lawful.{Trodden, Touched, Linked, here}
+use Rattle.rules.specs.Lawful.{Trodden, Touched, Linked, here, LawfulAt}
 use Rattle.tours.proofs.Basics.{split-at, or-true, true-not-false, false-not-true}
 use Rattle.tours.proofs.Links.{linked-trans, edge-forth, edge-back}
 
 -- the crossings of aisle j, and the point of it at height k
 abbrev pub frontOf : ℕ → Point
 frontOf j = record { aisle = j; height = 0 }
+
+-- lawful with the depot at the front
+abbrev pub LawfulFront : Layout → Plan → Type 0
+LawfulFront z plan = LawfulAt (frontOf (z .depot)) z plan
 
 abbrev pub backOf : Layout → ℕ → Point
 backOf z j = record { aisle = j; height = suc (z .cells) }

@@ -13,14 +13,14 @@ use Rattle.rules.specs.declared.Action.{Action}
 use Rattle.rules.specs.declared.Action.the-variants.{Void, Bottom, Top, Gap, Once, Twice}
 use Rattle.rules.specs.declared.Passage.{Passage}
 use Rattle.rules.specs.declared.Passage.the-variants.{P00, P02, P11, P20, P22}
-use Rattle.rules.specs.Store.{Point, Edge, along, front, back, startOf, endOf, backHeight, depotPoint, InStore}
+use Rattle.rules.specs.Store.{Point, Edge, along, front, back, startOf, endOf, backHeight, InStore}
 use Rattle.rules.specs.Plans.{Plan, WellFormed, Fits, actionAt, passageAt, aisleTreads, backTreads, frontTreads, multiplicity}
-use Rattle.rules.specs.Lawful.{Trodden, Touched, Lawful}
+use Rattle.rules.specs.Lawful.{Trodden, Touched}
 use Rattle.rules.specs.Machine.{State, nothing, closed, atFront, atBack, odd, joined, split, ending, dead, row, lawfulStep, crossStep}
 use Rattle.tours.specs.Prefixes.{lawfulState}
 use Rattle.tours.proofs.Basics.{split-at, below, not-trodden, true-not-false}
 use Rattle.tours.proofs.Links.{linked-inside}
-use Rattle.tours.proofs.Aisles.{frontOf, backOf, pointAt, Seen, all-seen, none-seen, passage-past, front-edge, back-edge, onceOrTwice, untrodden, front-touched, back-touched, bottom-treads, top-treads, gap-front, gap-back}
+use Rattle.tours.proofs.Aisles.{frontOf, backOf, pointAt, Seen, all-seen, none-seen, passage-past, front-edge, back-edge, onceOrTwice, untrodden, front-touched, back-touched, bottom-treads, top-treads, gap-front, gap-back, LawfulFront}
 use Rattle.tours.proofs.Parity.{Live, oddness, next-parity, run-parity}
 
 -- a set of points that no trodden edge seen so far leaves, with the back crossing of aisle h inside and the front one outside
@@ -78,7 +78,7 @@ up-to-left j left right x l = rw (le-leb (x .aisle) j l)
 up-to-right : (j : ℕ) (left right : Point → Bool) (x : Point) → j < x .aisle → upTo j left right x ≡ right x
 up-to-right j left right x l = rw (lt-leb (x .aisle) j l)
 
-module _ {z : Layout} {plan : Plan} (law : Lawful z plan) where
+module _ {z : Layout} {plan : Plan} (law : LawfulFront z plan) where
   wf : WellFormed z plan
   wf = law .well-formed
 
@@ -256,8 +256,7 @@ module _ {z : Layout} {plan : Plan} (law : Lawful z plan) where
 
     -- once closed off, nothing is touched any more
     reopened : Before z plan i closed → (x : Point) → Touched z (multiplicity plan) x → suc i ≤ x .aisle → ⊥
-    unfolding depotPoint
-    reopened (c, e, d, l) x t h = no-crossing c e x (depotPoint z) t (law .depot-touched) (omega arith) d
+    reopened (c, e, d, l) x t h = no-crossing c e x (frontOf (z .depot)) t (law .depot-touched) (omega arith) d
 
     -- an action's row of the table, proved entry by entry
     by-row : (n f k t j s : State)
@@ -334,7 +333,6 @@ module _ {z : Layout} {plan : Plan} (law : Lawful z plan) where
         (λ b. t) (λ b. reopened b (frontOf (suc i)) t (omega arith)) (λ b. t) (λ b. t) (λ b. tt) (λ b. t) (λ b. t)
 
     depot-here : z .depot ≡ suc i → Touched z (multiplicity plan) (frontOf (suc i))
-    unfolding depotPoint
     depot-here p = subst (λ (n : ℕ). Touched z (multiplicity plan) (frontOf n)) p (law .depot-touched)
 
     -- a depot that no edge seen so far touches needs the front cross-aisle behind it
@@ -393,9 +391,8 @@ module _ {z : Layout} {plan : Plan} (law : Lawful z plan) where
     -- what goes on at the back only is not closed off before the depot's aisle is passed
     too-early : passageAt plan (suc i) ≡ P00 → Touched z (multiplicity plan) (backOf z (suc i))
         → Cut z (multiplicity plan) (suc i) i (suc i) → suc i ≤ z .depot → ⊥
-    unfolding depotPoint
     too-early e u c l = elim (split-at (suc i) (z .depot)) [
-      | inl h ↦ no-crossing (suc i) e (depotPoint z) (backOf z (suc i)) (law .depot-touched) u h (omega arith)
+      | inl h ↦ no-crossing (suc i) e (frontOf (z .depot)) (backOf z (suc i)) (law .depot-touched) u h (omega arith)
       | inr h ↦ parted i true (rw e) c (depot-here (omega arith)) u
     ]
 
@@ -405,11 +402,10 @@ module _ {z : Layout} {plan : Plan} (law : Lawful z plan) where
     -- closing off behind the depot, and only there
     closing : (x : Point) → Touched z (multiplicity plan) x → x .aisle ≤ suc i → passageAt plan (suc i) ≡ P00
         → Before z plan (suc i) (cond (leb (z .depot) (suc i)) closed dead)
-    unfolding depotPoint
     closing x t l e =
         when (leb (z .depot) (suc i)) closed
         (λ h. (suc i, e, leb-true (z .depot) (suc i) h, omega arith))
-        (λ h. no-crossing (suc i) e (depotPoint z) x (law .depot-touched) t (leb-false (z .depot) (suc i) h) l)
+        (λ h. no-crossing (suc i) e (frontOf (z .depot)) x (law .depot-touched) t (leb-false (z .depot) (suc i) h) l)
 
     -- a passage keeps the invariant
     backward-passage : (p : Passage) → passageAt plan (suc i) ≡ p → (s : State) → frontTreads p % 2 ≡ oddness s

@@ -5,9 +5,10 @@ use mathlib.Core.Path.{_≡_, sym, subst}
 use mathlib.Core.Logic.{inl, inr, _↔_}
 use Rattle.rules.specs.declared.Layout.{Layout}
 use Rattle.rules.specs.Plans.{Plan, WellFormed, actionAt, passageAt, multiplicity}
-use Rattle.rules.specs.Lawful.{Lawful, frontDegree, backDegree}
+use Rattle.rules.specs.Lawful.{frontDegree, backDegree}
 use Rattle.rules.specs.Machine.{closed, lawfulStep}
 use Rattle.tours.specs.Prefixes.{lawfulState}
+use Rattle.tours.proofs.Aisles.{LawfulFront}
 use Rattle.tours.proofs.Basics.{below}
 use Rattle.tours.proofs.Forward.{accepted-together, accepted-depot}
 use Rattle.tours.proofs.Parity.{Live, live-before-action, live-before-passage, front-crossing-even, back-crossing-even}
@@ -27,7 +28,7 @@ module _ (d : ℕ) (plan : Plan) where
 
 -- a plan that the table closes off is lawful
 pub closed-lawful : {z : Layout} {plan : Plan} → WellFormed z plan → 1 ≤ z .depot
-    → lawfulState (z .depot) plan (z .aisles) ≡ closed → Lawful z plan
+    → lawfulState (z .depot) plan (z .aisles) ≡ closed → LawfulFront z plan
 closed-lawful {z} {plan} wf d end =
     record {
       well-formed = wf;
@@ -50,5 +51,5 @@ closed-lawful {z} {plan} wf d end =
 
 -- the table closes off a plan of the store just when it is lawful
 pub closed-iff-lawful : {z : Layout} {plan : Plan} → WellFormed z plan → 1 ≤ z .depot
-    → (lawfulState (z .depot) plan (z .aisles) ≡ closed) ↔ Lawful z plan
+    → (lawfulState (z .depot) plan (z .aisles) ≡ closed) ↔ LawfulFront z plan
 closed-iff-lawful wf d = (closed-lawful wf d, lawful-closed)

@@ -11,6 +11,8 @@ use mathlib.Core.Bool.{Bool, true, false, cond, not, _&&_, _||_}
 use borrow.Author.Tests.{le-leb, leb-false, eqb-true, eq-eqb, not-true, not-false}
 use lib.Dec.{leb, eqb}
 use lib.ListN.{length}
+use Rattle.rules.specs.declared.Side.{Side}
+use Rattle.rules.specs.declared.Side.the-variants.{FrontSide, BackSide}
 use Rattle.rules.specs.declared.Layout.{Layout}
 use Rattle.rules.specs.declared.Policy.{Policy}
 use Rattle.rules.specs.declared.Policy.the-variants.{Exact, Return, Traversal, Midpoint, Composite, Largest}
@@ -20,22 +22,25 @@ use Rattle.rules.specs.declared.Passage.{Passage}
 use Rattle.rules.specs.declared.Passage.the-variants.{P00, P02, P11}
 use Rattle.rules.specs.declared.StockRecord.{StockRecord}
 use Rattle.rules.specs.declared.OrderLine.{OrderLine}
-use Rattle.rules.specs.Store.{position, aisleLength, LayoutWithin}
+use Rattle.rules.specs.Store.{sideOf, position, aisleLength, LayoutWithin}
 use Rattle.rules.specs.Lists.{from, nth, sumOf, select}
 use Rattle.rules.specs.Jobs.{Job, jobUnder, openStock, listed, holdsListed}
 use Rattle.rules.specs.Plans.{Plan, WellFormed, Fits, actionAt, passesCell, planPasses}
-use Rattle.rules.specs.Policies.{Allowed, actionNamed, passageNamed, End, leftmost, rightmost, walkBackEnd, inFrontHalf, inBackHalf, halved}
+use Rattle.rules.specs.Policies.{Allowed, actionNamed, passageNamed, End, leftmost, rightmost, walkBackEnd, inFrontHalf, inBackHalf, halved, through}
+use Rattle.rules.specs.Turned.{turnedHeight, seenFrom, seen, passageFrom, seenPassage}
 use Rattle.rules.specs.Serving.{supply, Serves, PlanServes}
 use Rattle.rules.specs.Refusals.{Admitted, allStock, RecordWithin}
-use Rattle.rules.specs.Machine.{State, nothing, closed, atFront, odd, joined, ending, dead, lawfulStep, midpointStep, policyStep, betweenTest, crossStep}
+use Rattle.rules.specs.Machine.{State, nothing, closed, atFront, odd, joined, ending, dead, lawfulStep, midpointBy, policyBy, policyStep, betweenTest, crossStep}
 use Rattle.rules.specs.Machine.{isVoid, mayEnter, actionPossible, actionStep, passageStep, runFrom, isClosed, closesOff, accepts}
 use Rattle.rules.proofs.Lists.{any-true, from-member, member-select, sum-agree}
 use Rattle.rules.specs.BestPlan.{emptyPlan}
 use Rattle.rules.proofs.Admission.{layout-within, stock-within, list-within, lines-in-stock, admitted-under, open-in-stock}
 use Rattle.rules.proofs.Jobs.{holding-open}
-use Rattle.rules.proofs.EmptyPlan.{empty-well-formed}
+use Rattle.rules.proofs.EmptyPlan.{empty-well-formed, seen-void, seen-00}
 use Rattle.rules.proofs.EmptyList.{closed-accepted, empty-accepted, empty-serves}
-use Rattle.tours.proofs.Basics.{split-at, true-not-false, or-true}
+use Rattle.mirror.proofs.Plans.{passage-twice}
+use Rattle.tours.proofs.Basics.{split-at, true-not-false}
+use Rattle.tours.proofs.Sides.{seen-through, seen-named, seen-asked}
 use Rattle.tours.proofs.Machine.{accepts-allowed}
 use Rattle.tours.proofs.GapsMoved.{line-listed, gaps-moved}
 
@@ -47,6 +52,10 @@ record Whole (cells : ℕ) (a : Action) : Type 0 where
 -- BOTTOM up to the last cell passes all cells
 bottom-whole : (cells : ℕ) → 1 ≤ cells → Whole cells (Bottom cells)
 bottom-whole cells some = record { fits = omega arith; passes = λ c low high. le-leb c cells high }
+
+-- and so does TOP down to the first
+top-whole : (cells : ℕ) → 1 ≤ cells → Whole cells (Top 1)
+top-whole cells some = record { fits = omega arith; passes = λ c low high. le-leb 1 c low }
 
 -- ONCE passes all cells
 once-whole : (cells : ℕ) → Whole cells Once
@@ -82,8 +91,9 @@ half-of z (suc n) = let t = half-of z n in go (t .0) (t .1) (split-at (t .0) n) 
 -- an action between the first and the last entered aisle of MIDPOINT that passes all cells
 record Between (z : Layout) (a : Action) : Type 0 where
   whole : Whole (z .cells) a
-  named : actionNamed Midpoint a ≡ true
-  step : midpointStep (halved z) a odd ≡ odd
+  named : actionNamed FrontSide Midpoint (seen z a) ≡ true
+  step : midpointBy (halved z a) (seen z a) odd ≡ odd
+  is-entered : isVoid a ≡ false
 
 -- there is such an action
 between : (z : Layout) → 1 ≤ z .cells → (a : Action) × Between z a
@@ -93,19 +103,25 @@ between z some = let t = half-of z (z .cells) in go (t .0) (t .1) (split-at (t .
     gap h c true e = refl
     gap h c false e = le-leb (suc h) c (leb-false c h e)
 
+    -- one that turns back and keeps to the halves
+    kept : (a : Action) → Whole (z .cells) a → through a ≡ false → isVoid a ≡ false → halved z a ≡ true → Between z a
+    kept a w t v h = record { whole = w; named = seen-named z a t; step = rw h (seen-asked z a t v true); is-entered = v }
+
     go : (h : ℕ) → Half z (z .cells) h → (h < z .cells) ⊎ (z .cells ≤ h) → (a : Action) × Between z a
     go zero t l =
         let b = t .back some in
-        (Top 1, record { whole = record { fits = omega arith; passes = λ c low high. le-leb 1 c low }; named = refl; step = rw b })
+        (Top 1, kept (Top 1) (top-whole (z .cells) some) refl refl b)
     go (suc h) t (inl l) =
         let f = t .front (omega arith) in
         let b = t .back l in
-        (Gap (suc h) (suc (suc h)), record { whole = record { fits = omega arith; passes = λ c low high. gap (suc h) c (leb c (suc h)) refl }; named = refl; step = rw (f, b) })
+        let a = Gap (suc h) (suc (suc h)) in
+        let w : Whole (z .cells) a = record { fits = omega arith; passes = λ c low high. gap (suc h) c (leb c (suc h)) refl } in
+        (a, kept a w refl refl (rw (f, b)))
     go (suc h) t (inr l) =
         let w = t .within in
         let e : suc h ≡ z .cells = omega arith in
         let f : inFrontHalf z (z .cells) ≡ true = rw e at (t .front (omega arith)) in
-        (Bottom (z .cells), record { whole = bottom-whole (z .cells) some; named = refl; step = rw f })
+        (Bottom (z .cells), kept (Bottom (z .cells)) (bottom-whole (z .cells) some) refl refl f)
 
 -- whether a round may be open with n aisles still to be entered: with any, if an aisle is walked back at the right end, with an odd number, if at the left
 abbrev stillOpen : ℕ → End → Bool
@@ -145,6 +161,11 @@ direct? Midpoint = inl tt
 direct? Composite = inl tt
 direct? Largest = inr refl
 
+-- a passage seen twice is as it was
+seen-passage-twice : (side : Side) (p : Passage) → passageFrom side (passageFrom side p) ≡ p
+seen-passage-twice FrontSide p = refl
+seen-passage-twice BackSide p = passage-twice p
+
 -- the states before an aisle from which the plan can go on, with n aisles to enter from this one on
 data Ready (policy : Policy) (end : End) (n : ℕ) : State → Type 0 where
   none-yet : 1 ≤ n → Ready policy end n nothing
@@ -157,62 +178,72 @@ data Behind (policy : Policy) (end : End) (n : ℕ) : State → Type 0 where
   as-before : {s : State} → Ready policy end n s → Behind policy end n s
   met-again : Behind policy end n joined
 
--- the state behind an aisle that may be entered
+-- the state behind an aisle that may be entered, by the action as it is seen
+abbrev enterAs : Policy → End → Bool → Action → State → State
+enterAs policy end between a s = cond (actionNamed FrontSide policy a && mayEnter policy true) (policyBy policy end between a s) dead
+
+-- the same by the action itself
 abbrev enterStep : Job → ℕ → Policy → End → Action → State → State
-enterStep job j policy end a s = cond (actionNamed policy a && (isVoid a || mayEnter policy true)) (policyStep policy end (betweenTest policy job j) a s) dead
+enterStep job j policy end a s = enterAs policy end (betweenTest policy job j a) (seen (job .layout) a) s
 
 module _ (job : Job) (some : 1 ≤ job .layout .cells) (j : ℕ) where
   -- an aisle is entered so that all its cells are passed
   abbrev Entering : Policy → End → ℕ → State → Type 0
-  Entering policy end n s = (a : Action) × Whole (job .layout .cells) a × Behind policy end n (enterStep job j policy end a s)
+  Entering policy end n s = (a : Action) × Whole (job .layout .cells) a × (isVoid a ≡ false) × Behind policy end n (enterStep job j policy end a s)
 
   -- by ONCE
-  by-once : (policy : Policy) (end : End) (n : ℕ) (s : State) → Behind policy end n (enterStep job j policy end Once s) → Entering policy end n s
-  by-once policy end n s behind = (Once, once-whole (job .layout .cells), behind)
+  by-once : (policy : Policy) (end : End) (n : ℕ) (s : State) → ((b : Bool) → Behind policy end n (enterAs policy end b Once s)) → Entering policy end n s
+  by-once policy end n s behind = (Once, once-whole (job .layout .cells), refl, rw (seen-through (job .layout) Once refl) (behind (betweenTest policy job j Once)))
 
-  -- by BOTTOM up to the last cell
-  by-bottom : (policy : Policy) (end : End) (n : ℕ) (s : State) → Behind policy end n (enterStep job j policy end (Bottom (job .layout .cells)) s) → Entering policy end n s
-  by-bottom policy end n s behind = (Bottom (job .layout .cells), bottom-whole (job .layout .cells) some, behind)
+  -- by what is seen as BOTTOM and passes all cells
+  by-bottom : (policy : Policy) (end : End) (n : ℕ) (s : State) → ((b : Bool) (i : ℕ) → Behind policy end n (enterAs policy end b (Bottom i) s)) → Entering policy end n s
+  by-bottom policy end n s behind = go (sideOf (job .layout))
+    where
+      go : (side : Side)
+          → (a : Action) × Whole (job .layout .cells) a × (isVoid a ≡ false)
+          × Behind policy end n (enterAs policy end (betweenTest policy job j a) (seenFrom side (job .layout .cells) a) s)
+      go FrontSide = (Bottom (job .layout .cells), bottom-whole (job .layout .cells) some, refl, behind (betweenTest policy job j (Bottom (job .layout .cells))) (job .layout .cells))
+      go BackSide = (Top 1, top-whole (job .layout .cells) some, refl, behind (betweenTest policy job j (Top 1)) (turnedHeight (job .layout .cells) 1))
 
   -- every aisle by BOTTOM, where no round is opened
   all-bottom : (policy : Policy) (end : End) (n : ℕ) {s : State} → ((b : Bool) → Round policy end (suc n) b → ⊥)
-      → ((r : State) → enterStep job j policy end (Bottom (job .layout .cells)) r ≡ lawfulStep (Bottom (job .layout .cells)) r)
+      → ((b : Bool) (i : ℕ) (r : State) → enterAs policy end b (Bottom i) r ≡ lawfulStep (Bottom i) r)
       → Ready policy end (suc n) s → Entering policy end n s
-  all-bottom policy end n never e (none-yet l) = by-bottom policy end n nothing (rw (e nothing) (as-before on-front))
-  all-bottom policy end n never e on-front = by-bottom policy end n atFront (rw (e atFront) (as-before on-front))
+  all-bottom policy end n never e (none-yet l) = by-bottom policy end n nothing (λ b i. rw (e b i nothing) (as-before on-front))
+  all-bottom policy end n never e on-front = by-bottom policy end n atFront (λ b i. rw (e b i atFront) (as-before on-front))
   all-bottom policy end n never e (on-both r) = absurd (never true r)
   all-bottom policy end n never e (none-open r) = absurd (never false r)
 
   -- where a round may be opened: by ONCE if it is to be open behind the aisle, otherwise by BOTTOM none is
   opening : (policy : Policy) (end : End) (n : ℕ) (s : State) (b : Bool) → Round policy end n b
-      → enterStep job j policy end Once s ≡ odd → enterStep job j policy end (Bottom (job .layout .cells)) s ≡ ending → Entering policy end n s
-  opening policy end n s true r once bottom = by-once policy end n s (rw once (as-before (on-both r)))
-  opening policy end n s false r once bottom = by-bottom policy end n s (rw bottom (as-before (none-open r)))
+      → ((c : Bool) → enterAs policy end c Once s ≡ odd) → ((c : Bool) (i : ℕ) → enterAs policy end c (Bottom i) s ≡ ending) → Entering policy end n s
+  opening policy end n s true r once bottom = by-once policy end n s (λ c. rw (once c) (as-before (on-both r)))
+  opening policy end n s false r once bottom = by-bottom policy end n s (λ c i. rw (bottom c i) (as-before (none-open r)))
 
   -- from each state in which the plan is ready
   enter : (policy : Policy) (end : End) (n : ℕ) {s : State} → Direct policy → Ready policy end (suc n) s → Entering policy end n s
-  enter Exact end n direct r = all-bottom Exact end n (λ b p. p) (λ s. refl) r
-  enter Return end n direct r = all-bottom Return end n (λ b p. p) (λ s. refl) r
-  enter Composite end n direct r = all-bottom Composite end n (λ b p. p) (λ s. refl) r
-  enter Traversal leftmost n direct (none-yet l) = opening Traversal leftmost n nothing (stillOpen n leftmost) refl refl refl
-  enter Traversal leftmost n direct on-front = opening Traversal leftmost n atFront (stillOpen n leftmost) refl refl refl
-  enter Traversal leftmost n direct (on-both r) = by-once Traversal leftmost n odd (as-before (none-open (not-true (stillOpen n leftmost) r)))
-  enter Traversal leftmost n direct (none-open r) = by-once Traversal leftmost n ending (as-before (on-both (not-false (stillOpen n leftmost) r)))
-  enter Traversal rightmost n direct (none-yet l) = opening Traversal rightmost n nothing (stillOpen n rightmost) refl refl refl
-  enter Traversal rightmost n direct on-front = opening Traversal rightmost n atFront (stillOpen n rightmost) refl refl refl
-  enter Traversal rightmost n direct (on-both r) = by-once Traversal rightmost n odd met-again
+  enter Exact end n direct r = all-bottom Exact end n (λ b p. p) (λ b i s. refl) r
+  enter Return end n direct r = all-bottom Return end n (λ b p. p) (λ b i s. refl) r
+  enter Composite end n direct r = all-bottom Composite end n (λ b p. p) (λ b i s. refl) r
+  enter Traversal leftmost n direct (none-yet l) = opening Traversal leftmost n nothing (stillOpen n leftmost) refl (λ c. refl) (λ c i. refl)
+  enter Traversal leftmost n direct on-front = opening Traversal leftmost n atFront (stillOpen n leftmost) refl (λ c. refl) (λ c i. refl)
+  enter Traversal leftmost n direct (on-both r) = by-once Traversal leftmost n odd (λ c. as-before (none-open (not-true (stillOpen n leftmost) r)))
+  enter Traversal leftmost n direct (none-open r) = by-once Traversal leftmost n ending (λ c. as-before (on-both (not-false (stillOpen n leftmost) r)))
+  enter Traversal rightmost n direct (none-yet l) = opening Traversal rightmost n nothing (stillOpen n rightmost) refl (λ c. refl) (λ c i. refl)
+  enter Traversal rightmost n direct on-front = opening Traversal rightmost n atFront (stillOpen n rightmost) refl (λ c. refl) (λ c i. refl)
+  enter Traversal rightmost n direct (on-both r) = by-once Traversal rightmost n odd (λ c. met-again)
   enter Traversal rightmost n direct (none-open r) = absurd (true-not-false r)
-  enter Midpoint end n direct (none-yet l) = opening Midpoint end n nothing (stillOpen n rightmost) refl refl refl
-  enter Midpoint end n direct on-front = opening Midpoint end n atFront (stillOpen n rightmost) refl refl refl
-  enter Midpoint end zero direct (on-both r) = by-once Midpoint end zero odd (as-before (none-open refl))
+  enter Midpoint end n direct (none-yet l) = opening Midpoint end n nothing (stillOpen n rightmost) refl (λ c. refl) (λ c i. refl)
+  enter Midpoint end n direct on-front = opening Midpoint end n atFront (stillOpen n rightmost) refl (λ c. refl) (λ c i. refl)
+  enter Midpoint end zero direct (on-both r) = by-once Midpoint end zero odd (λ c. as-before (none-open refl))
   enter Midpoint end (suc n) direct (on-both r) =
       let t = between (job .layout) some in
-      (t .0, t .1 .whole, rw (t .1 .named, or-true (isVoid (t .0)), t .1 .step) (as-before (on-both refl)))
+      (t .0, t .1 .whole, t .1 .is-entered, rw (t .1 .named, t .1 .step) (as-before (on-both refl)))
   enter Midpoint end n direct (none-open r) = absurd (true-not-false r)
   enter Largest end n direct r = absurd direct
 
 -- every policy names 00 and 02
-front-named : (policy : Policy) → (passageNamed policy P00 ≡ true) × (passageNamed policy P02 ≡ true)
+front-named : (policy : Policy) → (passageNamed FrontSide policy P00 ≡ true) × (passageNamed FrontSide policy P02 ≡ true)
 front-named Exact = (refl, refl)
 front-named Return = (refl, refl)
 front-named Traversal = (refl, refl)
@@ -221,7 +252,7 @@ front-named Composite = (refl, refl)
 front-named Largest = (refl, refl)
 
 -- where a round is open, 11 is named and an aisle is to be entered
-round-open : (policy : Policy) (end : End) (n : ℕ) → Round policy end n true → (passageNamed policy P11 ≡ true) × (1 ≤ n)
+round-open : (policy : Policy) (end : End) (n : ℕ) → Round policy end n true → (passageNamed FrontSide policy P11 ≡ true) × (1 ≤ n)
 round-open Exact end n r = absurd r
 round-open Return end n r = absurd r
 round-open Traversal end n r = (refl, one-closes n end r)
@@ -232,7 +263,7 @@ round-open Largest end n r = (refl, one-closes n rightmost r)
 module _ (policy : Policy) (end : End) (d j : ℕ) where
   -- the state behind a passage
   abbrev crossed : Passage → State → State
-  crossed p s = cond (passageNamed policy p) (crossStep d j p s) dead
+  crossed p s = cond (passageNamed FrontSide policy p) (crossStep d j p s) dead
 
   -- the plan goes on to the next aisle
   cross : (n : ℕ) {s : State} → Behind policy end n s → (p : Passage) × Ready policy end n (crossed p s)
@@ -287,7 +318,7 @@ module _ (job : Job) (direct : Direct (job .policy)) (within : LayoutWithin (job
   unfolding actionStep actionPossible
   done j js s r = go (holdsListed job j) refl r
     where
-      by-void : (policy : Policy) → cond (actionNamed policy Void && true) (policyStep policy (walkBackEnd (job .layout)) (betweenTest policy job j) Void s) dead ≡ s
+      by-void : (policy : Policy) → cond (actionNamed FrontSide policy Void && true) (policyStep policy (walkBackEnd (job .layout)) (betweenTest policy job j) Void s) dead ≡ s
       by-void Exact = refl
       by-void Return = refl
       by-void Traversal = refl
@@ -298,9 +329,10 @@ module _ (job : Job) (direct : Direct (job .policy)) (within : LayoutWithin (job
       go : (b : Bool) → holdsListed job j ≡ b → ReadyFor job (cond b (j ∷ js) js) s → Done j js s
       go true e r =
           let t = enter job (within .cells .0) j (job .policy) (walkBackEnd (job .layout)) (length js) direct r in
-          record { action = t .0; fits = t .1 .fits; passes = λ h. t .1; behind = rw (holding-open job j e, e) (t .2) }
+          record { action = t .0; fits = t .1 .fits; passes = λ h. t .1; behind = rw (holding-open job j e, e, t .2) (t .3) }
       go false e r =
-          record { action = Void; fits = tt; passes = λ h. absurd (true-not-false (sym h ∙ e)); behind = rw (by-void (job .policy)) (as-before r) }
+          let v = seen-void (sideOf (job .layout)) (job .layout .cells) in
+          record { action = Void; fits = tt; passes = λ h. absurd (true-not-false (sym h ∙ e)); behind = rw (v, by-void (job .policy)) (as-before r) }
 
   -- one more action that fits
   fits-first : (a : Action) (actions : List Action) → Fits (job .layout .cells) a → ((k : ℕ) → Fits (job .layout .cells) (nth actions k Void))
@@ -332,15 +364,16 @@ module _ (job : Job) (direct : Direct (job .policy)) (within : LayoutWithin (job
         gaps = refl;
         fits = fits-first (t .action) [] (t .fits) void-fits;
         passes = passes-first j (t .action) [] (t .passes) (λ k i p l h. absurd (omega arith));
-        closes = close (job .policy) (walkBackEnd (job .layout)) (job .layout .depot) j (omega arith) (t .behind);
+        closes = rw (seen-00 (sideOf (job .layout))) (close (job .policy) (walkBackEnd (job .layout)) (job .layout .depot) j (omega arith) (t .behind));
       }
   rest (suc n) j s e r =
       let t = done j (toEnter job (suc j) (suc n)) s r in
       let c = cross (job .policy) (walkBackEnd (job .layout)) (job .layout .depot) j (length (toEnter job (suc j) (suc n))) (t .behind) in
-      let u = rest n (suc j) (passageStep job j (c .0) (actionStep job j (t .action) s)) (omega arith) (c .1) in
+      let p = seenPassage (job .layout) (c .0) in
+      let u = rest n (suc j) (passageStep job j p (actionStep job j (t .action) s)) (omega arith) (rw (seen-passage-twice (sideOf (job .layout)) (c .0)) (c .1)) in
       record {
         actions = t .action ∷ u .actions;
-        passages = c .0 ∷ u .passages;
+        passages = p ∷ u .passages;
         aisles = ap suc (u .aisles);
         gaps = ap suc (u .gaps);
         fits = fits-first (t .action) (u .actions) (t .fits) (u .fits);

@@ -12,7 +12,7 @@ use Rattle.rules.specs.declared.Action.{Action}
 use Rattle.rules.specs.declared.Action.the-variants.{Void, Bottom, Top, Gap, Once, Twice}
 use Rattle.rules.specs.declared.Passage.{Passage}
 use Rattle.rules.specs.declared.Passage.the-variants.{P00, P02, P11, P20, P22}
-use Rattle.rules.specs.Store.{Point, Edge, along, front, back, startOf, backHeight, depotPoint, InStore}
+use Rattle.rules.specs.Store.{Point, Edge, along, front, back, startOf, backHeight, InStore}
 use Rattle.rules.specs.Plans.{Plan, WellFormed, actionAt, passageAt, aisleTreads, backTreads, frontTreads, multiplicity}
 use Rattle.rules.specs.Lawful.{Trodden, Touched, Linked, here}
 use Rattle.rules.specs.Machine.{State, nothing, closed, atFront, atBack, odd, joined, split, ending, dead, row, lawfulStep, crossStep}
@@ -381,8 +381,8 @@ module _ {z : Layout} {plan : Plan} (wf : WellFormed z plan) (depot-low : 1 ≤ 
     accepted-together x y t u = linked-trans (linked-sym (touched-linked y u)) (touched-linked x t)
 
     -- an accepted plan touches the depot's crossing
-    pub accepted-depot : Touched z (multiplicity plan) (depotPoint z)
-    unfolding Touched depotPoint
+    pub accepted-depot : Touched z (multiplicity plan) (frontOf (z .depot))
+    unfolding Touched
     accepted-depot =
         let e = final .some in
         touched-end (e .0, e .1, inl refl) (start-linked (e .0) (e .1))

@@ -5,10 +5,11 @@ use native.Mathlib.Omega.{arith}
 use mathlib.Core.Path.{_≡_, refl, sym, _∙_, ap, subst}
 use mathlib.Core.Logic.{_⊎_, inl, inr}
 use mathlib.Core.List.{List, [], _∷_, tail, List·Memᴰ, List·Memᴰ·head, List·Memᴰ·tail}
-use mathlib.Core.Bool.{Bool, true, false, cond, _&&_, and-eq-true-iff}
+use mathlib.Core.Bool.{Bool, true, false, cond, _&&_, _||_, and-eq-true-iff}
 use borrow.Author.Tests.{eqb-true, eq-eqb}
 use lib.Dec.{eqb}
 use lib.ListN.{length}
+use Rattle.rules.specs.declared.Side.the-variants.{FrontSide}
 use Rattle.rules.specs.declared.Policy.the-variants.{Midpoint, Largest}
 use Rattle.rules.specs.declared.Action.{Action}
 use Rattle.rules.specs.declared.Action.the-variants.{Void, Bottom, Top, Gap, Once, Twice}
@@ -16,23 +17,26 @@ use Rattle.rules.specs.declared.Passage.{Passage}
 use Rattle.rules.specs.declared.Passage.the-variants.{P00}
 use Rattle.rules.specs.declared.StockRecord.{StockRecord}
 use Rattle.rules.specs.declared.OrderLine.{OrderLine}
-use Rattle.rules.specs.Store.{LayoutWithin}
+use Rattle.rules.specs.Store.{sideOf, LayoutWithin}
 use Rattle.rules.specs.Lists.{nth, headOr, sumOf}
 use Rattle.rules.specs.Hours.{isOpen}
 use Rattle.rules.specs.Jobs.{Job, jobUnder, openStock, listed, holdsListed, cellHoldsListed}
 use Rattle.rules.specs.Plans.{Plan, WellFormed, Fits, actionAt, passesCell, planPasses, planLength}
-use Rattle.rules.specs.Policies.{halved, through}
+use Rattle.rules.specs.Policies.{actionNamed, halved, through}
+use Rattle.rules.specs.Turned.{seen}
 use Rattle.rules.specs.Lengths.{actionLength}
 use Rattle.rules.specs.Serving.{supply, Serves, PlanServes}
 use Rattle.rules.specs.Refusals.{Admitted}
 use Rattle.rules.specs.Machine.{State, nothing, closed, atFront, atBack, odd, joined, split, ending, dead}
-use Rattle.rules.specs.Machine.{row, midpointBy, keepsLargestGap, enterable, actionPossible, actionStep, passageStep, runFrom, isClosed, closesOff}
+use Rattle.rules.specs.Machine.{isVoid, row, midpointBy, keepsLargestGap, enterable, actionPossible, actionStep, passageStep, runFrom, isClosed, closesOff}
 use Rattle.rules.proofs.Lists.{any-true}
 use Rattle.rules.proofs.Lengths.{plan-length, well-formed-fits}
 use Rattle.rules.proofs.Admission.{layout-within, stock-within, open-in-stock}
 use Rattle.rules.proofs.Jobs.{holding-open}
+use Rattle.rules.proofs.EmptyPlan.{seen-void}
 use Rattle.tours.proofs.Basics.{true-not-false}
 use Rattle.tours.proofs.Parity.{Live}
+use Rattle.tours.proofs.Sides.{seen-through, seen-named, seen-asked}
 use Rattle.tours.proofs.Runs.{is-closed, live-test, live-action, live-passage, run-live}
 use Rattle.tours.proofs.Rules.{largest-laws}
 use Rattle.tours.proofs.OneAisle.{move-gap}
@@ -98,13 +102,22 @@ module _ (job : Job) where
   in-place {j} (next s rest) zero i e = let p : i ≡ j = omega arith in rw p s
   in-place (next s rest) (suc k) i e = in-place rest k i (omega arith)
 
+  -- the action as it is seen from the depot's side
+  abbrev facing : Action → Action
+  facing a = seen (job .layout) a
+
   -- an action that keeps the largest gap keeps the state `odd` in an aisle that holds a listed article
-  keeps-odd : (j : ℕ) (b : Action) → holdsListed job j ≡ true → keepsLargestGap underLargest j b ≡ true → actionStep underLargest j b odd ≡ odd
+  turn-keeps : (j : ℕ) (b : Action) → through b ≡ false → isVoid b ≡ false
+      → holdsListed job j ≡ true → keepsLargestGap underLargest j b ≡ true → actionStep underLargest j b odd ≡ odd
   unfolding actionStep actionPossible holdsListed listed
-  keeps-odd j Void h k = refl
-  keeps-odd j (Bottom i) h k = rw (holding-open job j h, h, k) refl
-  keeps-odd j (Top i) h k = rw (holding-open job j h, h, k) refl
-  keeps-odd j (Gap g i) h k = rw (holding-open job j h, h, k) refl
+  turn-keeps j b t v h k = rw (holding-open job j h, h, k, v, seen-named (job .layout) b t, seen-asked (job .layout) b t v true) refl
+
+  keeps-odd : (j : ℕ) (b : Action) → holdsListed job j ≡ true → keepsLargestGap underLargest j b ≡ true → actionStep underLargest j b odd ≡ odd
+  unfolding actionStep actionPossible
+  keeps-odd j Void h k = rw (seen-void (sideOf (job .layout)) (job .layout .cells)) refl
+  keeps-odd j (Bottom i) h k = turn-keeps j (Bottom i) refl refl h k
+  keeps-odd j (Top i) h k = turn-keeps j (Top i) refl refl h k
+  keeps-odd j (Gap g i) h k = turn-keeps j (Gap g i) refl refl h k
   keeps-odd j Once h k = absurd (true-not-false (sym k ∙ largest-laws underLargest .once j))
   keeps-odd j Twice h k = absurd (true-not-false (sym k ∙ largest-laws underLargest .twice j))
 
@@ -113,12 +126,19 @@ module _ (job : Job) where
   unfolding holdsListed listed
   enterable-holds j e = and-eq-true-iff (isOpen (job .hours) j) (holdsListed job j) .0 e .1
 
+  -- an aisle in which MIDPOINT has an action other than VOID holds one
+  possible-holds : (j : ℕ) (a : Action) → isVoid a ≡ false → actionPossible underMidpoint j a ≡ true → holdsListed job j ≡ true
+  unfolding actionPossible
+  possible-holds j a v p =
+      let e = and-eq-true-iff (actionNamed FrontSide Midpoint (facing a)) (isVoid a || enterable underMidpoint j) .0 p .1 in
+      enterable-holds j (rw v at e)
+
   -- an action instead of a, after which LARGEST's state is MIDPOINT's after a
   abbrev Step : ℕ → State → Action → Type 0
   Step j s a = (b : Action) × Instead j a b × (actionStep underLargest j b s ≡ actionStep underMidpoint j a s)
 
   -- where the test is not asked, the action stays
-  unasked-step : (j : ℕ) (s : State) (a : Action) → Fits (job .layout .cells) a → ((x y : Bool) → midpointBy x a s ≡ midpointBy y a s) → Step j s a
+  unasked-step : (j : ℕ) (s : State) (a : Action) → Fits (job .layout .cells) a → ((x y : Bool) → midpointBy x (facing a) s ≡ midpointBy y (facing a) s) → Step j s a
   unfolding actionStep actionPossible holdsListed listed
   unasked-step j s a f same = (
     a,
@@ -128,31 +148,34 @@ module _ (job : Job) where
 
   module _ (within : LayoutWithin (job .layout)) where
     -- where it is asked, the action is moved
-    asked-step : (j : ℕ) (a : Action) → Fits (job .layout .cells) a → through a ≡ false → ((x : Bool) → midpointBy x a odd ≡ cond x odd dead)
-        → (actionPossible underMidpoint j a ≡ true → holdsListed job j ≡ true) → Live (actionStep underMidpoint j a odd) → Step j odd a
+    asked-step : (j : ℕ) (a : Action) → Fits (job .layout .cells) a → through a ≡ false → isVoid a ≡ false → Live (actionStep underMidpoint j a odd) → Step j odd a
     unfolding actionStep cellHoldsListed listed
-    asked-step j a f t asks enters live =
+    asked-step j a f t v live =
+        let asks = seen-asked (job .layout) a t v in
         let (possible, l) = live-action underMidpoint j a odd live in
         let h = live-test (halved (job .layout) a) odd (subst Live (asks (halved (job .layout) a)) l) .0 in
         let (b, m) = move-gap underLargest within j a f t in
         let stay : actionStep underMidpoint j a odd ≡ odd = rw (possible, asks (halved (job .layout) a), h) refl in
-        (b, record { fits = m .fits; passes = m .passes; shorter = m .shorter }, keeps-odd j b (enters possible) (m .keeps) ∙ sym stay)
+        (b, record { fits = m .fits; passes = m .passes; shorter = m .shorter }, keeps-odd j b (possible-holds j a v possible) (m .keeps) ∙ sym stay)
+
+    -- what goes through its aisle stays
+    through-step : (j : ℕ) (a : Action) → Fits (job .layout .cells) a → through a ≡ true → ((x y : Bool) → midpointBy x a odd ≡ midpointBy y a odd) → Step j odd a
+    through-step j a f t same = unasked-step j odd a f (λ x y. rw (seen-through (job .layout) a t) (same x y))
 
     -- in the state `odd` BOTTOM, TOP and GAP are moved, the others stay
     odd-step : (j : ℕ) (a : Action) → Fits (job .layout .cells) a → Live (actionStep underMidpoint j a odd) → Step j odd a
-    unfolding actionPossible holdsListed listed
-    odd-step j Void f live = unasked-step j odd Void f (λ x y. refl)
-    odd-step j (Bottom i) f live = asked-step j (Bottom i) f refl (λ x. refl) (enterable-holds j) live
-    odd-step j (Top i) f live = asked-step j (Top i) f refl (λ x. refl) (enterable-holds j) live
-    odd-step j (Gap h i) f live = asked-step j (Gap h i) f refl (λ x. refl) (enterable-holds j) live
-    odd-step j Once f live = unasked-step j odd Once f (λ x y. refl)
-    odd-step j Twice f live = unasked-step j odd Twice f (λ x y. refl)
+    odd-step j Void f live = unasked-step j odd Void f (λ x y. rw (seen-void (sideOf (job .layout)) (job .layout .cells)) refl)
+    odd-step j (Bottom i) f live = asked-step j (Bottom i) f refl refl live
+    odd-step j (Top i) f live = asked-step j (Top i) f refl refl live
+    odd-step j (Gap h i) f live = asked-step j (Gap h i) f refl refl live
+    odd-step j Once f live = through-step j Once f refl (λ x y. refl)
+    odd-step j Twice f live = through-step j Twice f refl (λ x y. refl)
 
     -- a step of MIDPOINT's machine that does not lead to `dead` is one of LARGEST's
     step : (j : ℕ) (s : State) (a : Action) → Fits (job .layout .cells) a → Live (actionStep underMidpoint j a s) → Step j s a
     step j s a f live = elim (asked? s) [
       | inl e ↦ subst (λ (o : State). Step j o a) (sym e) (odd-step j a f (subst (λ (o : State). Live (actionStep underMidpoint j a o)) e live))
-      | inr same ↦ unasked-step j s a f (λ x y. unasked x y a s same)
+      | inr same ↦ unasked-step j s a f (λ x y. unasked x y (facing a) s same)
     ]
 
     -- a run of MIDPOINT's machine to `closed` is one of LARGEST's

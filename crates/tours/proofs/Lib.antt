@@ -5,6 +5,7 @@ pub mod Forward
 pub mod Parity
 pub mod Backward
 pub mod Exact
+pub mod Sides
 pub mod Runs
 pub mod Counting
 pub mod Simulation

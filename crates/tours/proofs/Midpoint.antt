@@ -9,6 +9,8 @@ use Rattle.rules.specs.declared.Policy.the-variants.{Midpoint, Largest}
 use Rattle.rules.specs.declared.Action.{Action}
 use Rattle.rules.specs.declared.Action.the-variants.{Void, Bottom, Top, Gap, Once, Twice}
 use Rattle.rules.specs.declared.Passage.{Passage}
+use Rattle.rules.specs.declared.Side.{Side}
+use Rattle.rules.specs.declared.Side.the-variants.{FrontSide}
 use Rattle.rules.specs.Plans.{Plan, WellFormed, actionAt, passageAt}
 use Rattle.rules.specs.Policies.{Entered, First, Last, IsBottom, walkBackEnd, MidpointRule, enteredAisles}
 use Rattle.rules.specs.Machine.{State, nothing, closed, atFront, atBack, odd, joined, split, ending, dead, lawfulStep, midpointStep, crossStep}
@@ -27,7 +29,7 @@ pub record BetweenLaws (between : ℕ → Action → Bool) : Type 0 where
 
 -- the rule of MIDPOINT and LARGEST, with a test for aisles between
 abbrev pub TestRule : (ℕ → Action → Bool) → Plan → Type 0
-TestRule between plan = MidpointRule (λ j a. between j a ≡ true) plan
+TestRule between plan = MidpointRule FrontSide (λ j a. between j a ≡ true) plan
 
 -- the first entered of the first n aisles is ONCE, those behind it pass the test
 record Opened (between : ℕ → Action → Bool) (plan : Plan) (n : ℕ) : Type 0 where
@@ -452,8 +454,8 @@ largest-run between z plan zero = refl
 largest-run between z plan (suc i) = rw (largest-run between z plan i)
 
 -- what keeps the rule keeps it with every weaker demand on the aisles between
-pub weaker-rule : {Between Weaker : ℕ → Action → Type 0} {plan : Plan} → ((j : ℕ) (a : Action) → Between j a → Weaker j a)
-    → MidpointRule Between plan → MidpointRule Weaker plan
+pub weaker-rule : {side : Side} {Between Weaker : ℕ → Action → Type 0} {plan : Plan} → ((j : ℕ) (a : Action) → Between j a → Weaker j a)
+    → MidpointRule side Between plan → MidpointRule side Weaker plan
 weaker-rule {plan = plan} weaker rule =
     record {
       single = rule .single;

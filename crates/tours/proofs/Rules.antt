@@ -1,8 +1,10 @@
 -- The rules of a policy: its table closes off the plans that keep its own rule, and the machine's tests ask the rest.
 use Prim.Native.Nat.{ℕ, zero, suc, _≤_}
-use mathlib.Core.Path.{_≡_, refl, sym, _∙_}
+use mathlib.Core.Path.{_≡_, refl, sym, _∙_, ap}
 use mathlib.Core.Logic.{_↔_}
 use mathlib.Core.Bool.{Bool, true, false, _&&_, _||_, and-false, or-false}
+use Rattle.rules.specs.declared.Side.{Side}
+use Rattle.rules.specs.declared.Side.the-variants.{FrontSide, BackSide}
 use Rattle.rules.specs.declared.Layout.{Layout}
 use Rattle.rules.specs.declared.Policy.{Policy}
 use Rattle.rules.specs.declared.Policy.the-variants.{Exact, Return, Traversal, Midpoint, Composite, Largest}
@@ -10,18 +12,23 @@ use Rattle.rules.specs.declared.Action.{Action}
 use Rattle.rules.specs.declared.Action.the-variants.{Void, Bottom, Top, Gap, Once, Twice}
 use Rattle.rules.specs.declared.Passage.{Passage}
 use Rattle.rules.specs.declared.Passage.the-variants.{P00, P02, P11, P20, P22}
+use Rattle.rules.specs.Store.{sideOf}
 use Rattle.rules.specs.Hours.{isOpen}
 use Rattle.rules.specs.Jobs.{Job, holdsListed}
 use Rattle.rules.specs.Plans.{Plan, WellFormed, actionAt, passageAt}
 use Rattle.rules.specs.Lawful.{Lawful}
-use Rattle.rules.specs.Policies.{actionNamed, passageNamed, End, walkBackEnd, halved, OwnRule, PolicyRules, Follows, ShutVoid}
-use Rattle.rules.specs.Machine.{State, closed, lawfulStep, policyStep, keepsLargestGap, betweenTest, isVoid, mayEnter, enterable, actionPossible}
+use Rattle.rules.specs.Turned.{seenFrom, seen, seenPassage, seenPlan}
+use Rattle.rules.specs.Policies.{actionNamed, passageNamed, End, walkBackEnd, halved, TraversalRule, OwnRule, PolicyRules, Follows, ShutVoid}
+use Rattle.rules.specs.Machine.{State, closed, lawfulStep, policyStep, keepsLargestGap, isVoid, mayEnter, enterable, actionPossible}
 use Rattle.rules.proofs.EmptyPlan.{void-told}
 use Rattle.rules.proofs.Stops.{largest-gap}
+use Rattle.mirror.proofs.Lawful.{lawful-seen}
+use Rattle.rules.proofs.Named.{action-named, passage-named}
+use Rattle.mirror.proofs.Rules.{seen-formed, seen-passage-at, traversal-seen, midpoint-seen}
 use Rattle.tours.specs.Prefixes.{lawfulState, policyState}
 use Rattle.tours.proofs.Basics.{or-true, true-not-false, false-not-true}
 use Rattle.tours.proofs.Exact.{closed-iff-lawful}
-use Rattle.tours.proofs.Runs.{Possible}
+use Rattle.tours.proofs.Runs.{Possible, seenTest}
 use Rattle.tours.proofs.Traversal.{traversal-table}
 use Rattle.tours.proofs.Midpoint.{BetweenLaws, TestRule, midpoint-table, largest-run, weaker-rule}
 
@@ -42,48 +49,79 @@ pub largest-laws : (job : Job) → BetweenLaws (keepsLargestGap job)
 unfolding keepsLargestGap
 largest-laws job = record { void = λ j. refl; once = λ j. refl; twice = λ j. refl }
 
--- LARGEST's rule is the rule with its test
-largest-rule : (job : Job) (plan : Plan) → TestRule (keepsLargestGap job) plan ↔ OwnRule Largest job plan
-largest-rule job plan = (weaker-rule (λ j a. largest-gap job j a .0), weaker-rule (λ j a. largest-gap job j a .1))
+-- a test keeps its laws when it is asked of the action as it is seen
+seen-laws : (side : Side) (cells : ℕ) (test : ℕ → Action → Bool) → BetweenLaws test → BetweenLaws (λ j a. test j (seenFrom side cells a))
+seen-laws FrontSide cells test laws = laws
+seen-laws BackSide cells test laws = record { void = laws .void; once = laws .once; twice = laws .twice }
 
 module _ (job : Job) {plan : Plan} (wf : WellFormed (job .layout) plan) (depot-low : 1 ≤ job .layout .depot) where
-  -- the policy's table, with its test for aisles between, closes off the plan
+  -- the depot's side
+  abbrev side : Side
+  side = sideOf (job .layout)
+
+  -- the plan as it is seen from there
+  abbrev facing : Plan
+  facing = seenPlan (job .layout) plan
+
+  facing-formed : WellFormed (job .layout) facing
+  facing-formed = seen-formed side (job .layout) plan wf
+
+  -- the policy's table, with its test for aisles between, closes off the plan as it is seen from the depot's side
   abbrev Closed : Policy → Type 0
-  Closed policy = policyState policy (betweenTest policy job) (job .layout) plan (job .layout .aisles) ≡ closed
+  Closed policy = policyState policy (seenTest policy job) (job .layout) facing (job .layout .aisles) ≡ closed
+
+  -- EXACT's table closes off, as they are seen, just the lawful plans
+  exact-table : (lawfulState (job .layout .depot) facing (job .layout .aisles) ≡ closed) ↔ Lawful (job .layout) plan
+  exact-table =
+      let e = closed-iff-lawful facing-formed depot-low in
+      let l = lawful-seen (job .layout) plan wf in
+      ((λ c. l .0 (e .0 c)), (λ h. e .1 (l .1 h)))
 
   -- a policy with EXACT's table has no rule of its own
   shared-table : (policy : Policy) → ((end : End) (test : Action → Bool) (a : Action) (s : State) → policyStep policy end test a s ≡ lawfulStep a s)
       → Closed policy ↔ (Lawful (job .layout) plan × Unit {0})
   shared-table policy same =
-      let r = same-run policy (betweenTest policy job) (job .layout) plan same (job .layout .aisles) in
-      let e = closed-iff-lawful wf depot-low in
-      ((λ c. (e .0 (sym r ∙ c), tt)), (λ h. r ∙ e .1 (h .0)))
+      let r = same-run policy (seenTest policy job) (job .layout) facing same (job .layout .aisles) in
+      ((λ c. (exact-table .0 (sym r ∙ c), tt)), (λ h. r ∙ exact-table .1 (h .0)))
 
-  -- a rule beside EXACT's table is a rule beside the lawful plans
-  own-table : (policy : Policy) (Rule : Type 0)
-      → Closed policy ↔ ((lawfulState (job .layout .depot) plan (job .layout .aisles) ≡ closed) × Rule)
-      → Closed policy ↔ (Lawful (job .layout) plan × Rule)
-  own-table policy Rule t =
-      let e = closed-iff-lawful wf depot-low in
-      ((λ c. let h = t .0 c in (e .0 (h .0), h .1)), (λ h. t .1 (e .1 (h .0), h .1)))
+  -- a rule of the plan as it is seen, beside EXACT's table, is a rule of the plan beside the lawful plans
+  own-table : (policy : Policy) (Seen Rule : Type 0)
+      → Closed policy ↔ ((lawfulState (job .layout .depot) facing (job .layout .aisles) ≡ closed) × Seen)
+      → Seen ↔ Rule → Closed policy ↔ (Lawful (job .layout) plan × Rule)
+  own-table policy Seen Rule t s =
+      ((λ c. let h = t .0 c in (exact-table .0 (h .0), s .0 (h .1))), (λ h. t .1 (exact-table .1 (h .0), s .1 (h .1))))
+
+  -- LARGEST's rule is the rule with its test
+  largest-rule : TestRule (seenTest Largest job) facing ↔ OwnRule Largest job plan
+  largest-rule =
+      let m = midpoint-seen side (job .layout) plan wf (λ j a. keepsLargestGap job j a ≡ true) in
+      ((λ r. weaker-rule (λ j a. largest-gap job j a .0) (m .0 r)), (λ r. m .1 (weaker-rule (λ j a. largest-gap job j a .1) r)))
 
   -- LARGEST's table is MIDPOINT's with the largest gap as the test
-  largest-table : ((j : ℕ) → passageNamed Largest (passageAt plan j) ≡ true) → Closed Largest ↔ (Lawful (job .layout) plan × OwnRule Largest job plan)
+  largest-table : ((j : ℕ) → passageNamed FrontSide Largest (passageAt facing j) ≡ true) → Closed Largest ↔ (Lawful (job .layout) plan × OwnRule Largest job plan)
   largest-table named =
-      let r = largest-run (keepsLargestGap job) (job .layout) plan (job .layout .aisles) in
-      let t = midpoint-table wf (largest-laws job) named in
-      let rule = largest-rule job plan in
-      own-table Largest (OwnRule Largest job plan) ((λ c. let h = t .0 (sym r ∙ c) in (h .0, rule .0 (h .1))), (λ h. r ∙ t .1 (h .0, rule .1 (h .1))))
+      let r = largest-run (seenTest Largest job) (job .layout) facing (job .layout .aisles) in
+      let t = midpoint-table facing-formed (seen-laws side (job .layout .cells) (keepsLargestGap job) (largest-laws job)) named in
+      own-table Largest (TestRule (seenTest Largest job) facing) (OwnRule Largest job plan) ((λ c. t .0 (sym r ∙ c)), (λ h. r ∙ t .1 h)) largest-rule
 
   -- a policy's table closes off just the lawful plans that keep the policy's own rule
-  pub policy-table : (policy : Policy) → ((j : ℕ) → passageNamed policy (passageAt plan j) ≡ true)
+  pub policy-table : (policy : Policy) → ((j : ℕ) → passageNamed FrontSide policy (seenPassage (job .layout) (passageAt plan j)) ≡ true)
       → Closed policy ↔ (Lawful (job .layout) plan × OwnRule policy job plan)
-  policy-table Exact named = shared-table Exact (λ end test a s. refl)
-  policy-table Return named = shared-table Return (λ end test a s. refl)
-  policy-table Traversal named = own-table Traversal (OwnRule Traversal job plan) (traversal-table wf (betweenTest Traversal job) named)
-  policy-table Midpoint named = own-table Midpoint (OwnRule Midpoint job plan) (midpoint-table wf (halves-laws (job .layout)) named)
-  policy-table Composite named = shared-table Composite (λ end test a s. refl)
-  policy-table Largest named = largest-table named
+  policy-table policy each = go policy (λ j. ap (passageNamed FrontSide policy) (seen-passage-at side (job .layout .cells) plan j) ∙ each j)
+    where
+      go : (policy : Policy) → ((j : ℕ) → passageNamed FrontSide policy (passageAt facing j) ≡ true)
+          → Closed policy ↔ (Lawful (job .layout) plan × OwnRule policy job plan)
+      go Exact named = shared-table Exact (λ end test a s. refl)
+      go Return named = shared-table Return (λ end test a s. refl)
+      go Traversal named =
+          own-table Traversal (TraversalRule FrontSide (job .layout) facing) (OwnRule Traversal job plan)
+          (traversal-table facing-formed (seenTest Traversal job) named) (traversal-seen side (job .layout) plan wf)
+      go Midpoint named =
+          own-table Midpoint (TestRule (seenTest Midpoint job) facing) (OwnRule Midpoint job plan)
+          (midpoint-table facing-formed (seen-laws side (job .layout .cells) (λ j a. halved (job .layout) a) (halves-laws (job .layout))) named)
+          (midpoint-seen side (job .layout) plan wf (λ j a. halved (job .layout) a ≡ true))
+      go Composite named = shared-table Composite (λ end test a s. refl)
+      go Largest named = largest-table named
 
 -- both parts of a true conjunction
 both-true : (a b : Bool) → a && b ≡ true → (a ≡ true) × (b ≡ true)
@@ -96,7 +134,7 @@ void-if a true f e = absurd (true-not-false f)
 void-if a false f e = void-told a (sym (or-false (isVoid a)) ∙ e)
 
 -- EXACT names every action
-all-actions : (a : Action) → actionNamed Exact a ≡ true
+all-actions : (a : Action) → actionNamed FrontSide Exact a ≡ true
 all-actions Void = refl
 all-actions (Bottom i) = refl
 all-actions (Top i) = refl
@@ -105,7 +143,7 @@ all-actions Once = refl
 all-actions Twice = refl
 
 -- EXACT names every passage
-all-passages : (p : Passage) → passageNamed Exact p ≡ true
+all-passages : (p : Passage) → passageNamed FrontSide Exact p ≡ true
 all-passages P00 = refl
 all-passages P02 = refl
 all-passages P11 = refl
@@ -113,10 +151,24 @@ all-passages P20 = refl
 all-passages P22 = refl
 
 module _ (job : Job) (plan : Plan) where
-  -- what an action that is possible says: the policy names it, and it is VOID or the aisle may be entered
-  parts : (j : ℕ) → Possible job plan j → (actionNamed (job .policy) (actionAt plan j) ≡ true) × (isVoid (actionAt plan j) || enterable job j ≡ true)
+  -- the action and the passage of aisle j as they are seen from the depot's side
+  abbrev faced : ℕ → Action
+  faced j = seen (job .layout) (actionAt plan j)
+
+  abbrev facedPassage : ℕ → Passage
+  facedPassage j = seenPassage (job .layout) (passageAt plan j)
+
+  -- what an action that is possible says: the policy names it as it is seen, and it is VOID or the aisle may be entered
+  parts : (j : ℕ) → Possible job plan j → (actionNamed FrontSide (job .policy) (faced j) ≡ true) × (isVoid (actionAt plan j) || enterable job j ≡ true)
   unfolding actionPossible
-  parts j possible = both-true (actionNamed (job .policy) (actionAt plan j)) (isVoid (actionAt plan j) || enterable job j) (possible .action)
+  parts j possible = both-true (actionNamed FrontSide (job .policy) (faced j)) (isVoid (actionAt plan j) || enterable job j) (possible .action)
+
+  -- with the depot at its side the policy names what it names at the front as it is seen
+  named-action : (j : ℕ) → actionNamed FrontSide (job .policy) (faced j) ≡ actionNamed (sideOf (job .layout)) (job .policy) (actionAt plan j)
+  named-action j = action-named (sideOf (job .layout)) (job .policy) (job .layout .cells) (actionAt plan j)
+
+  named-passage : (j : ℕ) → passageNamed FrontSide (job .policy) (facedPassage j) ≡ passageNamed (sideOf (job .layout)) (job .policy) (passageAt plan j)
+  named-passage j = passage-named (sideOf (job .layout)) (job .policy) (passageAt plan j)
 
   -- where the tests are passed, shut aisles are VOID
   possible-shut : ((j : ℕ) → Possible job plan j) → ShutVoid (job .hours) plan
@@ -138,8 +190,8 @@ module _ (job : Job) (plan : Plan) where
     listed-rules : ((j : ℕ) → Possible job plan j) × OwnRule (job .policy) job plan → PolicyRules (OwnRule (job .policy) job plan) job plan
     listed-rules (possible, own) =
         record {
-          actions = λ j. parts j (possible j) .0;
-          passages = λ j. possible j .passage;
+          actions = λ j. sym (named-action j) ∙ parts j (possible j) .0;
+          passages = λ j. sym (named-passage j) ∙ possible j .passage;
           void = λ j e. void-if (actionAt plan j) (enterable job j) (rw (listed-only (holdsListed job j), e) (and-false (isOpen (job .hours) j))) (parts j (possible j) .1);
           own = own;
         }
@@ -149,8 +201,8 @@ module _ (job : Job) (plan : Plan) where
     unfolding actionPossible
     rules-listed rules shut = (
       (λ j. record {
-        action = rw (rules .actions j) (enters shut j (rw (listed-only (holdsListed job j)) (enter j (holdsListed job j) refl)));
-        passage = rules .passages j;
+        action = rw (named-action j, rules .actions j) (enters shut j (rw (listed-only (holdsListed job j)) (enter j (holdsListed job j) refl)));
+        passage = named-passage j ∙ rules .passages j;
       }),
       rules .own,
     )
@@ -171,8 +223,8 @@ module _ (job : Job) (plan : Plan) where
     (λ h. (tt, possible-shut (h .0))),
     (λ h. (
       (λ j. record {
-        action = rw (e, all-actions (actionAt plan j)) (rw e at (enters (h .1) j (rw e (or-true (isVoid (actionAt plan j))))));
-        passage = rw e (all-passages (passageAt plan j));
+        action = rw (e, all-actions (faced j)) (rw e at (enters (h .1) j (rw e (or-true (isVoid (actionAt plan j))))));
+        passage = rw e (all-passages (facedPassage j));
       }),
       rw e tt,
     )),

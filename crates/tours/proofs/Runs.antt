@@ -7,6 +7,7 @@ use mathlib.Core.Logic.{inl, inr, _↔_}
 use mathlib.Core.List.{List, [], _∷_, tail}
 use mathlib.Core.Bool.{Bool, true, false, cond}
 use lib.ListN.{length}
+use Rattle.rules.specs.declared.Side.the-variants.{FrontSide}
 use Rattle.rules.specs.declared.Policy.{Policy}
 use Rattle.rules.specs.declared.Policy.the-variants.{Exact, Return, Traversal, Midpoint, Composite, Largest}
 use Rattle.rules.specs.declared.Action.{Action}
@@ -15,11 +16,14 @@ use Rattle.rules.specs.declared.Passage.{Passage}
 use Rattle.rules.specs.declared.Passage.the-variants.{P00}
 use Rattle.rules.specs.Lists.{nth, headOr}
 use Rattle.rules.specs.Jobs.{Job}
+use Rattle.rules.specs.Store.{sideOf}
 use Rattle.rules.specs.Plans.{Plan, WellFormed, actionAt, passageAt}
 use Rattle.rules.specs.Policies.{passageNamed, End, leftmost, rightmost, walkBackEnd}
+use Rattle.rules.specs.Turned.{seen, seenPassage, seenPlan}
 use Rattle.rules.specs.Machine.{State, nothing, closed, atFront, atBack, odd, joined, split, ending, dead}
 use Rattle.rules.specs.Machine.{midpointStep, policyStep, betweenTest, crossStep, actionPossible, actionStep, passageStep, runFrom, isClosed, closesOff}
-use Rattle.rules.proofs.EmptyPlan.{named-void}
+use Rattle.rules.proofs.EmptyPlan.{named-void, seen-void, seen-00}
+use Rattle.mirror.proofs.Rules.{seen-action-at, seen-passage-at, seen-twice}
 use Rattle.tours.specs.Prefixes.{stateAt, policyState}
 use Rattle.tours.proofs.Basics.{below, split-at}
 use Rattle.tours.proofs.Aisles.{action-past, passage-past}
@@ -115,27 +119,27 @@ live-test false s l = absurd l
 -- the action and the passage of aisle j are the policy's
 pub record Possible (job : Job) (plan : Plan) (j : ℕ) : Type 0 where
   pub action : actionPossible job j (actionAt plan j) ≡ true
-  pub passage : passageNamed (job .policy) (passageAt plan j) ≡ true
+  pub passage : passageNamed FrontSide (job .policy) (seenPassage (job .layout) (passageAt plan j)) ≡ true
 
 module _ (job : Job) (j : ℕ) where
   -- an action that does not lead to `dead` is the policy's, and so is its step
   pub live-action : (a : Action) (s : State) → Live (actionStep job j a s)
-      → (actionPossible job j a ≡ true) × Live (policyStep (job .policy) (walkBackEnd (job .layout)) (betweenTest (job .policy) job j) a s)
+      → (actionPossible job j a ≡ true) × Live (policyStep (job .policy) (walkBackEnd (job .layout)) (λ b. betweenTest (job .policy) job j a) (seen (job .layout) a) s)
   unfolding actionStep
   live-action a s l = live-test (actionPossible job j a) _ l
 
   -- a passage that does not lead to `dead` is the policy's and begins at a live state
-  pub live-passage : (p : Passage) (s : State) → Live (passageStep job j p s) → (passageNamed (job .policy) p ≡ true) × Live s
+  pub live-passage : (p : Passage) (s : State) → Live (passageStep job j p s) → (passageNamed FrontSide (job .policy) (seenPassage (job .layout) p) ≡ true) × Live s
   unfolding passageStep
   live-passage p s l =
       let d = job .layout .depot in
-      let u = live-test (passageNamed (job .policy) p) (crossStep d j p s) l in
-      (u .0, live-before-passage d j p s (u .1))
+      let u = live-test (passageNamed FrontSide (job .policy) (seenPassage (job .layout) p)) (crossStep d j (seenPassage (job .layout) p) s) l in
+      (u .0, live-before-passage d j (seenPassage (job .layout) p) s (u .1))
 
   -- an aisle and the passage behind it that do not lead to `dead` begin at a live state
   live-before-both : (a : Action) (p : Passage) (s : State) → Live (passageStep job j p (actionStep job j a s)) → Live s
   live-before-both a p s l =
-      live-before-step (job .policy) (walkBackEnd (job .layout)) (betweenTest (job .policy) job j) a s
+      live-before-step (job .policy) (walkBackEnd (job .layout)) (λ b. betweenTest (job .policy) job j a) (seen (job .layout) a) s
       (live-action a s (live-passage p (actionStep job j a s) l .1) .1)
 
 -- a run that does not lead to `dead` begins at a live state
@@ -144,6 +148,10 @@ run-live job j s [] passages l = l
 run-live job j s (a ∷ actions) passages l =
     let p = headOr P00 passages in
     live-before-both job j a p s (run-live job (suc j) (passageStep job j p (actionStep job j a s)) actions (tail passages) l)
+
+-- the test for aisles between, asked of an action as it is seen
+abbrev pub seenTest : Policy → Job → ℕ → Action → Bool
+seenTest policy job j a = betweenTest policy job j (seen (job .layout) a)
 
 module _ (job : Job) (plan : Plan) where
   -- a step that does not lead to `dead` is the policy's and begins at a live state
@@ -166,19 +174,25 @@ module _ (job : Job) (plan : Plan) where
       ]
 
   -- where all is the policy's, the tests fall away
-  tests-pass : ((j : ℕ) → Possible job plan j) → (n : ℕ)
-      → stateAt job plan n ≡ policyState (job .policy) (betweenTest (job .policy) job) (job .layout) plan n
+  tests-pass : WellFormed (job .layout) plan → ((j : ℕ) → Possible job plan j) → (n : ℕ)
+      → stateAt job plan n ≡ policyState (job .policy) (seenTest (job .policy) job) (job .layout) (seenPlan (job .layout) plan) n
   unfolding actionStep passageStep
-  tests-pass f zero = refl
-  tests-pass f (suc i) = rw (f (suc i) .action, f (suc i) .passage, tests-pass f i)
+  tests-pass wf f zero = refl
+  tests-pass wf f (suc i) =
+      let side = sideOf (job .layout) in
+      let c = job .layout .cells in
+      let action = seen-action-at side c plan (suc i) in
+      let passage = seen-passage-at side c plan (suc i) in
+      let again = seen-twice side c (actionAt plan (suc i)) (wf .fits (suc i)) in
+      rw (f (suc i) .action, f (suc i) .passage, tests-pass wf f i, action, passage, again)
 
 module _ (job : Job) {plan : Plan} (wf : WellFormed (job .layout) plan) where
   -- outside the store every policy has what the plan holds
   outside : (j : ℕ) → actionAt plan j ≡ Void → passageAt plan j ≡ P00 → Possible job plan j
   unfolding actionPossible
   outside j e f =
-      let v = named-void (job .policy) in
-      record { action = rw (e, v .0); passage = rw f (v .1) }
+      let v = named-void FrontSide (job .policy) in
+      record { action = rw (e, seen-void (sideOf (job .layout)) (job .layout .cells), v .0); passage = rw (f, seen-00 (sideOf (job .layout))) (v .1) }
 
   -- in a plan that is closed off all is the policy's
   all-possible : stateAt job plan (job .layout .aisles) ≡ closed → (j : ℕ) → Possible job plan j
@@ -191,11 +205,11 @@ module _ (job : Job) {plan : Plan} (wf : WellFormed (job .layout) plan) where
 
   -- the machine closes off a plan whose actions and passages are the policy's and which the policy's table closes off
   pub closes-by-table : (closesOff job plan ≡ true)
-      ↔ (((j : ℕ) → Possible job plan j) × (policyState (job .policy) (betweenTest (job .policy) job) (job .layout) plan (job .layout .aisles) ≡ closed))
+      ↔ (((j : ℕ) → Possible job plan j) × (policyState (job .policy) (seenTest (job .policy) job) (job .layout) (seenPlan (job .layout) plan) (job .layout .aisles) ≡ closed))
   closes-by-table = (
     (λ h.
         let c = closes-off job wf .0 h in
         let p = all-possible c in
-        (p, sym (tests-pass job plan p (job .layout .aisles)) ∙ c)),
-    (λ h. closes-off job wf .1 (tests-pass job plan (h .0) (job .layout .aisles) ∙ h .1)),
+        (p, sym (tests-pass job plan wf p (job .layout .aisles)) ∙ c)),
+    (λ h. closes-off job wf .1 (tests-pass job plan wf (h .0) (job .layout .aisles) ∙ h .1)),
   )

@@ -6,6 +6,7 @@ use mathlib.Core.Path.{_≡_, refl, _∙_, subst}
 use mathlib.Core.Logic.{_⊎_, inl, inr}
 use mathlib.Core.Bool.{Bool, true, false, cond}
 use lib.Dec.{ltb, leb, eqb}
+use Rattle.rules.specs.declared.Side.the-variants.{FrontSide}
 use Rattle.rules.specs.declared.Layout.{Layout}
 use Rattle.rules.specs.declared.Policy.{Policy}
 use Rattle.rules.specs.declared.Policy.the-variants.{Exact, Return, Traversal, Midpoint, Composite, Largest}
@@ -158,7 +159,7 @@ Ends o dead = Unit {0}
 
 -- TRAVERSAL, MIDPOINT and LARGEST have the passages 00, 02 and 11
 abbrev pub Plain : Passage → Type 0
-Plain p = passageNamed Traversal p ≡ true
+Plain p = passageNamed FrontSide Traversal p ≡ true
 
 -- closed off on one side, closed off on the other
 tracks-when : (b : Bool) → Tracks (cond b closed dead) (cond b closed dead)

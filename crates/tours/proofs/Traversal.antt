@@ -11,6 +11,7 @@ use Rattle.rules.specs.declared.Policy.the-variants.{Traversal}
 use Rattle.rules.specs.declared.Action.{Action}
 use Rattle.rules.specs.declared.Action.the-variants.{Void, Bottom, Top, Gap, Once, Twice}
 use Rattle.rules.specs.declared.Passage.{Passage}
+use Rattle.rules.specs.declared.Side.the-variants.{FrontSide}
 use Rattle.rules.specs.Plans.{Plan, WellFormed, actionAt, passageAt}
 use Rattle.rules.specs.Policies.{Entered, First, Last, IsBottom, End, leftmost, rightmost, EnteredAt, walkBackEnd, WalkedBack, TraversalRule, enteredAisles}
 use Rattle.rules.specs.Machine.{State, nothing, closed, atFront, atBack, odd, joined, split, ending, dead, lawfulStep, traversalOnce, traversalStep, crossStep}
@@ -285,7 +286,7 @@ module _ {z : Layout} {plan : Plan} (wf : WellFormed z plan) (between : ℕ → 
         go rightmost right one = subst (Ends (own n)) c (right-run right n one)
 
   -- the rule says how the entered aisles are gone through
-  rule-gone : TraversalRule z plan → AllOnce plan (z .aisles) ⊎ OneBottom (walkBackEnd z) plan (z .aisles)
+  rule-gone : TraversalRule FrontSide z plan → AllOnce plan (z .aisles) ⊎ OneBottom (walkBackEnd z) plan (z .aisles)
   rule-gone rule = go (parity (enteredUpTo plan (z .aisles))) (entered-at (walkBackEnd z))
     where
       parity : (n : ℕ) → (n % 2 ≡ 0) ⊎ (n % 2 ≡ 1)
@@ -308,7 +309,7 @@ module _ {z : Layout} {plan : Plan} (wf : WellFormed z plan) (between : ℕ → 
           })
 
   -- what has been gone through keeps the rule
-  gone-rule : GoneThrough (walkBackEnd z) plan (z .aisles) closed → TraversalRule z plan
+  gone-rule : GoneThrough (walkBackEnd z) plan (z .aisles) closed → TraversalRule FrontSide z plan
   gone-rule (inl (all, c, r)) =
       record {
         even = λ n j e. all j (entered-inside wf j e .1) e;
@@ -329,7 +330,7 @@ module _ {z : Layout} {plan : Plan} (wf : WellFormed z plan) (between : ℕ → 
 
   -- TRAVERSAL's table closes off a plan just when EXACT's does and the rule is kept
   pub traversal-table : ((j : ℕ) → Plain (passageAt plan j))
-      → (policyState Traversal between z plan (z .aisles) ≡ closed) ↔ ((lawfulState (z .depot) plan (z .aisles) ≡ closed) × TraversalRule z plan)
+      → (policyState Traversal between z plan (z .aisles) ≡ closed) ↔ ((lawfulState (z .depot) plan (z .aisles) ≡ closed) × TraversalRule FrontSide z plan)
   traversal-table plain = (
     (λ c. (
       subst (λ (o : State). Fitting o (exact (z .aisles))) c (traversal-fits between z plan (z .aisles)),

@@ -1,13 +1,18 @@
-// The values that the code crates hand to each other: arrays with a count, where the definitions have lists.
+// The values that the code crates hand to each other: arrays with a count, where the definitions have lists; and the depot's side,
+// which several of them ask.
 use rules::Action;
 use rules::Layout;
 use rules::OrderLine;
 use rules::Passage;
 use rules::Pick;
 use rules::Policy;
+use rules::Posts;
 use rules::Run;
+use rules::Side;
 use rules::StockRecord;
 use rules::Window;
+ghost use Rattle.rules.specs.Store.{sideOf};
+ghost use mathlib.Core.Path.{_≡_};
 
 // The hours of a job: whether the sections M and H stand in its file, the minute, and the windows; the first `count` of them count.
 pub struct HoursValue {
@@ -64,4 +69,16 @@ pub struct RunList {
 pub struct Routed {
     pub length: usize,
     pub plan: PlanValue,
+}
+
+// The side of the store at which the depot lies.
+pub fn depot_side(z: Layout) -> Side
+    ensures { λ r. ⌜ r ≡ sideOf z ⌝ }
+{
+    let posts = z.posts;
+    match posts {
+        Posts::NoPosts => Side::FrontSide,
+        Posts::Every(_, _) => Side::FrontSide,
+        Posts::Sided(_, _, side) => side,
+    }
 }

@@ -1,5 +1,5 @@
 -- What is asked of the picks and the runs, put together: the numbers met along the walk are those of the picks in its order.
-use Prim.Native.Nat.{ℕ, zero, suc, _*_, _≤_, _<_}
+use Prim.Native.Nat.{ℕ, zero, suc, _≤_, _<_}
 use native.Mathlib.Omega.{arith}
 use mathlib.Core.Path.{_≡_, refl, sym, ap, _∙_, subst}
 use mathlib.Core.List.{List, map, List·Memᴰ}
@@ -13,6 +13,7 @@ use Rattle.closedwalks.specs.Ways.{PointOf, Leads}
 use Rattle.closedwalks.proofs.Degrees.{depot-point}
 use Rattle.closedwalks.proofs.Walked.{closed-leads}
 use Rattle.closedwalks.proofs.Counts.{layout-bounds}
+use Rattle.flood.specs.Points.{depotNumber}
 use Rattle.values.specs.declared.PickList.{PickList}
 use Rattle.values.specs.declared.RunList.{RunList}
 use Rattle.values.specs.Values.{picksOfValue, runsOfValue}
@@ -39,7 +40,7 @@ space = replicate 860 0
 
 -- the start of the walk
 abbrev pub startOf : Layout → Place
-startOf z = record { at = 26 * z .depot; count = 0 }
+startOf z = record { at = depotNumber z; count = 0 }
 
 module _ (z : Layout) (picks : PickList) (runs : RunList) (w : Walked z picks runs) where
   -- the walk of the runs
@@ -69,9 +70,9 @@ module _ (z : Layout) (picks : PickList) (runs : RunList) (w : Walked z picks ru
   depot-of = let b = layout-bounds z (w .bounds) in depot-point z (b .2) (b .3)
 
   -- whose number this is
-  depot-spot : spotAt (depotPoint z) ≡ 26 * z .depot
-  unfolding depotPoint
-  depot-spot = omega arith
+  depot-spot : spotAt (depotPoint z) ≡ depotNumber z
+  unfolding depotNumber
+  depot-spot = refl
 
   -- and leads back to it
   leads : Leads z (depotPoint z) walk (depotPoint z)
@@ -90,7 +91,7 @@ module _ (z : Layout) (picks : PickList) (runs : RunList) (w : Walked z picks ru
   -- when it has been followed
   module _ {noted order : List ℕ} {end : Place} (f : Followed walk (notedOf picks) space (startOf z) noted order end) where
     -- the numbers stored are those met
-    stored : take (end .count) order ≡ numbersAlong (26 * z .depot) walk (notedOf picks)
+    stored : take (end .count) order ≡ numbersAlong (depotNumber z) walk (notedOf picks)
     stored = f .met
 
     -- each is that of a pick
@@ -98,7 +99,7 @@ module _ (z : Layout) (picks : PickList) (runs : RunList) (w : Walked z picks ru
     stored-numbers k m =
         let zeros : (i : ℕ) → getD (replicate 442 0) i 0 ≤ picks .count = λ i. omega (arith, blank 442 i) in
         let below = noted-below (picks .count) 0 (picksOfValue picks) (replicate 442 0) (omega (arith, few-picks)) zeros in
-        met-below (picks .count) (26 * z .depot) walk (notedOf picks) below k (subst (λ (l : List ℕ). List·Memᴰ k l) stored m)
+        met-below (picks .count) (depotNumber z) walk (notedOf picks) below k (subst (λ (l : List ℕ). List·Memᴰ k l) stored m)
 
     -- and their picks are in the order of the walk
     pub stored-in-order : map (pickNumbered (picksOfValue picks)) (take (end .count) order) ≡ alongWalk z walk (picksOfValue picks)

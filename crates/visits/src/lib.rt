@@ -4,6 +4,7 @@
 // the steps of the walk are followed, and a number is taken out where the walk first meets it.
 use flood::HEIGHTS;
 use flood::POINTS;
+use flood::depot_number;
 use rules::Direction;
 use rules::Layout;
 use rules::Pick;
@@ -147,7 +148,7 @@ pub fn in_order(layout: Layout, picks: PickList, runs: RunList) -> PickList
     note(picks, &mut noted);
     let mut order = [0usize; STEPS];
     let depot = Place {
-        at: HEIGHTS * layout.depot,
+        at: depot_number(layout),
         count: 0,
     };
     let end = follow(&mut noted, &mut order, depot, runs);

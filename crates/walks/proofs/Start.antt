@@ -27,6 +27,7 @@ use Rattle.closedwalks.proofs.Counts.{layout-bounds, same-steps, few-treads}
 use Rattle.closedwalks.proofs.First.{tried, tried-free, tried-shut}
 use Rattle.closedwalks.proofs.Greedily.{greedy-found, lawful-ready}
 use Rattle.closedwalks.proofs.Statements.{first-walk, few-steps}
+use Rattle.flood.specs.Points.{depotNumber}
 use Rattle.values.specs.declared.PlanValue.{PlanValue}
 use Rattle.values.specs.Values.{planOf}
 use Rattle.walks.specs.Treads.{spot, pointAt, leftOf}
@@ -98,14 +99,12 @@ module _ (z : Layout) (plan : PlanValue) (w : LawfulPlan z plan) where
   planned = lawful-ready z (planOf plan) low high (w .lawful)
 
   -- the depot's number
-  depot-at : pointAt (26 * z .depot) ≡ depotPoint z
-  unfolding spot depotPoint
-  depot-at =
-      let number : spot (depotPoint z) ≡ 26 * z .depot = omega arith in
-      ap pointAt (sym number) ∙ spot-point z wide deep (depotPoint z) (planned .point)
+  depot-at : pointAt (depotNumber z) ≡ depotPoint z
+  unfolding spot depotNumber
+  depot-at = spot-point z wide deep (depotPoint z) (planned .point)
 
   -- the walk can start at the depot
-  pub start-walkable : Walkable z (plan-list z plan) (26 * z .depot)
+  pub start-walkable : Walkable z (plan-list z plan) (depotNumber z)
   start-walkable =
       record {
         bounds = w .bounds;
@@ -118,7 +117,7 @@ module _ (z : Layout) (plan : PlanValue) (w : LawfulPlan z plan) where
   start-few = omega (arith, same-steps z (multiplicity (planOf plan)) (leftOf z (plan-list z plan)) agrees, few-treads z (planOf plan) (w .bounds))
 
   -- its letters are those of the first walk
-  pub start-letters : lettersLeft z (plan-list z plan) (26 * z .depot) ≡ firstWalk z (planOf plan)
+  pub start-letters : lettersLeft z (plan-list z plan) (depotNumber z) ≡ firstWalk z (planOf plan)
   unfolding lettersLeft firstWalk
   start-letters =
       let f = multiplicity (planOf plan) in

@@ -2,17 +2,19 @@
 use crate::numbers::LEFTWARDS;
 use flood::HEIGHTS;
 use flood::POINTS;
+use flood::depot_number;
 use rules::Direction;
 use rules::Layout;
 ghost use mathlib.Core.Path.{_≡_};
 ghost use mathlib.Core.Bool.{true};
 ghost use mathlib.Core.Logic.{_↔_};
 ghost use mathlib.Core.Option.{some};
-ghost use Prim.Native.Nat.{_*_, _≤_, _<_};
+ghost use Prim.Native.Nat.{_≤_, _<_};
 ghost use lib.ListN.{length, getD, set, replicate};
 ghost use Rattle.rules.specs.Sheet.{letterOf};
 ghost use Rattle.rules.specs.FirstWalk.{stepsOf};
 ghost use Rattle.walks.specs.Treads.{leftOf};
+ghost use Rattle.flood.specs.Points.{depotNumber};
 ghost use Rattle.flood.specs.Flooded.{AllReached, Ranged};
 ghost use Rattle.walks.specs.Letters.{slotBy, nextBy, treadsAt, Walkable, canBe, nextLetter, lettersLeft, Spelt};
 
@@ -121,11 +123,11 @@ pub fn next_letter(layout: Layout, left: &mut [u8], at: usize) -> Direction
 
 // The letters from the depot on, and their number; every tread is used up.
 pub fn follow(layout: Layout, left: &mut [u8], letters: &mut [u8]) -> usize
-    requires { ⌜ Walkable layout (now left) (26 * layout .depot) × (stepsOf layout (leftOf layout (now left)) ≤ 860) × (860 ≤ length (now letters)) ⌝ }
-    ensures { λ r. ⌜ Spelt (lettersLeft layout (now (left .entry)) (26 * layout .depot)) (now (letters .entry)) (now (letters .exit)) r ⌝ }
+    requires { ⌜ Walkable layout (now left) (depotNumber layout) × (stepsOf layout (leftOf layout (now left)) ≤ 860) × (860 ≤ length (now letters)) ⌝ }
+    ensures { λ r. ⌜ Spelt (lettersLeft layout (now (left .entry)) (depotNumber layout)) (now (letters .entry)) (now (letters .exit)) r ⌝ }
     ensures { λ _. ⌜ now (left .exit) ≡ replicate 884 0 ⌝ }
 {
-    let mut at = HEIGHTS * layout.depot;
+    let mut at = depot_number(layout);
     let mut n = 0;
     while 0 < treads_at(left, at) {
         let d = next_letter(layout, left, at);

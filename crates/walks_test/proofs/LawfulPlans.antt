@@ -1,4 +1,4 @@
--- Each plan of the test is lawful: the machine closes it off, which is computed.
+-- Each plan of the test is lawful: the machine closes it off as it is seen from the depot's side, which is computed.
 use Prim.Native.Nat.{ℕ, zero, suc}
 use native.Mathlib.Omega.{arith}
 use mathlib.Core.Path.{_≡_, refl}
@@ -12,15 +12,19 @@ use Rattle.rules.specs.declared.Layout.{Layout}
 use Rattle.rules.specs.declared.Action.{Action}
 use Rattle.rules.specs.declared.Action.the-variants.{Void, Bottom, Top, Gap, Once, Twice}
 use Rattle.rules.specs.Lists.{allOf, nth}
-use Rattle.rules.specs.Store.{within, layoutInBounds}
+use Rattle.rules.specs.declared.Posts.the-variants.{NoPosts}
+use Rattle.rules.specs.Store.{within, layoutInBounds, sideOf}
 use Rattle.rules.specs.Plans.{Plan, Fits, WellFormed, actionAt, passageAt}
+use Rattle.rules.specs.Turned.{seenPlan}
 use Rattle.rules.specs.Machine.{State, nothing, closed, atFront, atBack, odd, joined, split, ending, dead}
 use Rattle.values.specs.declared.PlanValue.{PlanValue}
 use Rattle.values.specs.Values.{planOf}
+use Rattle.mirror.proofs.Lawful.{lawful-seen}
+use Rattle.mirror.proofs.Rules.{seen-formed}
 use Rattle.tours.specs.Prefixes.{lawfulState}
 use Rattle.tours.proofs.Exact.{closed-lawful}
 use Rattle.walks.specs.Lawfully.{LawfulPlan}
-use Rattle.walks_test.specs.Plans.{storeOf, mixed, six}
+use Rattle.walks_test.specs.Plans.{storeOf, backDepot, mixed, six, two}
 
 both : (a b : Bool) → (a && b) ≡ true → (a ≡ true) × (b ≡ true)
 both true b h = (refl, h)
@@ -77,6 +81,10 @@ module _ (z : Layout) (value : PlanValue) where
   abbrev plan : Plan
   plan = planOf value
 
+  -- as it is seen from the depot's side
+  abbrev facing : Plan
+  facing = seenPlan z plan
+
   -- what is computed of a plan: the bounds and the depot, how many actions and passages it has, that they fit, and the machine's end
   abbrev inside : Bool
   inside = layoutInBounds z && ltb 0 (z .depot) && eqb (value .aisles) (z .aisles)
@@ -85,7 +93,7 @@ module _ (z : Layout) (value : PlanValue) where
   counted = eqb (length (plan .actions)) (z .aisles) && eqb (suc (length (plan .passages))) (z .aisles)
 
   abbrev ends : Bool
-  ends = isClosed (lawfulState (z .depot) plan (z .aisles))
+  ends = isClosed (lawfulState (z .depot) facing (z .aisles))
 
   abbrev right : Bool
   right = inside && counted && allOf (fitsIn (z .cells)) (plan .actions) && ends
@@ -102,16 +110,18 @@ module _ (z : Layout) (value : PlanValue) where
       let aisles = eqb-true (length (plan .actions)) (z .aisles) (n .0) in
       let passages = eqb-true (suc (length (plan .passages))) (z .aisles) (n .1) in
       let formed : WellFormed z plan = record { aisles = aisles; passages = passages; fits = all-fit (z .cells) (plan .actions) (f .1) } in
-      record {
-        bounds = b .0;
-        aisles = eqb-true (value .aisles) (z .aisles) (d .1);
-        lawful = inl (closed-lawful formed (ltb-true 0 (z .depot) (b .1)) (is-closed (lawfulState (z .depot) plan (z .aisles)) (e .1)));
-      }
+      let end = is-closed (lawfulState (z .depot) facing (z .aisles)) (e .1) in
+      let seen = closed-lawful (seen-formed (sideOf z) z plan formed) (ltb-true 0 (z .depot) (b .1)) end in
+      record { bounds = b .0; aisles = eqb-true (value .aisles) (z .aisles) (d .1); lawful = inl (lawful-seen z plan formed .0 seen) }
 
-pub mixed-lawful : LawfulPlan (storeOf 4 5 2) mixed
+pub mixed-lawful : LawfulPlan (storeOf 4 5 2 NoPosts) mixed
 unfolding planOf layoutInBounds within actionAt passageAt
-mixed-lawful = lawful-plan (storeOf 4 5 2) mixed refl
+mixed-lawful = lawful-plan (storeOf 4 5 2 NoPosts) mixed refl
 
-pub six-lawful : LawfulPlan (storeOf 6 4 6) six
+pub six-lawful : LawfulPlan (storeOf 6 4 6 NoPosts) six
 unfolding planOf layoutInBounds within actionAt passageAt
-six-lawful = lawful-plan (storeOf 6 4 6) six refl
+six-lawful = lawful-plan (storeOf 6 4 6 NoPosts) six refl
+
+pub two-lawful : LawfulPlan (storeOf 2 2 1 backDepot) two
+unfolding planOf layoutInBounds within actionAt passageAt
+two-lawful = lawful-plan (storeOf 2 2 1 backDepot) two refl

@@ -3,7 +3,9 @@ use Prim.Native.Nat.{ℕ, _-_}
 use mathlib.Core.List.{List, [], _∷_, _++_}
 use lib.ListN.{length, replicate}
 use Rattle.rules.specs.declared.Layout.{Layout}
-use Rattle.rules.specs.declared.Posts.the-variants.{NoPosts}
+use Rattle.rules.specs.declared.Posts.{Posts}
+use Rattle.rules.specs.declared.Posts.the-variants.{Sided}
+use Rattle.rules.specs.declared.Side.the-variants.{BackSide}
 use Rattle.rules.specs.declared.Action.{Action}
 use Rattle.rules.specs.declared.Action.the-variants.{Void, Top, Gap, Once, Twice}
 use Rattle.rules.specs.declared.Passage.{Passage}
@@ -12,8 +14,12 @@ use Rattle.values.specs.declared.Stage.{Stage}
 use Rattle.values.specs.declared.PlanValue.{PlanValue}
 
 -- a store in which all distances are 1
-abbrev pub storeOf : ℕ → ℕ → ℕ → Layout
-storeOf aisles cells depot = record { aisles = aisles; cells = cells; front = 1; pitch = 1; back = 1; width = 1; depot = depot; posts = NoPosts }
+abbrev pub storeOf : ℕ → ℕ → ℕ → Posts → Layout
+storeOf aisles cells depot posts = record { aisles = aisles; cells = cells; front = 1; pitch = 1; back = 1; width = 1; depot = depot; posts = posts }
+
+-- no posts, and the depot at the back
+abbrev pub backDepot : Posts
+backDepot = Sided 1 0 BackSide
 
 -- an action and the passage behind it
 abbrev pub stage : Action → Passage → Stage
@@ -30,3 +36,7 @@ mixed = planWith (stage Void P22 ∷ stage Once P11 ∷ stage Once P22 ∷ stage
 -- six aisles, the depot at the last
 abbrev pub six : PlanValue
 six = planWith (stage (Gap 1 3) P22 ∷ stage (Gap 3 4) P22 ∷ stage Twice P02 ∷ stage Twice P20 ∷ stage Twice P22 ∷ stage (Top 3) P00 ∷ [])
+
+-- two aisles, each trodden twice
+abbrev pub two : PlanValue
+two = planWith (stage Twice P22 ∷ stage Twice P00 ∷ [])

@@ -1,9 +1,11 @@
-// Prints the walks of two plans. The file stdout has those that a search through all walks, in the order of the alphabet, finds first.
+// Prints the walks of three plans. The file stdout has those that a search through all walks, in the order of the alphabet, finds first.
 mod plans;
 
 use libc::STDOUT_FILENO;
 use rules::Direction;
 use rules::Layout;
+use rules::Posts;
+use rules::Side;
 use values::PlanValue;
 use values::RunList;
 ghost use Prim.Native.Nat.{_≤_};
@@ -50,6 +52,10 @@ fn print_walk(layout: Layout, plan: PlanValue)
 }
 
 fn main() {
-    print_walk(plans::store(4, 5, 2), plans::mixed());
-    print_walk(plans::store(6, 4, 6), plans::six());
+    print_walk(plans::store(4, 5, 2, Posts::NoPosts), plans::mixed());
+    print_walk(plans::store(6, 4, 6, Posts::NoPosts), plans::six());
+    print_walk(
+        plans::store(2, 2, 1, Posts::Sided(1, 0, Side::BackSide)),
+        plans::two(),
+    );
 }

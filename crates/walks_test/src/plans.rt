@@ -1,4 +1,4 @@
-// Two plans with TWICE and 22: no sheet of tests/vectors or tests/cases has TWICE, and only three have 22.
+// Three plans with TWICE and 22: no sheet of tests/vectors or tests/cases has TWICE, and only four have 22.
 use rules::Action;
 use rules::Layout;
 use rules::Passage;
@@ -6,11 +6,11 @@ use rules::Posts;
 use values::PlanValue;
 use values::Stage;
 ghost use mathlib.Core.Path.{_≡_};
-ghost use Rattle.walks_test.specs.Plans.{storeOf, mixed, six};
+ghost use Rattle.walks_test.specs.Plans.{storeOf, mixed, six, two};
 
 // A store in which all distances are 1.
-pub fn store(aisles: usize, cells: usize, depot: usize) -> Layout
-    ensures { λ r. ⌜ r ≡ storeOf aisles cells depot ⌝ }
+pub fn store(aisles: usize, cells: usize, depot: usize, posts: Posts) -> Layout
+    ensures { λ r. ⌜ r ≡ storeOf aisles cells depot posts ⌝ }
 {
     Layout {
         aisles,
@@ -20,7 +20,7 @@ pub fn store(aisles: usize, cells: usize, depot: usize) -> Layout
         back: 1,
         width: 1,
         depot,
-        posts: Posts::NoPosts,
+        posts,
     }
 }
 
@@ -84,4 +84,23 @@ pub fn six() -> PlanValue
         passage: Passage::P00,
     };
     PlanValue { aisles: 6, stages }
+}
+
+// TWICE 22 TWICE.
+pub fn two() -> PlanValue
+    ensures { λ r. ⌜ r ≡ two ⌝ }
+{
+    let mut stages = [Stage {
+        action: Action::Void,
+        passage: Passage::P00,
+    }; 16];
+    stages[0] = Stage {
+        action: Action::Twice,
+        passage: Passage::P22,
+    };
+    stages[1] = Stage {
+        action: Action::Twice,
+        passage: Passage::P00,
+    };
+    PlanValue { aisles: 2, stages }
 }

@@ -1,5 +1,5 @@
 -- `walks::walk_letters` meets its contract: the treads of the plan are filled in, and their walk is followed from the depot.
-use Prim.Native.Nat.{ℕ, _*_, _≤_}
+use Prim.Native.Nat.{ℕ, _≤_}
 use native.Mathlib.Omega.{arith}
 use mathlib.Core.Path.{_≡_, sym, ap, _∙_, subst}
 use mathlib.Core.List.{List}
@@ -8,6 +8,7 @@ use borrow.Author.Needs.{needs}
 use Rattle.rules.specs.Walks.{Walk}
 use Rattle.rules.specs.FirstWalk.{stepsOf}
 use Rattle.closedwalks.proofs.Counts.{layout-bounds}
+use Rattle.flood.specs.Points.{depotNumber}
 use Rattle.walks.specs.Treads.{leftOf}
 use Rattle.walks.specs.Letters.{Walkable, lettersLeft, Spelt}
 use Rattle.walks.proofs.Filled.{plan-list}
@@ -36,7 +37,7 @@ follow-requires c κs =
     let f = c .before .before .before in
     let c₀ = f .before .before .before in
     let x = c₀ .args in (
-      subst (λ (l : List ℕ). Walkable (x .layout) l (26 * x .layout .depot)) (sym (filled f)) (start-walkable (x .layout) (x .plan) (c₀ .pre .0)),
+      subst (λ (l : List ℕ). Walkable (x .layout) l (depotNumber (x .layout))) (sym (filled f)) (start-walkable (x .layout) (x .plan) (c₀ .pre .0)),
       subst (λ (l : List ℕ). stepsOf (x .layout) (leftOf (x .layout) l) ≤ 860) (sym (filled f)) (start-few (x .layout) (x .plan) (c₀ .pre .0)),
       c₀ .pre .1,
     )
@@ -50,7 +51,7 @@ returns c =
     let f = g .before .before .before .before in
     let c₀ = f .before .before .before in
     let x = c₀ .args in
-    let walk = ap (λ (l : List ℕ). lettersLeft (x .layout) l (26 * x .layout .depot)) (filled f) ∙ start-letters (x .layout) (x .plan) (c₀ .pre .0) in
+    let walk = ap (λ (l : List ℕ). lettersLeft (x .layout) l (depotNumber (x .layout))) (filled f) ∙ start-letters (x .layout) (x .plan) (c₀ .pre .0) in
     let s = subst (λ (v : Walk). Spelt v (now (x .letters)) (g .follow .last .1 .1 .0) (g .follow .result)) walk (g .follow .ensures .0) in
     (s, omega (arith, s .number, walk-short (x .layout) (x .plan) (c₀ .pre .0)))
 

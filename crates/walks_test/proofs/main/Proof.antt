@@ -1,6 +1,6 @@
 -- `walks_test::main` meets its contract: each plan is lawful in its store.
 use borrow.Author.Needs.{needs}
-use Rattle.walks_test.proofs.LawfulPlans.{mixed-lawful, six-lawful}
+use Rattle.walks_test.proofs.LawfulPlans.{mixed-lawful, six-lawful, two-lawful}
 use Rattle.walks_test.proofs.main.Statement.{statement}
 use Rattle.walks_test.proofs.main.Tie as tie
 
@@ -22,6 +22,15 @@ six-requires c κs = search needs
 print-walk-requires-2 : tie.Need-print-walk-requires-2
 print-walk-requires-2 c κs = rw (c .before .store2 .ensures, c .six .ensures) six-lawful
 
+store-requires-3 : tie.Need-store-requires-3
+store-requires-3 c κs = search needs
+
+two-requires : tie.Need-two-requires
+two-requires c κs = search needs
+
+print-walk-requires-3 : tie.Need-print-walk-requires-3
+print-walk-requires-3 c κs = rw (c .before .store3 .ensures, c .two .ensures) two-lawful
+
 returns : tie.Need-returns
 returns c = search needs
 
@@ -35,4 +44,7 @@ main-spec =
     store-requires-2
     six-requires
     print-walk-requires-2
+    store-requires-3
+    two-requires
+    print-walk-requires-3
     returns)

@@ -1,4 +1,4 @@
--- `jobfile::bounds::posts_in_bounds` meets its contract: the two cases of the definition.
+-- `jobfile::bounds::posts_in_bounds` meets its contract: the three cases of the definition.
 use mathlib.Core.Path.{_∙_, sym, ap, ap₂}
 use mathlib.Core.Bool.{_&&_}
 use borrow.Author.Needs.{needs}
@@ -18,6 +18,15 @@ is-within-requires c κs = search needs
 is-within-requires-2 : tie.Need-is-within-requires-2
 is-within-requires-2 c κs = search needs
 
+enum-known-posts-2 : tie.Need-enum-known-posts-2
+enum-known-posts-2 c = search needs
+
+is-within-requires-3 : tie.Need-is-within-requires-3
+is-within-requires-3 c κs = search needs
+
+is-within-requires-4 : tie.Need-is-within-requires-4
+is-within-requires-4 c κs = search needs
+
 returns : tie.Need-returns
 returns c = search needs
 
@@ -26,7 +35,22 @@ returns-2 c =
     let posts = c .before .before .before .posts .given .1 in
     ap₂ _&&_ (c .before .is-within .ensures) (c .is-within2 .ensures) ∙ sym (ap postsInBounds posts)
 
+returns-3 : tie.Need-returns-3
+returns-3 c =
+    let posts = c .before .before .before .posts2 .given .1 in
+    ap₂ _&&_ (c .before .is-within3 .ensures) (c .is-within4 .ensures) ∙ sym (ap postsInBounds posts)
+
 pub posts-in-bounds-spec : {M : Type 1} → statement M
 posts-in-bounds-spec =
     tie.close
-    (tie.spec enum-told enum-known-posts is-within-requires is-within-requires-2 returns returns-2)
+    (tie.spec
+    enum-told
+    enum-known-posts
+    is-within-requires
+    is-within-requires-2
+    enum-known-posts-2
+    is-within-requires-3
+    is-within-requires-4
+    returns
+    returns-2
+    returns-3)

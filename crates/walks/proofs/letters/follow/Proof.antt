@@ -1,13 +1,13 @@
 -- `walks::letters::follow` meets its contract. The loop's invariant: the letters written and those still to come are the whole walk.
 -- The measure is what is left.
-use Prim.Native.Nat.{_*_, _-_, _≤_, _<_}
+use Prim.Native.Nat.{ℕ, _-_, _≤_, _<_}
 use native.Mathlib.Omega.{arith}
-use mathlib.Core.Path.{_≡_, sym, ap, _∙_}
+use mathlib.Core.Path.{_≡_, sym, ap, _∙_, subst}
 use mathlib.Core.Option.{some}
 use lib.ListN.{length, getD}
 use denote.Ref.{now}
 use Rattle.rules.specs.FirstWalk.{stepsOf}
-use Rattle.closedwalks.proofs.Counts.{layout-bounds}
+use Rattle.flood.specs.Points.{depotNumber}
 use Rattle.walks.specs.Treads.{leftOf}
 use Rattle.walks.specs.Letters.{treadsAt, nextLetter, lettersLeft}
 use Rattle.walks.proofs.Stepping.{at-range, letter-left, none-left, slot-below}
@@ -16,19 +16,22 @@ use Rattle.walks.proofs.letters.follow.Statement.{statement}
 use Rattle.walks.proofs.letters.follow.Tie as tie
 
 abbrev Inv-loop : tie.InvT-loop
-Inv-loop layout left₀ letters₀ at₀ n₀ left letters at n = Going layout (lettersLeft layout left₀ (26 * layout .depot)) left at letters₀ letters n
+Inv-loop layout left₀ letters₀ at₀ n₀ left letters at n = Going layout (lettersLeft layout left₀ (depotNumber layout)) left at letters₀ letters n
 
 abbrev μ-loop : tie.MeasureT-loop
 μ-loop layout left₀ letters₀ at₀ n₀ left letters at n = stepsOf layout (leftOf layout left)
 
-mul-at : tie.Need-mul-at Inv-loop μ-loop
-mul-at c = let c₀ = c .before .before .before in let b = layout-bounds (c₀ .args .layout) (c₀ .pre .0 .bounds) in omega (arith, b .0, b .3)
+depot-number-requires : tie.Need-depot-number-requires Inv-loop μ-loop
+depot-number-requires c κs = c .before .before .pre .0 .bounds
 
 loop-holds : tie.Need-loop-holds Inv-loop μ-loop
 loop-holds c =
     let c₀ = c .before .before .before in
     let x = c₀ .args in
-    going-from (x .layout) (now (x .left)) (26 * x .layout .depot) (now (x .letters)) (c₀ .pre .0) (c₀ .pre .1)
+    let start = depotNumber (x .layout) in
+    let walk = lettersLeft (x .layout) (now (x .left)) start in
+    subst (λ (n : ℕ). Going (x .layout) walk (now (x .left)) n (now (x .letters)) (now (x .letters)) 0) (sym (c .depot-number .ensures))
+    (going-from (x .layout) (now (x .left)) start (now (x .letters)) (c₀ .pre .0) (c₀ .pre .1))
 
 -- the point lies in the list
 point-in : (c : tie.At-loop Inv-loop μ-loop) → (26 ≤ c .loop .at) × (c .loop .at < 442)
@@ -129,7 +132,7 @@ follow-spec =
     (tie.spec
     Inv-loop
     μ-loop
-    mul-at
+    depot-number-requires
     loop-holds
     treads-at-requires
     next-letter-requires

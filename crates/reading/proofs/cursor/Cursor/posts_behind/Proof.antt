@@ -19,10 +19,20 @@ returns-2 c =
     let n = c .before .before .before .before .args .count in
     rw (readPosts, ne-eqb n 1 (λ e. omega arith), eq-eqb n 2 (omega arith)) (c .posts .ensures)
 
+sided-lines-requires : tie.Need-sided-lines-requires
+sided-lines-requires c κs = search needs
+
 returns-3 : tie.Need-returns-3
 unfolding readPosts
 returns-3 c =
-    let n = c .before .before .before .args .count in rw (readPosts, ne-eqb n 1 (λ e. omega arith), ne-eqb n 2 (λ e. omega arith))
+    let n = c .before .before .before .before .before .args .count in
+    rw (readPosts, ne-eqb n 1 (λ e. omega arith), ne-eqb n 2 (λ e. omega arith), eq-eqb n 3 (omega arith)) (c .sided-lines .ensures)
+
+returns-4 : tie.Need-returns-4
+unfolding readPosts
+returns-4 c =
+    let n = c .before .before .before .before .args .count in
+    rw (readPosts, ne-eqb n 1 (λ e. omega arith), ne-eqb n 2 (λ e. omega arith), ne-eqb n 3 (λ e. omega arith))
 
 pub posts-behind-spec : {M : Type 1} → statement M
-posts-behind-spec = tie.close (tie.spec returns posts-requires returns-2 returns-3)
+posts-behind-spec = tie.close (tie.spec returns posts-requires returns-2 sided-lines-requires returns-3 returns-4)

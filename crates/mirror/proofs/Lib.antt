@@ -1,0 +1,10 @@
+pub mod Tests
+pub mod Plans
+pub mod Lawful
+pub mod Named
+pub mod Lengths
+pub mod Serving
+pub mod Gaps
+pub mod Rules
+pub mod Allowed
+pub mod Best
