@@ -13,7 +13,7 @@ use Rattle.rules.specs.declared.Layout.{Layout}
 use Rattle.rules.specs.declared.Direction.{Direction}
 use Rattle.rules.specs.declared.Direction.TheVariants.{Back, Front, Left, Right}
 use Rattle.rules.specs.Store.{Point, Edge, InStore, depot_point, same_point}
-use Rattle.rules.specs.Plans.{Plan, WellFormed, multiplicity}
+use Rattle.rules.specs.Plans.{Plan, multiplicity}
 use Rattle.rules.specs.Lawful.{LawfulFor}
 use Rattle.rules.specs.Walks.{Walk, can_step, step_to, step_edge, letter_rank, NotAfter, same, earlier, later}
 use Rattle.rules.specs.FirstWalk.{WalkOf, without, first_way, step_then, first_from, first_walk, steps_of}

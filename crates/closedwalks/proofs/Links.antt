@@ -23,8 +23,11 @@ module _ (z : Layout) where
 
   -- no chain leaves it either
   pub linked_seen : (t : Edge → ℕ) (Seen : Point → Type 0) → Closed t Seen → (x y : Point) → Linked z t y x → Seen x → Seen y
-  linked_seen t Seen c x y here s = s
-  linked_seen t Seen c x y (step {w} e h j k) s = linked_seen t Seen c w y k (c e x w h j s)
+  linked_seen t Seen c x y l = go y x l
+    where
+      go : (y x : Point) → Linked z t y x → Seen x → Seen y
+      go y x here s = s
+      go y x (step {w} e h j k) s = go y w k (c e x w h j s)
 
   -- where a closed set holds x and only what can be reached from x, all that is trodden can be reached exactly if it is in the set
   pub reached_joined : (t : Edge → ℕ) (x : Point) (Seen : Point → Type 0) → Closed t Seen → Seen x → ((p : Point) → Seen p → Linked z t p x)
@@ -38,8 +41,11 @@ module _ (z : Layout) where
 
   link_wider : (f g : Edge → ℕ) (x y : Point) → Covers f g → Linked z f y x → Linked z g y x
   unfolding Trodden
-  link_wider f g x y h here = here
-  link_wider f g x y h (step {w} e t j k) = step e (t.0, h e t.0 t.1) j (link_wider f g w y h k)
+  link_wider f g x y h l = go y x l
+    where
+      go : (y x : Point) → Linked z f y x → Linked z g y x
+      go y x here = here
+      go y x (step {w} e t j k) = step e (t.0, h e t.0 t.1) j (go y w k)
 
   pub joined_same : (f g : Edge → ℕ) (x : Point) → Covers f g → Covers g f → Joined z f x → Joined z g x
   unfolding Joined Trodden
@@ -47,12 +53,18 @@ module _ (z : Layout) where
 
   module _ (t : Edge → ℕ) where
     link_join : (x w y : Point) → Linked z t w x → Linked z t y w → Linked z t y x
-    link_join x w y here l = l
-    link_join x w y (step {w = v} e h j k) l = step e h j (link_join v w y k l)
+    link_join x w y l m = go w x l m
+      where
+        go : (w x : Point) → Linked z t w x → Linked z t y w → Linked z t y x
+        go w x here l = l
+        go w x (step {w = v} e h j k) l = step e h j (go w v k l)
 
     pub link_turn : (x y : Point) → Linked z t y x → Linked z t x y
-    link_turn x y here = here
-    link_turn x y (step {w} e h j k) = link_join y w x (link_turn w y k) (step e h (joins_turn e x w j) here)
+    link_turn x y l = go y x l
+      where
+        go : (y x : Point) → Linked z t y x → Linked z t x y
+        go y x here = here
+        go y x (step {w} e h j k) = link_join y w x (go y w k) (step e h (joins_turn e x w j) here)
 
     -- a touched point is reached from where all that is trodden is
     touched_linked : (x y : Point) → Joined z t x → Touched z t y → Linked z t y x

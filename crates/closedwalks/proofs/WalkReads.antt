@@ -12,7 +12,7 @@ use Rattle.rules.specs.declared.Layout.{Layout}
 use Rattle.rules.specs.declared.Direction.{Direction}
 use Rattle.rules.specs.declared.Direction.TheVariants.{Back, Front, Left, Right}
 use Rattle.rules.specs.Store.{Point, Edge, along, front, back, InStore, Joins, depot_point, distance, same_edge}
-use Rattle.rules.specs.Plans.{Plan, WellFormed, multiplicity, action_at, plan_passes, plan_length, length_of}
+use Rattle.rules.specs.Plans.{Plan, multiplicity, action_at, plan_passes, plan_length, length_of}
 use Rattle.rules.specs.Lawful.{Trodden, Touched, Lawful}
 use Rattle.rules.specs.Walks.{Walk, can_step, step_to, step_edge, cross_edge, is_crossing, one, times_in, ClosedWalk, walk_treads, walk_length, walk_passes}
 use Rattle.closedwalks.specs.Ways.{PointOf, degree, Leads, treads_from, Joined}

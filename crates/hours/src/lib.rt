@@ -1,4 +1,6 @@
 // Which aisles are open by the clock (#106).
+#![tactic(auto)]
+
 ghost use Rattle.std.specs.Prelude.{◌≡◌, false, ℕ, ◌-◌, ◌≤◌, get_or};
 ghost use Rattle.rules.specs.Hours.{is_open};
 ghost use Rattle.values.specs.Values.{hours_of};

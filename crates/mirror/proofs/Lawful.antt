@@ -67,7 +67,7 @@ module _ (z y : Layout) (grid : SameGrid z y) where
         go (exchanged p q) (inl a) = inr (ap (turned_point z.cells) a ∙ sym q)
         go (exchanged p q) (inr a) = inl (ap (turned_point z.cells) a ∙ sym p)
 
-    turned_linked : {x w : Point} → Linked z t w x → Linked y u (turned_point z.cells w) (turned_point z.cells x)
+    turned_linked : {w x : Point} → Linked z t w x → Linked y u (turned_point z.cells w) (turned_point z.cells x)
     unfolding Trodden
     turned_linked here = here
     turned_linked (step {x} {w} e h j rest) = step (turned_edge z.cells e) (turned_trodden e h) (turned_joins e h.0 x w j) (turned_linked rest)

@@ -9,7 +9,6 @@ use native.Mathlib.Omega.{arith}
 use mathlib.Core.Option.{Option, none, some}
 use borrow.Author.Tests.{leb-true, le-leb, ltb-true, lt-ltb, ltb-false, le-ltb, eqb-true, eq-eqb, not-false}
 use lib.Dec.{leb, ltb, eqb}
-use lib.ListN.{length}
 use Rattle.rules.specs.declared.Posts.{Posts}
 use Rattle.rules.specs.declared.Posts.TheVariants.{NoPosts, Every, Sided}
 use Rattle.rules.specs.declared.Layout.{Layout}

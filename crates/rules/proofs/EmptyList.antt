@@ -12,7 +12,7 @@ use Rattle.rules.specs.declared.OrderLine.{OrderLine}
 use Rattle.rules.specs.declared.StockRecord.{StockRecord}
 use Rattle.rules.specs.Store.{layout_in_bounds}
 use Rattle.rules.specs.Jobs.{Job, empty_list}
-use Rattle.rules.specs.Plans.{Plan, WellFormed, plan_length}
+use Rattle.rules.specs.Plans.{Plan, WellFormed}
 use Rattle.rules.specs.Lawful.{Lawful, TreadsNothing, LawfulFor}
 use Rattle.rules.specs.Policies.{ShutVoid, Allowed}
 use Rattle.rules.specs.Serving.{Serves, PlanServes}

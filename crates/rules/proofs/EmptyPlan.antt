@@ -5,7 +5,7 @@ use native.Mathlib.Omega.{arith}
 use mathlib.Core.Path.{◌≡◌, refl, sym, ◌∙◌, ap, ap₂, subst}
 use mathlib.Core.Logic.{◌↔◌}
 use mathlib.Core.List.{[]}
-use mathlib.Core.Bool.{true, cond, ◌&&◌, and-eq-true_iff, true≢false}
+use mathlib.Core.Bool.{true, cond, and-eq-true_iff, true≢false}
 use mathlib.Core.Option.{none, some, get_or}
 use borrow.Author.Tests.{lt-ltb, le-leb, eq-eqb}
 use lib.ListN.{length, replicate, length-replicate}

@@ -1,15 +1,15 @@
 -- The first of the best in a list: it is one of the list, and none is shorter, as long as a shorter one is better. These laws hold whichever way
 -- `is_better` breaks a tie, so that an edit of how counts are compared is refused at its case.
 use Prim.Native.Nat.{ℕ, ◌≤◌, ◌<◌, min}
-use mathlib.Core.Path.{◌≡◌, refl, sym, ◌∙◌, ap}
+use mathlib.Core.Path.{◌≡◌, refl, ◌∙◌, ap}
 use mathlib.Core.Logic.{◌⊎◌, inl, inr}
 use mathlib.Core.List.Memᴰ
 use mathlib.Core.List.{List, [], ◌∷◌, Memᴰ}
-use mathlib.Core.Bool.{Bool, true, false, cond, ◌&&◌, ◌||◌}
+use mathlib.Core.Bool.{Bool, true, false}
 use mathlib.Core.Option.{Option, none, some, get_or}
-use lib.Dec.{eqb, ltb}
+use lib.Dec.{ltb}
 use native.Mathlib.Omega.{arith}
-use borrow.Author.Tests.{ltb-true, ltb-false, lt-ltb, le-ltb, eq-eqb, ne_eqb}
+use borrow.Author.Tests.{ltb-true, ltb-false, lt-ltb, le-ltb, ne_eqb}
 use Rattle.rules.specs.BestPlan.{is_better, better_of, first_best}
 
 -- a shorter one is better, and a longer one is not, whatever else is compared
@@ -82,6 +82,7 @@ module _ {A : Type 0} (better : A → A → Bool) where
   pub first_best_least : (len : A → ℕ) → LengthFirst len better → (xs : List A) (x : A) → first_best better xs ≡ some x
       → (y : A) → Memᴰ y xs → len x ≤ len y
   unfolding better_of
+  first_best_least len by_length [] x e y m = elim m [ ]
   first_best_least len by_length (w ∷ ws) x e y m = go (first_best better ws) refl (λ v p l. first_best_least len by_length ws v p y l) m
     where
       go : (o : Option A) → first_best better ws ≡ o → ((v : A) → first_best better ws ≡ some v → Memᴰ y ws → len v ≤ len y) → Memᴰ y (w ∷ ws) → len x ≤ len y

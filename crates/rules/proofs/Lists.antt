@@ -124,11 +124,11 @@ module _ {A : Type 0} where
 
   -- the test holds of every element
   pub all_true : (t : A → Bool) (xs : List A) → (all_of t xs ≡ true) ↔ ((x : A) → Memᴰ x xs → t x ≡ true)
-  all_true t xs = (each xs, whole xs)
+  all_true t xs = (λ h y. each y xs h, whole xs)
     where
-      each : (ys : List A) → all_of t ys ≡ true → (y : A) → Memᴰ y ys → t y ≡ true
-      each ys h y (Memᴰ.head {x} {xs} e) = ap t e ∙ ((and-eq-true_iff (t x) (all_of t xs)).0 h).0
-      each ys h y (Memᴰ.tail {x} {xs} m) = each xs ((and-eq-true_iff (t x) (all_of t xs)).0 h).1 y m
+      each : (y : A) (ys : List A) → all_of t ys ≡ true → Memᴰ y ys → t y ≡ true
+      each y ys h (Memᴰ.head {x} {xs} e) = ap t e ∙ ((and-eq-true_iff (t x) (all_of t xs)).0 h).0
+      each y ys h (Memᴰ.tail {x} {xs} m) = each y xs ((and-eq-true_iff (t x) (all_of t xs)).0 h).1 m
 
       whole : (ys : List A) → ((y : A) → Memᴰ y ys → t y ≡ true) → all_of t ys ≡ true
       whole [] h = refl
@@ -142,11 +142,11 @@ module _ {A : Type 0} where
 
   -- the test holds of no element
   pub any_false : (t : A → Bool) (xs : List A) → (any_of t xs ≡ false) ↔ ((x : A) → Memᴰ x xs → t x ≡ false)
-  any_false t xs = (each xs, whole xs)
+  any_false t xs = (λ h y. each y xs h, whole xs)
     where
-      each : (ys : List A) → any_of t ys ≡ false → (y : A) → Memᴰ y ys → t y ≡ false
-      each ys h y (Memᴰ.head {x} {xs} e) = ap t e ∙ (or-false (t x) (any_of t xs) h).0
-      each ys h y (Memᴰ.tail {x} {xs} m) = each xs (or-false (t x) (any_of t xs) h).1 y m
+      each : (y : A) (ys : List A) → any_of t ys ≡ false → Memᴰ y ys → t y ≡ false
+      each y ys h (Memᴰ.head {x} {xs} e) = ap t e ∙ (or-false (t x) (any_of t xs) h).0
+      each y ys h (Memᴰ.tail {x} {xs} m) = each y xs (or-false (t x) (any_of t xs) h).1 m
 
       whole : (ys : List A) → ((y : A) → Memᴰ y ys → t y ≡ false) → any_of t ys ≡ false
       whole [] h = refl
@@ -414,8 +414,11 @@ module _ {A : Type 0} where
   sum_none f (x ∷ xs) h = omega (arith, h x, sum_none f xs h)
 
   pub none_of_sum : (f : A → ℕ) (xs : List A) → sum_of f xs ≡ 0 → (x : A) → Memᴰ x xs → f x ≡ 0
-  none_of_sum f ys e y (Memᴰ.head {x} {xs} same) = let first : f x ≡ 0 = omega arith in ap f same ∙ first
-  none_of_sum f ys e y (Memᴰ.tail {x} {xs} m) = none_of_sum f xs (omega arith) y m
+  none_of_sum f xs e x m = each x xs e m
+    where
+      each : (y : A) (ys : List A) → sum_of f ys ≡ 0 → Memᴰ y ys → f y ≡ 0
+      each y ys e (Memᴰ.head {x} {xs} same) = let first : f x ≡ 0 = omega arith in ap f same ∙ first
+      each y ys e (Memᴰ.tail {x} {xs} m) = each y xs (omega arith) m
 
   -- a test that holds at every place of a list holds of all
   pub all_places : (t : A → Bool) (d : A) (xs : List A) → ((j : ℕ) → j < length xs → t (nth xs (suc j) d) ≡ true) → all_of t xs ≡ true

@@ -44,11 +44,11 @@ module _ (bytes sheet page work : List ℕ) where
           → page_by sheet page work q read ≡ page_refused r sheet page work
       go read (some p) t f = let same : p ≡ r = cc in ap (λ x. page_refused x sheet page work) same
       go (some job) none t f = let z : ◌≡◌ {A = ℕ} 0 1 = cc in absurd (omega arith)
-      go none none t f = absurd (never (ltb (length work) work_limit) t)
+      go none none t f = absurd (never _ (ltb (length work) work_limit) t)
         where
-          never : (b : Bool) → first_row ((b, WorkArea) ∷ (true, NotAJobFile) ∷ []) ≡ none → ⊥
-          never true h = let z : ◌≡◌ {A = ℕ} 0 1 = cc in omega arith
-          never false h = let z : ◌≡◌ {A = ℕ} 0 1 = cc in omega arith
+          never : (rows : List (Bool × Refusal)) (b : Bool) → first_row ((b, WorkArea) ∷ (true, NotAJobFile) ∷ rows) ≡ none → ⊥
+          never rows true h = let z : ◌≡◌ {A = ℕ} 0 1 = cc in omega arith
+          never rows false h = let z : ◌≡◌ {A = ℕ} 0 1 = cc in omega arith
 
   module _ (job : Job) (read : read_job bytes ≡ some job) (e : answer bytes sheet work ≡ served job sheet work) where
     -- of a call that is served without a page the page's space decides

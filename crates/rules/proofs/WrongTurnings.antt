@@ -3,12 +3,12 @@ use Prim.Native.Nat.{ℕ, zero, suc, ◌≤◌, ◌<◌}
 use native.Mathlib.Omega.{arith}
 use mathlib.Core.Path.{◌≡◌, refl, sym, ap, subst}
 use mathlib.Core.Logic.{◌⊎◌, inl, inr}
-use mathlib.Core.List.{List, [], ◌∷◌}
+use mathlib.Core.List.{[], ◌∷◌}
 use Rattle.rules.specs.declared.Posts.TheVariants.{NoPosts}
 use Rattle.rules.specs.declared.Layout.{Layout}
 use Rattle.rules.specs.declared.Action.TheVariants.{Void, Bottom, Gap}
 use Rattle.rules.specs.declared.Passage.TheVariants.{P00, P02}
-use Rattle.rules.specs.Store.{Point, Edge, along, front, back, start_of, end_of, back_height, Joins, InStore, depot_point}
+use Rattle.rules.specs.Store.{Point, Edge, along, front, back, start_of, end_of, Joins, InStore, depot_point}
 use Rattle.rules.specs.Plans.{Plan, action_at, passage_at, aisle_treads, multiplicity}
 use Rattle.rules.specs.Lawful.{Trodden, Touched, Linked, here, step, Lawful}
 
@@ -72,7 +72,7 @@ stays x w (front j) t p h = omega (arith, t.0.0, t.0.1)
 stays x w (back j) t p h = omega (arith, t.0.0, t.0.1)
 
 -- what is linked to the back crossing is in the back loop
-behind : {x : Point} (y : Point) → 3 ≤ y.height → Linked one_aisle (multiplicity two_loops) y x → 3 ≤ x.height
+behind : (y : Point) {x : Point} → 3 ≤ y.height → Linked one_aisle (multiplicity two_loops) y x → 3 ≤ x.height
 behind y h here = h
 behind y h (step {x = x} {w = w} e t j l) = stays x w e t j (behind y h l)
 

@@ -32,7 +32,7 @@ use Rattle.rules.specs.BestPlan.{best_plan}
 use Rattle.rules.specs.FirstWalk.{first_walk}
 use Rattle.rules.specs.Sheet.{action_text, passage_text, pick_text, runs_of}
 use Rattle.rules.specs.Page.{page_line, page_of}
-use Rattle.rules.specs.Answers.{Answer, reply_number, answer, output}
+use Rattle.rules.specs.Answers.{reply_number, answer, output}
 use Rattle.rules.specs.PageAnswers.{page_answer, page_output}
 
 -- a stock record: aisle cell article quantity

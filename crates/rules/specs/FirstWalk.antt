@@ -1,6 +1,6 @@
 -- Document 01, "Policies", the walk: of all closed walks from the depot that tread each edge exactly as the plan says,
 -- the one whose letters come first in the alphabet.
-use Rattle.std.specs.Prelude.{ℕ, zero, suc, ◌-◌, ◌≡◌, List, [], ◌∷◌, Bool, true, false, cond, ◌&&◌, ltb}
+use Rattle.std.specs.Prelude.{ℕ, zero, suc, ◌-◌, ◌≡◌, [], ◌∷◌, true, false, cond, ◌&&◌, ltb}
 use Rattle.std.proofs.Math.Option.{Option, none, some, get_or}
 use Rattle.rules.specs.declared.Layout.{Layout}
 use Rattle.rules.specs.declared.Direction.{Direction}

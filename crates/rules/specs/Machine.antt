@@ -3,7 +3,7 @@
 -- Its states are those of Ratliff and Rosenthal (the paper's names in brackets) and one more, `ending`.
 -- With the depot at the back (#109) the tables are read by the plan as it is seen from there (Turned): then 'front', BOTTOM and 02 below are the
 -- back, TOP and 20 of the plan. The test for aisles between is asked of the action itself.
-use Rattle.std.specs.Prelude.{ℕ, zero, suc, ◌-◌, Bool, true, false, cond, not, ◌&&◌, ◌||◌, ltb, leb, eqb}
+use Rattle.std.specs.Prelude.{ℕ, suc, ◌-◌, Bool, true, false, cond, not, ◌&&◌, ◌||◌, ltb, leb, eqb}
 use mathlib.Core.List.{List, [], ◌∷◌, tail}
 use Rattle.rules.specs.declared.Side.TheVariants.{FrontSide}
 use Rattle.rules.specs.declared.Policy.{Policy}

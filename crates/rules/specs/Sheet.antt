@@ -1,5 +1,5 @@
 -- Document 01, "Sheet": the text of the sections T, A, C, P, W.
-use Rattle.std.specs.Prelude.{ℕ, zero, suc, ◌+◌, List, [], ◌∷◌, ◌++◌, Bool, true, false, cond, eqb, length}
+use Rattle.std.specs.Prelude.{ℕ, suc, ◌+◌, List, [], ◌∷◌, ◌++◌, cond, eqb}
 use Rattle.rules.specs.declared.Policy.{Policy}
 use Rattle.rules.specs.declared.Action.{Action}
 use Rattle.rules.specs.declared.Action.TheVariants.{Void, Bottom, Top, Gap, Once, Twice}
@@ -8,7 +8,6 @@ use Rattle.rules.specs.declared.Direction.{Direction}
 use Rattle.rules.specs.declared.Direction.TheVariants.{Back, Front, Left, Right}
 use Rattle.rules.specs.declared.Pick.{Pick}
 use Rattle.rules.specs.declared.Run.{Run}
-use Rattle.rules.specs.Lists.{concat_of}
 use Rattle.rules.specs.Jobs.{Job}
 use Rattle.rules.specs.JobFile.{space, line_feed, field, header, policy_word, section_text}
 use Rattle.rules.specs.Plans.{Plan, plan_length, back_treads, front_treads}

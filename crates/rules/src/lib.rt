@@ -1,7 +1,8 @@
 // The values that code and definitions share. What they mean is said in specs/.
+#![tactic(auto)]
 
 // The side of the store at which the depot lies ("FRONT or BACK"): at the front or at the back crossing of its aisle.
-#[derive(Drop)]
+#[derive(Clone, Copy)]
 pub enum Side {
     FrontSide,
     BackSide,
@@ -9,7 +10,7 @@ pub enum Side {
 
 // The posts ("uprights") between the cells, and the depot's side, as the lines behind the first of the L section say them: no line
 // (`L 1`); the line `k u`, a post after every k cells, each u wide (`L 2`); or this line and the side's (`L 3`).
-#[derive(Drop)]
+#[derive(Clone, Copy)]
 pub enum Posts {
     NoPosts,
     Every(usize, usize),
@@ -17,7 +18,7 @@ pub enum Posts {
 }
 
 // The store: document 01's m, C, f, p, b, w and d, in the order of the job file, and its posts and the depot's side.
-#[derive(Drop)]
+#[derive(Clone, Copy)]
 pub struct Layout {
     pub aisles: usize,
     pub cells: usize,
@@ -30,7 +31,7 @@ pub struct Layout {
 }
 
 // The routing policies.
-#[derive(Drop)]
+#[derive(Clone, Copy)]
 pub enum Policy {
     Exact,
     Return,
@@ -41,7 +42,7 @@ pub enum Policy {
 }
 
 // A stock record: a cell, the article in it and how much of it.
-#[derive(Drop)]
+#[derive(Clone, Copy)]
 pub struct StockRecord {
     pub aisle: usize,
     pub cell: usize,
@@ -50,7 +51,7 @@ pub struct StockRecord {
 }
 
 // A line of the H section ("window"): an aisle, and the minutes of the day from which it is open and before which.
-#[derive(Drop)]
+#[derive(Clone, Copy)]
 pub struct Window {
     pub aisle: u16,
     pub from: u16,
@@ -58,14 +59,14 @@ pub struct Window {
 }
 
 // An order line ("list line"): an article and how much of it is ordered.
-#[derive(Drop)]
+#[derive(Clone, Copy)]
 pub struct OrderLine {
     pub article: usize,
     pub quantity: usize,
 }
 
 // What a plan does in one aisle.
-#[derive(Drop)]
+#[derive(Clone, Copy)]
 pub enum Action {
     Void,
     Bottom(usize),
@@ -76,7 +77,7 @@ pub enum Action {
 }
 
 // How often a plan treads the back and the front cross-aisle between two neighbouring aisles.
-#[derive(Drop)]
+#[derive(Clone, Copy)]
 pub enum Passage {
     P00,
     P02,
@@ -86,7 +87,7 @@ pub enum Passage {
 }
 
 // A step of a walk ("B, F, L, R"), in the order of the alphabet.
-#[derive(Drop)]
+#[derive(Clone, Copy)]
 pub enum Direction {
     Back,
     Front,
@@ -95,14 +96,14 @@ pub enum Direction {
 }
 
 // Equal steps run together: a direction and a step count.
-#[derive(Drop)]
+#[derive(Clone, Copy)]
 pub struct Run {
     pub direction: Direction,
     pub steps: usize,
 }
 
 // What is taken from one cell.
-#[derive(Drop)]
+#[derive(Clone, Copy)]
 pub struct Pick {
     pub aisle: usize,
     pub cell: usize,
@@ -111,7 +112,7 @@ pub struct Pick {
 }
 
 // The causes of a refusal, in the order of document 01's table; among them that of request #106, behind them that of #103.
-#[derive(Drop)]
+#[derive(Clone, Copy)]
 pub enum Refusal {
     WorkArea,
     NotAJobFile,
@@ -128,14 +129,14 @@ pub enum Refusal {
 }
 
 // What a call answers: the sheet's byte count, or the cause of the refusal.
-#[derive(Drop)]
+#[derive(Clone, Copy)]
 pub enum Reply {
     Served(usize),
     Refused(Refusal),
 }
 
 // What a page call answers: as a call without a page does, and the page's byte count.
-#[derive(Drop)]
+#[derive(Clone, Copy)]
 pub struct PageReply {
     pub reply: Reply,
     pub page: usize,

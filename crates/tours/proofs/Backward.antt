@@ -173,24 +173,24 @@ module _ {z : Layout} {plan : Plan} (law : LawfulFront z plan) where
         → Seen (suc i) (suc i) e
         → up_to (suc i) left right (start_of z e) ≡ up_to (suc i) left right (end_of z e)
     unfolding start_of end_of back_height Trodden multiplicity InStore
-    beyond left right old at_front at_back (along j n) t seen =
+    beyond left right old by_front by_back (along j n) t seen =
         up_to_left (suc i) left right (point_at j n) seen
         ∙ (old (along j n) t seen ∙ sym (up_to_left (suc i) left right (point_at j (suc n)) seen))
-    beyond left right old at_front at_back (front j) t seen = elim (below j i seen) [
+    beyond left right old by_front by_back (front j) t seen = elim (below j i seen) [
       | inl g ↦
           up_to_left (suc i) left right (front_of j) (omega arith)
           ∙ (old (front j) t g ∙ sym (up_to_left (suc i) left right (front_of (suc j)) (omega arith)))
       | inr p ↦ rw p (
           up_to_left (suc i) left right (front_of (suc i)) (omega arith)
-          ∙ (at_front (rw p at t.1) ∙ sym (up_to_right (suc i) left right (front_of (suc (suc i))) (omega arith))))
+          ∙ (by_front (rw p at t.1) ∙ sym (up_to_right (suc i) left right (front_of (suc (suc i))) (omega arith))))
     ]
-    beyond left right old at_front at_back (back j) t seen = elim (below j i seen) [
+    beyond left right old by_front by_back (back j) t seen = elim (below j i seen) [
       | inl g ↦
           up_to_left (suc i) left right (back_of z j) (omega arith)
           ∙ (old (back j) t g ∙ sym (up_to_left (suc i) left right (back_of z (suc j)) (omega arith)))
       | inr p ↦ rw p (
           up_to_left (suc i) left right (back_of z (suc i)) (omega arith)
-          ∙ (at_back (rw p at t.1) ∙ sym (up_to_right (suc i) left right (back_of z (suc (suc i))) (omega arith))))
+          ∙ (by_back (rw p at t.1) ∙ sym (up_to_right (suc i) left right (back_of z (suc (suc i))) (omega arith))))
     ]
 
     cut_passage : (left : Point → Bool)
@@ -198,11 +198,11 @@ module _ {z : Layout} {plan : Plan} (law : LawfulFront z plan) where
         → (0 < front_treads (passage_at plan (suc i)) → left (front_of (suc i)) ≡ false)
         → (0 < back_treads (passage_at plan (suc i)) → left (back_of z (suc i)) ≡ true)
         → Cut z (multiplicity plan) (suc i) (suc i) (suc (suc i))
-    cut_passage left old at_front at_back =
+    cut_passage left old by_front by_back =
         let right = higher 0 in
         record {
           inside = up_to (suc i) left right;
-          keeps = beyond left right old at_front (λ t. at_back t ∙ sym (lt-ltb 0 (suc z.cells) (omega arith)));
+          keeps = beyond left right old by_front (λ t. by_back t ∙ sym (lt-ltb 0 (suc z.cells) (omega arith)));
           back_in = up_to_right (suc i) left right (back_of z (suc (suc i))) (omega arith) ∙ lt-ltb 0 (suc z.cells) (omega arith);
           front_out = up_to_right (suc i) left right (front_of (suc (suc i))) (omega arith);
         }
@@ -220,8 +220,8 @@ module _ {z : Layout} {plan : Plan} (law : LawfulFront z plan) where
     parted : (b : Bool) → Free b (passage_at plan (suc i)) → Cut z (multiplicity plan) (suc i) i (suc i)
         → Touched z (multiplicity plan) (front_of (suc i)) → Touched z (multiplicity plan) (back_of z (suc i)) → ⊥
     unfolding start_of end_of back_height
-    parted b free c at_front at_back =
-        one_side inside keeps (back_of z (suc i)) (front_of (suc i)) at_back at_front
+    parted b free c by_front by_back =
+        one_side inside keeps (back_of z (suc i)) (front_of (suc i)) by_back by_front
         (up_to_left (suc i) c.inside right (back_of z (suc i)) (omega arith) ∙ c.back_in)
         (up_to_left (suc i) c.inside right (front_of (suc i)) (omega arith) ∙ c.front_out)
       where

@@ -191,7 +191,7 @@ module _ {z : Layout} {plan : Plan} (wf : WellFormed z plan) (i : ℕ) (high : s
       → Some z (multiplicity plan) s'
       → Before z plan (suc i) s'
   unfolding start_of Trodden InStore multiplicity back_height
-  over_passage_lem {s} s' f keep at_front at_back at_depot bridge some =
+  over_passage_lem {s} s' f keep by_front by_back at_depot bridge some =
       record {
         covers = covers;
         depot = λ l. elim (below z.depot i (omega arith)) [
@@ -206,11 +206,11 @@ module _ {z : Layout} {plan : Plan} (wf : WellFormed z plan) (i : ℕ) (high : s
       covers (along j k) t seen = keep (point_at j k) (f.covers (along j k) t seen)
       covers (front j) t seen = elim (below j i seen) [
         | inl l ↦ keep (front_of j) (f.covers (front j) t l)
-        | inr p ↦ rw p (at_front (rw p at t.1))
+        | inr p ↦ rw p (by_front (rw p at t.1))
       ]
       covers (back j) t seen = elim (below j i seen) [
         | inl l ↦ keep (back_of z j) (f.covers (back j) t l)
-        | inr p ↦ rw p (at_back (rw p at t.1))
+        | inr p ↦ rw p (by_back (rw p at t.1))
       ]
 
   -- closing off: the depot is linked to the crossing where all ends

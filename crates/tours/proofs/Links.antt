@@ -9,7 +9,7 @@ use Rattle.rules.specs.Lawful.{Trodden, Touched, Linked, here, step}
 
 module _ {z : Layout} {treads : Edge → ℕ} where
   -- chains can be joined
-  pub linked_trans : {x w y : Point} → Linked z treads y w → Linked z treads w x → Linked z treads y x
+  pub linked_trans : {y w x : Point} → Linked z treads y w → Linked z treads w x → Linked z treads y x
   linked_trans p here = p
   linked_trans p (step e h j q) = step e h j (linked_trans p q)
 
@@ -23,14 +23,14 @@ module _ {z : Layout} {treads : Edge → ℕ} where
   edge_back e h = step e h (inr (refl, refl)) here
 
   -- chains can be turned round
-  pub linked_sym : {x y : Point} → Linked z treads y x → Linked z treads x y
+  pub linked_sym : {y x : Point} → Linked z treads y x → Linked z treads x y
   unfolding Joins
   linked_sym here = here
   linked_sym (step e h (inl j) q) = linked_trans (step e h (inr j) here) (linked_sym q)
   linked_sym (step e h (inr j) q) = linked_trans (step e h (inl j) here) (linked_sym q)
 
   -- the end of a chain from a touched point is touched
-  pub touched_end : {x y : Point} → Touched z treads x → Linked z treads y x → Touched z treads y
+  pub touched_end : {y x : Point} → Touched z treads x → Linked z treads y x → Touched z treads y
   unfolding Joins Touched
   touched_end t here = t
   touched_end t (step e h (inl j) q) = touched_end (e, h, inr j.1) q
@@ -39,7 +39,7 @@ module _ {z : Layout} {treads : Edge → ℕ} where
   -- a chain does not leave a set that no trodden edge leaves
   pub linked_inside : (inside : Point → Bool)
       → ((e : Edge) → Trodden z treads e → inside (start_of z e) ≡ inside (end_of z e))
-      → {x y : Point} → Linked z treads y x → inside x ≡ inside y
+      → {y x : Point} → Linked z treads y x → inside x ≡ inside y
   unfolding Joins
   linked_inside inside keeps here = refl
   linked_inside inside keeps (step e h (inl j) q) =

@@ -1,7 +1,5 @@
 -- What the values stand for.
-use Rattle.std.specs.Prelude.{ℕ, ◌-◌, ◌≤◌, ◌≡◌, List, map, cond, take}
-use Rattle.rules.specs.declared.Action.{Action}
-use Rattle.rules.specs.declared.Passage.{Passage}
+use Rattle.std.specs.Prelude.{◌-◌, ◌≤◌, ◌≡◌, List, map, cond, take}
 use Rattle.rules.specs.declared.Window.{Window}
 use Rattle.rules.specs.declared.OrderLine.{OrderLine}
 use Rattle.rules.specs.declared.Pick.{Pick}
