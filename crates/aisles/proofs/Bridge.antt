@@ -21,6 +21,7 @@ module _ {A : Type 0} (no_way : ℕ) (f : A → ℕ) where
 
   -- and at most each way
   below : (a : A) (xs : List A) → Memᴰ a xs → least_or no_way f xs ≤ f a
+  below a [] m = elim m [ ]
   below a (x ∷ xs) (Memᴰ.head e) = omega (arith, ap f e)
   below a (x ∷ xs) (Memᴰ.tail m) = omega (arith, below a xs m)
 

@@ -10,7 +10,7 @@ use between::positions::{aisle_length, position_of};
 use rules::Layout;
 
 // An action as numbers: its kind, and the cells that its front and its back part reach.
-#[derive(Drop)]
+#[derive(Clone, Copy)]
 pub struct Candidate {
     pub kind: usize,
     pub front: usize,

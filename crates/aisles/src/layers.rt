@@ -22,7 +22,7 @@ use values::depot_side;
 
 // What the table needs of an aisle: the layout, the policy, whether it may be entered (0 or 1), the weight, where it lies
 // (left of the depot 0, at it 1, right of it 2), how many passages are tried behind it, and the test for aisles between.
-#[derive(Drop)]
+#[derive(Clone, Copy)]
 pub struct Aisle {
     pub layout: Layout,
     pub policy: usize,
@@ -36,7 +36,7 @@ pub struct Aisle {
 // What the turns of a kind of action cost, by the cell that the front and the back part reach: 65,535 where it has none,
 // or where a turn is left out. `from` is the least height of a back turn that goes with a front turn, `top` that of the back
 // crossing.
-#[derive(Drop)]
+#[derive(Clone, Copy)]
 pub struct Turns {
     pub front: [u16; HEIGHTS],
     pub back: [u16; HEIGHTS],
@@ -45,7 +45,7 @@ pub struct Turns {
 }
 
 // An aisle, and which cells of it supply nothing new.
-#[derive(Drop)]
+#[derive(Clone, Copy)]
 struct Lane {
     aisle: Aisle,
     same: Repeats,

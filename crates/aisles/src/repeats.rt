@@ -8,7 +8,7 @@ use between::HEIGHTS;
 use demand::digits::DEMANDS;
 
 // For the front and the back map of an aisle: whether the row of height h + 1 is that of height h.
-#[derive(Drop)]
+#[derive(Clone, Copy)]
 pub struct Repeats {
     pub front: [bool; HEIGHTS],
     pub back: [bool; HEIGHTS],

@@ -1,4 +1,6 @@
 // The test for aisles between the first and the last entered, as data: MIDPOINT's and LARGEST's.
+#![tactic(auto)]
+
 mod gaps;
 mod halves;
 pub mod positions;
@@ -17,7 +19,7 @@ pub const HEIGHTS: usize = 26;
 // The test for aisles between the first and the last entered, by height: whether the front part of an action may turn there
 // (0: it has none), whether its back part may (the back crossing: it has none), and the least height of a back turn that goes with
 // a front turn there.
-#[derive(Drop)]
+#[derive(Clone, Copy)]
 pub struct Between {
     pub front: [bool; HEIGHTS],
     pub back: [bool; HEIGHTS],

@@ -15,7 +15,7 @@ use Rattle.rules.specs.Jobs.{Job, open_stock}
 use Rattle.rules.specs.Refusals.{stock_in_bounds, weight}
 use Rattle.rules.proofs.Lists.{sum_agree, sum_plus}
 use Rattle.rules.proofs.Admission.{stock_within, open_in_stock}
-use Rattle.optimum.specs.Demand.{gains, less, whole_demand, met, radices, code_of, demand_of, less_code}
+use Rattle.optimum.specs.Demand.{less, whole_demand, met, radices, code_of, demand_of, less_code}
 use Rattle.optimum.proofs.Radix.{Positive, code_of_demand, less_code_lem, radices_positive, count_weight}
 
 -- the stock of an article in those cells of aisle j of which a test holds, and what it supplies to each line

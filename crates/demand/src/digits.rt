@@ -9,14 +9,14 @@ use values::JobValue;
 pub const DEMANDS: usize = 256;
 
 // An order line as a digit: the product of the radices before it, and for each demand number the digit, what the line lacks there.
-#[derive(Drop)]
+#[derive(Clone, Copy)]
 pub struct Digit {
     pub stride: usize,
     pub lacks: [u8; DEMANDS],
 }
 
 // The order lines as digits, the first line the lowest, and the weight of the list.
-#[derive(Drop)]
+#[derive(Clone, Copy)]
 pub struct Digits {
     pub digit: [Digit; 8],
     pub weight: usize,

@@ -1,5 +1,7 @@
 // What can be reached along edges that are left: a flood fill over the points. `left` has the treads left of each edge, `seen` a number
 // for each point, 0 where it is not seen. The points lie below `end`, where the last aisle's numbers end.
+#![tactic(auto)]
+
 ghost use Rattle.std.specs.Prelude.{◌≡◌, true, ◌↔◌, ◌+◌, ◌-◌, ◌≤◌, ◌<◌, length};
 ghost use Rattle.rules.specs.Store.{layout_in_bounds};
 ghost use Rattle.flood.specs.Points.{depot_number};

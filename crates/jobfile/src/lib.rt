@@ -1,4 +1,6 @@
 // Reading a job: job bytes to the job by value, or to the first refusal that applies.
+#![tactic(auto)]
+
 mod amounts;
 mod bounds;
 pub mod stock;
@@ -16,7 +18,7 @@ use rules::Refusal;
 use values::JobValue;
 
 // What becomes of a job: no refusal applies to it, or the first that does.
-#[derive(Drop)]
+#[derive(Clone, Copy)]
 pub enum Verdict {
     Admitted,
     Refused(Refusal),
@@ -24,7 +26,7 @@ pub enum Verdict {
 
 // The answer to job bytes: the verdict, and the job with its first 384 records, its first 64 windows and its first 8 lines, refused
 // or not. Where there is no job file, the job is blank. And how many records the stock test looked at (#105), 0 where it was not made.
-#[derive(Drop)]
+#[derive(Clone, Copy)]
 pub struct ReadJob {
     pub verdict: Verdict,
     pub job: JobValue,
@@ -32,7 +34,7 @@ pub struct ReadJob {
 }
 
 // The verdict on a job that was read, and how many records the stock test looked at.
-#[derive(Drop)]
+#[derive(Clone, Copy)]
 struct Decision {
     verdict: Verdict,
     looked: usize,

@@ -9,7 +9,7 @@ use hours::open_aisles;
 use values::JobValue;
 
 // The answer of the stock test: whether some line exceeds all the stock of its article, and how many records were looked at.
-#[derive(Drop)]
+#[derive(Clone, Copy)]
 pub struct StockTest {
     pub short: bool,
     pub looked: usize,

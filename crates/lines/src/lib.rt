@@ -1,4 +1,6 @@
 // The lines of the sections: each is written, and its byte count told, by its definition.
+#![tactic(auto)]
+
 pub mod text;
 
 ghost use Rattle.std.specs.Prelude.{◌≡◌, ◌++◌, ◌≤◌, length, take};

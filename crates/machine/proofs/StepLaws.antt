@@ -1,5 +1,5 @@
 -- The numbers of states and policies, and the steps by kind, are the machine's.
-use Prim.Native.Nat.{ℕ, ◌≤◌, ◌<◌}
+use Prim.Native.Nat.{◌≤◌, ◌<◌}
 use native.Mathlib.Omega.{arith}
 use mathlib.Core.Path.{◌≡◌, refl}
 use mathlib.Core.Bool.{Bool, cond, ◌&&◌, ◌||◌}

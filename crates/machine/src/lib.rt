@@ -11,6 +11,8 @@
 //
 // The tables are those of a depot at the front. With the depot at the back they are asked by the kind and by the passage as they are seen
 // from there (`seen_kind`, `seen_passage`).
+#![tactic(auto)]
+
 ghost use Rattle.std.specs.Prelude.{◌≡◌, false, ◌&&◌, ◌||◌, ◌+◌, ◌*◌, ◌≤◌, ◌<◌, eqb};
 ghost use Rattle.rules.specs.declared.Side.TheVariants.{FrontSide};
 ghost use Rattle.rules.specs.Turned.{passage_from};

@@ -1,4 +1,6 @@
 // The cells of the stock records that were read, marked as bits.
+#![tactic(auto)]
+
 ghost use Rattle.std.specs.Prelude.{◌≡◌};
 ghost use Rattle.rules.specs.Store.{within};
 ghost use Rattle.marks.specs.Marking.{no_marks, mark_of};
@@ -13,7 +15,7 @@ pub fn is_within(a: usize, b: usize, n: usize) -> bool
 }
 
 // The cells of the records that were read: each aisle's as bits of a u32, and whether a record's bit was set already.
-#[derive(Drop)]
+#[derive(Clone, Copy)]
 pub struct Marks {
     pub seen: [u32; 16],
     pub twice: bool,

@@ -1,4 +1,6 @@
 // The clipboard page (#103): a line for each pick, written into lent space.
+#![tactic(auto)]
+
 mod columns;
 
 ghost use Rattle.std.specs.Prelude.{◌≡◌, ◌*◌, ◌≤◌, length};

@@ -1,4 +1,6 @@
 // The picks: through aisles, then cells, upwards; each passed cell gives what its line still lacks, as far as stock goes.
+#![tactic(auto)]
+
 ghost use Rattle.std.specs.Prelude.{◌≡◌, ◌≤◌, ◌<◌, get_or, set};
 ghost use Rattle.rules.specs.Jobs.{Job};
 ghost use Rattle.rules.specs.Plans.{passes_cell};
@@ -18,7 +20,7 @@ const NOTHING: Pick = Pick {
 };
 
 // Whether an action passes a cell of its aisle.
-fn passes(action: Action, cell: usize) -> bool
+pub fn passes(action: Action, cell: usize) -> bool
     ensures { result ≡ passes_cell action cell }
 {
     match action {

@@ -4,27 +4,27 @@ ghost use Rattle.rules.specs.JobFile.{read_byte, read_field, read_header, read_w
 ghost use Rattle.reading.specs.Places.{digits_at, step_of, field_of};
 
 // A place in the job's bytes.
-#[derive(Drop)]
+#[derive(Clone, Copy)]
 pub struct Cursor {
     pub at: usize,
 }
 
 // What reading fixed bytes finds: the place behind them, or other bytes.
-#[derive(Drop)]
+#[derive(Clone, Copy)]
 pub enum Step {
     Next(Cursor),
     Bad,
 }
 
 // What reading a number finds.
-#[derive(Drop)]
+#[derive(Clone, Copy)]
 pub enum Field {
     Number(usize, Cursor),
     Bad,
 }
 
 // A run of digits: its value, 65,536 where it is larger, and where it ends.
-#[derive(Drop)]
+#[derive(Clone, Copy)]
 pub struct Digits {
     pub value: usize,
     pub end: usize,

@@ -12,7 +12,7 @@ use rules::Window;
 use values::HoursValue;
 
 // The windows that were read: whether all lines were, the place behind them, their number and the first 64 of them.
-#[derive(Drop)]
+#[derive(Clone, Copy)]
 struct WindowsRead {
     pub ok: bool,
     pub next: Cursor,
@@ -21,7 +21,7 @@ struct WindowsRead {
 }
 
 // The hours that were read: whether they could be, the place behind them, and the hours with the first 64 windows.
-#[derive(Drop)]
+#[derive(Clone, Copy)]
 pub struct HoursRead {
     pub ok: bool,
     pub next: Cursor,

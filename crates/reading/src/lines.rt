@@ -7,49 +7,49 @@ use crate::cursor::{Cursor, Field, Step};
 use rules::{Layout, OrderLine, Policy, Posts, Side, StockRecord, Window};
 
 // What reading a policy word finds.
-#[derive(Drop)]
+#[derive(Clone, Copy)]
 pub enum PolicyWord {
     Named(Policy, Cursor),
     Bad,
 }
 
 // What reading the word for the depot's side finds.
-#[derive(Drop)]
+#[derive(Clone, Copy)]
 pub enum SideWord {
     Named(Side, Cursor),
     Bad,
 }
 
 // What reading the first line of the L section finds, or the whole section.
-#[derive(Drop)]
+#[derive(Clone, Copy)]
 pub enum LayoutLine {
     Read(Layout, Policy, Cursor),
     Bad,
 }
 
 // What reading its second line finds, or its second and third.
-#[derive(Drop)]
+#[derive(Clone, Copy)]
 pub enum PostsLine {
     Read(Posts, Cursor),
     Bad,
 }
 
 // What reading a line of the S section finds.
-#[derive(Drop)]
+#[derive(Clone, Copy)]
 pub enum RecordLine {
     Read(StockRecord, Cursor),
     Bad,
 }
 
 // What reading a line of the H section finds.
-#[derive(Drop)]
+#[derive(Clone, Copy)]
 pub enum WindowLine {
     Read(Window, Cursor),
     Bad,
 }
 
 // What reading a line of the D section finds.
-#[derive(Drop)]
+#[derive(Clone, Copy)]
 pub enum ListLine {
     Read(OrderLine, Cursor),
     Bad,

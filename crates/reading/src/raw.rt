@@ -13,7 +13,7 @@ use values::JobValue;
 
 // A job as it stands in a job file, with the first 384 records, the first 64 windows and the first 8 lines of it, and whether a
 // cell stands in two records; or no job file.
-#[derive(Drop)]
+#[derive(Clone, Copy)]
 pub struct RawJob {
     pub ok: bool,
     pub job: JobValue,

@@ -13,7 +13,7 @@ use rules::{Layout, OrderLine, Posts, StockRecord};
 
 // The stock records that were read: whether all lines were, the place behind them, their number, the first 384 of them, and
 // whether a cell stands in two.
-#[derive(Drop)]
+#[derive(Clone, Copy)]
 pub struct StockRead {
     pub ok: bool,
     pub next: Cursor,
@@ -23,7 +23,7 @@ pub struct StockRead {
 }
 
 // The order lines that were read: whether all lines were, the place behind them, their number and the first 8 of them.
-#[derive(Drop)]
+#[derive(Clone, Copy)]
 pub struct ListRead {
     pub ok: bool,
     pub next: Cursor,

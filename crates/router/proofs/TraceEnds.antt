@@ -11,7 +11,6 @@ use Rattle.rules.specs.declared.Action.{Action}
 use Rattle.rules.specs.declared.Passage.{Passage}
 use Rattle.rules.specs.Jobs.{Job}
 use Rattle.rules.specs.Plans.{WellFormed, plan_length}
-use Rattle.rules.specs.Policies.{entered_aisles}
 use Rattle.rules.specs.Refusals.{Admitted, weight}
 use Rattle.rules.specs.BestPlan.{best_plan}
 use Rattle.rules.specs.Machine.{nothing}

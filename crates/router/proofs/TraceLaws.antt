@@ -1,5 +1,5 @@
 -- One more aisle of the best plan is read out of the table.
-use Prim.Native.Nat.{ℕ, suc, ◌+◌, ◌*◌, ◌-◌, ◌^◌, ◌≤◌, ◌<◌}
+use Prim.Native.Nat.{ℕ, suc, ◌+◌, ◌*◌, ◌-◌, ◌≤◌, ◌<◌}
 use native.Mathlib.Omega.{arith}
 use mathlib.Core.Path.{◌≡◌, refl, sym, ◌∙◌, ap, ap₂, subst}
 use mathlib.Core.List.{List, [], ◌∷◌, ◌++◌, map, append_assoc}
@@ -21,7 +21,7 @@ use Rattle.rules.specs.Machine.{State, nothing, closed, at_front, at_back, odd, 
 use Rattle.rules.proofs.Lists.{map-append}
 use Rattle.rules.proofs.Enumeration.{actions_sound}
 use Rattle.optimum.specs.Least.{sum_up_to, first_at}
-use Rattle.optimum.specs.Table.{Problem, Rest, passages_behind, on_from, over_passage, over_action, after_action, value, first_passage, first_action, choose}
+use Rattle.optimum.specs.Table.{Problem, Rest, passages_behind, on_from, over_passage, over_action, value, first_passage, first_action, choose}
 use Rattle.optimum.specs.Demand.{gains, less, radices, demand_of, less_code}
 use Rattle.optimum.specs.Routing.{no_tour, no_key, entering, routing, all_actions}
 use Rattle.optimum.proofs.Choice.{first_at_holds}
@@ -33,7 +33,6 @@ use Rattle.demand.specs.Maps.{MapsReady}
 use Rattle.aisles.specs.declared.layers.Aisle.{Aisle}
 use Rattle.aisles.specs.Candidates.{candidate_of, candidate_length}
 use Rattle.aisles.specs.Layers.{entered_by}
-use Rattle.rows.specs.Rows.{next_at}
 use Rattle.rows.specs.Pairs.{next_key, Holds}
 use Rattle.table.specs.Crossings.{AfterFilled}
 use Rattle.table.specs.TableHolds.{aisle_of, values, behind, AfterHolds}
@@ -45,7 +44,7 @@ use Rattle.router.specs.declared.choices.Sought.{Sought}
 use Rattle.router.specs.declared.choices.Taken.{Taken}
 use Rattle.router.specs.declared.choices.Crossed.{Crossed}
 use Rattle.router.specs.declared.trace.Trace.{Trace}
-use Rattle.router.specs.Choosing.{Attained, ActionTaken, PassageTaken, value_at, step_to, cross_to, with_aisle, over_attains, on_attains, sought_behind}
+use Rattle.router.specs.Choosing.{Attained, ActionTaken, PassageTaken, value_at, step_to, cross_to, with_aisle, over_attains, on_attains}
 use Rattle.router.specs.Tracing.{stages_rest, with_stage, state_at, demand_at, value_from, rest_from, Counts, Traced, TraceAsked}
 use Rattle.router.proofs.FirstRanks.{first_member, first_tested}
 use Rattle.router.proofs.Attaining.{ones_with, with_below, key_parts, attained_key}

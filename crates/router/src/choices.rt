@@ -21,7 +21,7 @@ use table::passages::passage_length;
 use values::{Stage, depot_side};
 
 // Where a trace stands: the number of the state, and that of the demand that is open.
-#[derive(Drop)]
+#[derive(Clone, Copy)]
 pub struct At {
     pub state: usize,
     pub demand: usize,
@@ -29,7 +29,7 @@ pub struct At {
 
 // What is sought from where a trace stands: a length, and the entered aisles of the whole plan. The aisles that it has entered so far are a set,
 // a bit each; the bit of the aisle that it is in has the number `aisle`, and so many are left behind it.
-#[derive(Drop)]
+#[derive(Clone, Copy)]
 pub struct Sought {
     pub at: At,
     pub length: usize,
@@ -40,14 +40,14 @@ pub struct Sought {
 }
 
 // An action that is chosen, and what is sought behind it.
-#[derive(Drop)]
+#[derive(Clone, Copy)]
 pub struct Taken {
     pub action: Action,
     pub sought: Sought,
 }
 
 // The stage of an aisle whose passage is chosen too, where that leads, and the aisles that are entered by then.
-#[derive(Drop)]
+#[derive(Clone, Copy)]
 pub struct Crossed {
     pub stage: Stage,
     pub at: At,

@@ -1,6 +1,8 @@
 // The router: for an admitted job, of the shortest allowed plans that serve its list the first of those that enter the fewest aisles.
 //
 // Read out of the table (crate `table`) aisle by aisle, from the first to the last; for an empty list it treads nothing.
+#![tactic(auto)]
+
 mod choices;
 mod ranks;
 mod trace;

@@ -17,7 +17,7 @@ use values::{PlanValue, Stage};
 
 // A trace: the stages found, where it stands behind them, the set of the aisles that they enter, and the entered aisles of the whole plan. At the start
 // it stands in state 0, nothing trodden, and at demand weight - 1, the whole list.
-#[derive(Drop)]
+#[derive(Clone, Copy)]
 pub struct Trace {
     pub stages: [Stage; 16],
     pub at: At,

@@ -4,6 +4,8 @@
 // 3, 7 and so on. Of two such numbers the larger has all the ones of the lesser, so 'or' is the larger, and eight states are taken at
 // once. Ones beside 'none' mean nothing.
 // The states have the numbers of machine/src/lib.rt: 0 nothing to 7 ending; 8, dead, has no place in a row.
+#![tactic(auto)]
+
 ghost use Rattle.std.specs.Prelude.{◌*◌, ◌+◌, ◌-◌, ◌<◌, ◌≤◌, min, length, cond, ◌≡◌};
 ghost use Rattle.demand.specs.Digits.{demands};
 ghost use Rattle.optimum.specs.Routing.{sat};
@@ -56,7 +58,7 @@ fn ones_of(here: u16, mine: u16, way: u16, theirs: u16) -> u16
 }
 
 // The lengths of eight states, and the ones beside them.
-#[derive(Drop)]
+#[derive(Clone, Copy)]
 pub struct Pair {
     pub lengths: [u16; STATES],
     pub ones: [u16; STATES],

@@ -1,4 +1,6 @@
 // Equal letters run together.
+#![tactic(auto)]
+
 ghost use Rattle.std.specs.Prelude.{◌≡◌, ◌≤◌, length, take, drop};
 ghost use Rattle.values.specs.Values.{runs_of_value};
 ghost use Rattle.runs.specs.Lettered.{direction_of, run_ends, letter_runs};

@@ -21,7 +21,7 @@ use values::Shelf;
 
 // What the table needs of a job: the layout, the number of the policy, what each cell holds for the order lines and which
 // aisles are open, and the order lines as digits.
-#[derive(Drop)]
+#[derive(Clone, Copy)]
 pub struct Order {
     pub layout: Layout,
     pub policy: usize,

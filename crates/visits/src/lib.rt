@@ -2,6 +2,8 @@
 //
 // Points are numbered as in `flood`, 26 for each aisle: (aisle, height) is 26 * aisle + height. At the number of a pick's cell its number is noted;
 // the steps of the walk are followed, and a number is taken out where the walk first meets it.
+#![tactic(auto)]
+
 ghost use Rattle.std.specs.Prelude.{◌≡◌, ℕ, ◌≤◌, ◌<◌, length, take};
 ghost use mathlib.Core.List.{[], ◌∷◌, map, Memᴰ};
 ghost use Rattle.rules.specs.Page.{along_walk};
@@ -23,7 +25,7 @@ const NOTHING: Pick = Pick {
 };
 
 // Where a walk has come to: the number of the point, and how many picks it has met.
-#[derive(Drop)]
+#[derive(Clone, Copy)]
 struct Place {
     at: usize,
     count: usize,

@@ -1,4 +1,6 @@
 // The walk of a plan: of all closed walks that tread each edge exactly as the plan says, the one whose letters come first.
+#![tactic(auto)]
+
 mod letters;
 mod numbers;
 mod treads;
