@@ -9,12 +9,14 @@
 // once; 383 to 385 records, 500 of one cell, and files of 16,384 and 16,385 bytes. By request #106: the sections M and H with and without
 // each other, in their place and out of it, their numbers at the bounds and one beyond, and the stock of shut aisles. By request #109:
 // the third line of the L section, its word spelt otherwise or missing, other counts, and the posts' numbers before it.
+#![tactic(auto)]
+
 ghost use Rattle.std.specs.Prelude.{◌≡◌, ◌≤◌, length};
 ghost use Rattle.rules.specs.Refusals.{number_of};
 
 use jobfile::Verdict;
-use libc::{STDIN_FILENO, STDOUT_FILENO};
 use rules::Refusal;
+use std::io::{Result, Write};
 
 // The number of a refusal.
 fn number_of(refusal: Refusal) -> u64
@@ -37,26 +39,26 @@ fn number_of(refusal: Refusal) -> u64
 }
 
 // Prints the number of the verdict on some bytes.
-fn print_verdict(bytes: &[u8]) {
+fn print_verdict(rt: &HostRuntime, bytes: &[u8]) -> Result<()> {
     let answer = jobfile::read_job(bytes);
     let verdict = answer.verdict;
     match verdict {
-        Verdict::Admitted => {
-            io::print_decimal(STDOUT_FILENO, 0);
-        }
+        Verdict::Admitted => print!(rt; "0"),
         Verdict::Refused(refusal) => {
-            io::print_decimal(STDOUT_FILENO, number_of(refusal));
+            let number = number_of(refusal);
+            print!(rt; "{number}")
         }
     }
 }
 
 // Prints the verdicts on a job cut off behind each of its bytes, none to all.
-fn print_truncations(bytes: &[u8]) {
+fn print_truncations(rt: &HostRuntime, bytes: &[u8]) -> Result<()> {
     let mut k = 0;
     while k <= bytes.len() {
-        print_verdict(&bytes[..k]);
+        print_verdict(rt, &bytes[..k])?;
         k += 1;
     }
+    Ok(())
 }
 
 // The place of the first such byte from a place on, or the end where there is none.
@@ -75,35 +77,38 @@ fn find(bytes: &[u8], from: usize, byte: u8) -> usize
 }
 
 // Prints a line: the name of a job and the verdict on it, or on its parts.
-fn show(entry: &[u8]) {
+fn show(rt: &HostRuntime, entry: &[u8]) -> Result<()> {
     let line = find(entry, 0, 10);
     if line < entry.len() {
         if 2 <= line {
             let first = line + 1;
-            io::write_all(STDOUT_FILENO, &entry[2..line]);
-            io::write_all(STDOUT_FILENO, b": ");
+            std::io::writer(rt).write_all(&entry[2..line])?;
+            print!(rt; ": ")?;
             if entry[0] == 84 {
-                print_truncations(&entry[first..]);
+                print_truncations(rt, &entry[first..])?;
             } else {
-                print_verdict(&entry[first..]);
+                print_verdict(rt, &entry[first..])?;
             }
-            io::write_all(STDOUT_FILENO, b"\n");
+            println!(rt; "")?;
         }
     }
+    Ok(())
 }
 
 // Shows the jobs one by one.
-fn show_all(jobs: &[u8]) {
+fn show_all(rt: &HostRuntime, jobs: &[u8]) -> Result<()> {
     let mut at = 0;
     while at < jobs.len() {
         let end = find(jobs, at, 30);
-        show(&jobs[at..end]);
+        show(rt, &jobs[at..end])?;
         at = end + 1;
     }
+    Ok(())
 }
 
-fn main() {
+fn main(rt: HostRuntime) -> Result<()> {
     let mut jobs = [0u8; 131072];
-    let n = io::read_full(STDIN_FILENO, &mut jobs);
-    show_all(&jobs[..n]);
+    let mut reader = rt.reader();
+    let n = input::read_full(&mut reader, &mut jobs)?;
+    show_all(&rt, &jobs[..n])
 }

@@ -8,7 +8,7 @@ use jobfile::Verdict;
 use rules::Refusal;
 
 // A text: the first `count` of its bytes.
-#[derive(Drop)]
+#[derive(Clone, Copy)]
 pub struct Text {
     pub count: usize,
     pub bytes: [u8; 5],

@@ -3,7 +3,7 @@ use Prim.Native.Nat.{ℕ, ◌*◌, ◌≤◌, ◌<◌}
 use native.Mathlib.Omega.{arith}
 use mathlib.Core.Path.{◌≡◌, sym, ap, ◌∙◌, subst}
 use mathlib.Core.Logic.{inl, inr}
-use mathlib.Core.List.{List, [], Memᴰ, Permᴰ}
+use mathlib.Core.List.{List, Memᴰ, Permᴰ}
 use lib.ListN.{length}
 use Rattle.rules.specs.declared.Pick.{Pick}
 use Rattle.rules.specs.Lists.{Sorted}

@@ -1,4 +1,6 @@
 // The library call: job bytes, lent sheet space and a lent work area; with lent page space too in `page`.
+#![tactic(auto)]
+
 pub mod page;
 
 ghost use Rattle.std.specs.Prelude.{◌≡◌, ℕ, ◌≤◌, length, replicate, List};

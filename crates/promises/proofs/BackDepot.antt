@@ -1,28 +1,26 @@
 -- Request #109, the depot at the back: a job turned front to back has a tour of equal length, and FRONT changes no answer.
 use Prim.Native.Nat.{ℕ, ◌≤◌}
 use native.Mathlib.Omega.{arith}
-use mathlib.Core.Path.{◌≡◌, refl, sym, ◌∙◌, ap}
-use mathlib.Core.List.{List, [], ◌∷◌}
+use mathlib.Core.Path.{◌≡◌, refl, ◌∙◌, ap}
+use mathlib.Core.List.{List}
 use lib.ListN.{length}
-use Rattle.rules.specs.declared.Side.TheVariants.{FrontSide, BackSide}
+use Rattle.rules.specs.declared.Side.TheVariants.{FrontSide}
 use Rattle.rules.specs.declared.Layout.{Layout}
 use Rattle.rules.specs.declared.Policy.{Policy}
 use Rattle.rules.specs.declared.Policy.TheVariants.{Composite}
 use Rattle.rules.specs.declared.Posts.TheVariants.{Every, Sided}
-use Rattle.rules.specs.declared.Action.{Action}
-use Rattle.rules.specs.declared.Action.TheVariants.{Void, Bottom, Top, Gap, Once, Twice}
-use Rattle.rules.specs.Store.{PostsWithin}
+use Rattle.rules.specs.declared.Action.TheVariants.{Void}
 use Rattle.rules.specs.Jobs.{Job, job_with_posts}
 use Rattle.rules.specs.JobFile.{job_text}
 use Rattle.rules.specs.Lists.{head_or}
-use Rattle.rules.specs.Plans.{Plan, Kind, BOTTOM, TOP, kind_rank, kind_of}
+use Rattle.rules.specs.Plans.{Plan, kind_rank, kind_of}
 use Rattle.rules.specs.Turned.{turned_plan}
 use Rattle.rules.specs.BestPlan.{best_plan}
 use Rattle.rules.specs.Sheet.{sheet_text}
-use Rattle.rules.specs.Refusals.{work_limit, Admitted}
+use Rattle.rules.specs.Refusals.{work_limit}
 use Rattle.rules.specs.Looked.{looked_in}
 use Rattle.rules.specs.Answers.{sheet_limit}
-use Rattle.rules.specs.Examples.{stocked, ◌⨯◌, own_job, one_each, sided, from_behind, midway_cells, midway_turned, either_way, back_cases}
+use Rattle.rules.specs.Examples.{stocked, own_job, sided, from_behind, midway_cells, midway_turned, either_way, back_cases}
 use Rattle.rules.proofs.Admission.{admitted}
 use Rattle.rules.proofs.SamePosts.{front_said, same_answer, same_page_answer, same_looked}
 use Rattle.rules.proofs.Texts.{admitted_file}
@@ -30,7 +28,6 @@ use Rattle.rules.proofs.Cases.{back_cases_hold}
 use Rattle.mirror.specs.Turned.{TurnedStore, turned_into}
 use Rattle.mirror.proofs.Best.{turned_admitted, turned_shortest}
 use Rattle.optimum.proofs.Best.{best_plan_lem}
-use Rattle.planner.proofs.Space.{sheet_suffices}
 use Rattle.promises.specs.Causes.{JobFileOf}
 use Rattle.promises.specs.Contents.{Content, content_of}
 use Rattle.promises.specs.Calls.{Shows}

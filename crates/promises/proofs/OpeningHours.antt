@@ -1,7 +1,7 @@
 -- Request #106: jobs that are alike get the same answers, byte for byte (rules/proofs/OpenAlike).
 use Prim.Native.Nat.{ℕ, zero, suc, ◌≤◌}
 use native.Mathlib.Omega.{arith}
-use mathlib.Core.Path.{◌≡◌, refl, sym, ◌∙◌, ap}
+use mathlib.Core.Path.{◌≡◌, refl, sym, ◌∙◌}
 use mathlib.Core.List.{List, [], ◌∷◌}
 use mathlib.Core.Bool.{true, false, true≢false}
 use mathlib.Core.Option.{some}

@@ -46,10 +46,14 @@ lack_listed a (l ∷ ls) h = go (eqb l.article a) refl h (lack_listed a ls)
 -- a line's own article lacks what the line asks for
 pub lack_line : (ls : List OrderLine) → Apart ls → (l : OrderLine) → Memᴰ l ls → lack_of ls l.article ≡ l.quantity
 unfolding lack_of
-lack_line ls s l (Memᴰ.head {x = k} {xs = ks} e) =
-    rw (e, eq-eqb k.article k.article refl) (omega (arith, lack_none k.article ks s.0))
-lack_line ls s l (Memᴰ.tail {x = k} {xs = ks} m) =
-    rw (ne_eqb k.article l.article (s.0 l m)) (omega (arith, lack_line ks s.1 l m))
+lack_line ls s l m = go l ls s m
+  where
+    go : (l : OrderLine) (ls : List OrderLine) → Apart ls → Memᴰ l ls → lack_of ls l.article ≡ l.quantity
+    go l ls s (Memᴰ.head {x = k} {xs = ks} e) =
+        let same : k.article ≡ l.article = ap (λ (x : OrderLine). x.article) (sym e) in
+        rw (eq-eqb k.article l.article same)
+        (omega (arith, ap (λ (x : OrderLine). x.quantity) e, lack_none l.article ks (λ x m i. s.0 x m (same ∙ i))))
+    go l ls s (Memᴰ.tail {x = k} {xs = ks} m) = rw (ne_eqb k.article l.article (s.0 l m)) (omega (arith, go l ks s.1 m))
 
 -- what is lacking after n of an article are taken
 pub lack_less : (b n a : ℕ) (ls : List OrderLine) → Apart ls → lack_of (less_of b n ls) a ≡ cond (eqb b a) (lack_of ls a - n) (lack_of ls a)

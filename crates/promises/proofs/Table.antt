@@ -166,8 +166,12 @@ module _ (t : Refusal → Bool) where
 
   first_of : (rows : List Refusal) → Sorted (λ p q. table_row p < table_row q) rows → FirstOf rows (first_row (tested rows))
   first_of [] s = λ q m. absurd (Memᴰ.not-nil m)
-  first_of (x ∷ rows) s = go (t x) refl (first_row (tested rows)) (first_of rows s.1)
+  first_of (x ∷ rows) s = subst (λ o. FirstOf (x ∷ rows) o) (sym (row_first (t x))) (go (t x) refl (first_row (tested rows)) (first_of rows s.1))
     where
+      row_first : (b : Bool) → first_row ((b, x) ∷ tested rows) ≡ elim b as (λ w. Option Refusal) [ true ↦ some x | false ↦ first_row (tested rows) ]
+      row_first true = refl
+      row_first false = refl
+
       above : (q : Refusal) → Memᴰ q (x ∷ rows) → table_row q < table_row x → ⊥
       above q (Memᴰ.head e) l = omega (arith, ap table_row e)
       above q (Memᴰ.tail m) l = omega (arith, s.0 q m)
@@ -176,7 +180,7 @@ module _ (t : Refusal → Bool) where
       put e f q (Memᴰ.head h) p = ap t h ∙ e
       put e f q (Memᴰ.tail m) p = f q m p
 
-      go : (b : Bool) → t x ≡ b → (o : Option Refusal) → FirstOf rows o → FirstOf (x ∷ rows) (elim b [ true ↦ some x | false ↦ o ])
+      go : (b : Bool) → t x ≡ b → (o : Option Refusal) → FirstOf rows o → FirstOf (x ∷ rows) (elim b as (λ w. Option Refusal) [ true ↦ some x | false ↦ o ])
       go true e o f = (e, λ q m l. absurd (above q m l))
       go false e none f = λ q m. put {P = λ r. Unit {0}} e (λ r n p. f r n) q m tt
       go false e (some r) f = (f.0, put {P = λ q. table_row q < table_row r} e f.1)
@@ -199,11 +203,12 @@ module _ (bytes sheet work : List ℕ) where
   answers_for = by (read_job bytes)
     where
       by : (read : Option Job) → AnswersFor sheet work read (first_row (table read sheet work)) (decided (first_row (table read sheet work)) read sheet work)
-      by none = area (ltb (length work) work_limit)
+      by none = area (ltb (length work) work_limit) _
         where
-          area : (b : Bool) → AnswersFor sheet work none (first_row ((b, WorkArea) ∷ (true, NotAJobFile) ∷ [])) (decided (first_row ((b, WorkArea) ∷ (true, NotAJobFile) ∷ [])) none sheet work)
-          area true = refl
-          area false = refl
+          area : (b : Bool) (rest : List (Bool × Refusal))
+              → AnswersFor sheet work none (first_row ((b, WorkArea) ∷ (true, NotAJobFile) ∷ rest)) (decided (first_row ((b, WorkArea) ∷ (true, NotAJobFile) ∷ rest)) none sheet work)
+          area true rest = refl
+          area false rest = refl
       by (some job) = row (first_row (table (some job) sheet work))
         where
           row : (q : Option Refusal) → AnswersFor sheet work (some job) q (decided q (some job) sheet work)

@@ -58,6 +58,7 @@ module _ (job : Job) (posts others : Posts) (plain lined : List ℕ) (f : PostsO
 
 -- what posts take before a cell, by the second line
 second_line : (p : Posts) (k u : ℕ) → SecondLine p k u → (i : ℕ) → posts_before p i ≡ u * ((i - 1) / k)
+second_line NoPosts k u e i = elim e [ ]
 second_line (Every a b) k u (e, f) i = ap₂ (λ c d. d * ((i - 1) / c)) e f
 second_line (Sided a b side) k u (e, f) i = ap₂ (λ c d. d * ((i - 1) / c)) e f
 

@@ -1,5 +1,5 @@
 -- Request #103, the clipboard page: the table with row 11, what a refused and a served page call give, and what the page must say.
-use Rattle.std.specs.Prelude.{ℕ, ◌+◌, ◌*◌, ◌<◌, ◌/◌, ◌%◌, ◌≡◌, ◌⊎◌, length, take, drop, replicate}
+use Rattle.std.specs.Prelude.{ℕ, ◌*◌, ◌<◌, ◌/◌, ◌%◌, ◌≡◌, ◌⊎◌, length, take, drop, replicate}
 use mathlib.Core.List.{List, ◌++◌, Memᴰ, Permᴰ}
 use Rattle.rules.specs.declared.Pick.{Pick}
 use Rattle.rules.specs.declared.Refusal.{Refusal}

@@ -1,14 +1,16 @@
 // Prints the walks of three plans. The file stdout has those that a search through all walks, in the order of the alphabet, finds first.
+#![tactic(auto)]
+
 mod plans;
 
 ghost use Rattle.std.specs.Prelude.{◌≤◌};
 ghost use Rattle.walks.specs.Lawfully.{LawfulPlan};
 
-use libc::STDOUT_FILENO;
 use rules::{Direction, Layout, Posts, Side};
+use std::io::{Result, Write};
 use values::{PlanValue, RunList};
 
-fn print_letter(d: Direction) {
+fn print_letter(rt: &HostRuntime, d: Direction) -> Result<()> {
     let letter = match d {
         Direction::Back => b'B',
         Direction::Front => b'F',
@@ -16,43 +18,44 @@ fn print_letter(d: Direction) {
         Direction::Right => b'R',
     };
     let text = [letter, b' '];
-    io::write_all(STDOUT_FILENO, &text);
+    std::io::writer(rt).write_all(&text)
 }
 
-fn print_line(n: usize) {
-    io::print_decimal(STDOUT_FILENO, n as u64);
-    io::write_all(STDOUT_FILENO, b"\n");
+fn print_line(rt: &HostRuntime, n: usize) -> Result<()> {
+    println!(rt; "{n}")
 }
 
-fn print_runs(list: RunList)
+fn print_runs(rt: &HostRuntime, list: RunList) -> Result<()>
     requires { list.count ≤ 860 }
 {
     let count = list.count;
     let runs = list.runs;
-    io::write_all(STDOUT_FILENO, b"W ");
-    print_line(count);
+    print!(rt; "W ")?;
+    print_line(rt, count)?;
     let mut i = 0;
     while i < count {
         let run = runs[i];
         let direction = run.direction;
         let steps = run.steps;
-        print_letter(direction);
-        print_line(steps);
+        print_letter(rt, direction)?;
+        print_line(rt, steps)?;
         i += 1;
     }
+    Ok(())
 }
 
-fn print_walk(layout: Layout, plan: PlanValue)
+fn print_walk(rt: &HostRuntime, layout: Layout, plan: PlanValue) -> Result<()>
     requires { LawfulPlan layout plan }
 {
-    print_runs(walks::walk_runs(layout, plan));
+    print_runs(rt, walks::walk_runs(layout, plan))
 }
 
-fn main() {
-    print_walk(plans::store(4, 5, 2, Posts::NoPosts), plans::mixed());
-    print_walk(plans::store(6, 4, 6, Posts::NoPosts), plans::six());
+fn main(rt: HostRuntime) -> Result<()> {
+    print_walk(&rt, plans::store(4, 5, 2, Posts::NoPosts), plans::mixed())?;
+    print_walk(&rt, plans::store(6, 4, 6, Posts::NoPosts), plans::six())?;
     print_walk(
+        &rt,
         plans::store(2, 2, 1, Posts::Sided(1, 0, Side::BackSide)),
         plans::two(),
-    );
+    )
 }
