@@ -1,4 +1,6 @@
 // All plans of a small store, one after another: the plan of a number, in the order of plans.
+#![tactic(auto)]
+
 pub mod stages;
 
 ghost use Prim.Native.Nat.{◌<◌, ◌≤◌};

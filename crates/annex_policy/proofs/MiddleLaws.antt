@@ -14,7 +14,7 @@ use Rattle.rules.specs.declared.Action.TheVariants.{Void, Bottom, Top, Gap, Once
 use Rattle.rules.specs.Jobs.{Job}
 use Rattle.rules.specs.Plans.{Plan, Fits, action_at, entered}
 use Rattle.rules.specs.Policies.{Entered, First, Last, entered_aisles, through, LargestGap, MidpointRule}
-use Rattle.rules.specs.Gaps.{keeps_largest_gap}
+use Rattle.rules.specs.Machine.{keeps_largest_gap}
 use Rattle.rules.proofs.Stops.{gap_from, gap_to, largest_gap}
 use Rattle.between.specs.declared.Between.{Between}
 use Rattle.between.specs.Between.{allows_turns, between_of}

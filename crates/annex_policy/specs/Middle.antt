@@ -11,7 +11,7 @@ use Rattle.rules.specs.declared.Side.{Side}
 use Rattle.rules.specs.Jobs.{Job}
 use Rattle.rules.specs.declared.Layout.{Layout}
 use Rattle.rules.specs.Policies.{halved}
-use Rattle.rules.specs.Gaps.{keeps_largest_gap}
+use Rattle.rules.specs.Machine.{keeps_largest_gap}
 use Rattle.between.specs.declared.Between.{Between}
 use Rattle.between.specs.Between.{between_of}
 use Rattle.annex_policy.specs.Rows.{WalksAs}

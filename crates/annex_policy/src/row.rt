@@ -17,7 +17,7 @@ use rules::{Action, Layout, Side};
 use values::{PlanValue, depot_side};
 
 // How many aisles are entered, the first and the last of them.
-#[derive(Drop)]
+#[derive(Clone, Copy)]
 pub struct Row {
     pub entered: usize,
     pub first: usize,

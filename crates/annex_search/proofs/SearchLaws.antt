@@ -19,7 +19,7 @@ use Rattle.rules.specs.Plans.{Plan, WellFormed, plan_length}
 use Rattle.rules.specs.Policies.{entered_aisles, Allowed}
 use Rattle.rules.specs.Serving.{PlanServes}
 use Rattle.rules.specs.BestPlan.{plans_of, is_better, first_best}
-use Rattle.rules.proofs.Lists.{at_member}
+use Rattle.annex_stock.proofs.ColumnLaws.{at_member}
 use Rattle.rules.proofs.Enumeration.{enumeration_sound}
 use Rattle.closedwalks.proofs.Counts.{layout_bounds}
 use Rattle.values.specs.declared.PlanValue.{PlanValue}

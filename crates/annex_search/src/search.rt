@@ -25,7 +25,7 @@ use values::PlanValue;
 
 // What the tests ask of a job beside its stock: its layout, policy and list, which aisles may be entered, and
 // the test for aisles between.
-#[derive(Drop)]
+#[derive(Clone, Copy)]
 pub(crate) struct Asked {
     pub layout: Layout,
     pub policy: Policy,
@@ -36,7 +36,7 @@ pub(crate) struct Asked {
 }
 
 // The best plan so far, if any passed, its length, and the set of aisles that it enters.
-#[derive(Drop)]
+#[derive(Clone, Copy)]
 pub struct Kept {
     pub found: bool,
     pub length: usize,

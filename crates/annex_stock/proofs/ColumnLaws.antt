@@ -1,10 +1,10 @@
 -- Filling the columns, record by record.
-use Prim.Native.Nat.{ℕ, suc, ◌+◌, ◌-◌, ◌≤◌, ◌<◌}
+use Prim.Native.Nat.{ℕ, zero, suc, ◌+◌, ◌≤◌, ◌<◌}
 use native.Mathlib.Omega.{arith}
 use native.Mathlib.Nat.{eq-or-lt_of_le}
-use mathlib.Core.Path.{◌≡◌, sym, ◌∙◌}
+use mathlib.Core.Path.{◌≡◌, refl, sym, ◌∙◌}
 use mathlib.Core.Logic.{◌⊎◌, inl, inr}
-use mathlib.Core.List.{List}
+use mathlib.Core.List.{List, [], ◌∷◌, Memᴰ}
 use lib.ListN.{length, get_or, set, length-set, length-take}
 use lib.Seq.{get_or-set_same, get_or-set_other, get_or-take}
 use Rattle.rules.specs.Jobs.{Job}
@@ -12,9 +12,14 @@ use Rattle.rules.specs.Refusals.{RecordWithin}
 use Rattle.rules.proofs.Admission.{stock_within, layout_within}
 use Rattle.values.specs.declared.JobValue.{JobValue}
 use Rattle.values.specs.declared.PlanValue.{PlanValue}
-use Rattle.rules.proofs.Lists.{at_member}
-use Rattle.values.specs.Values.{no_record, job_of, Sound}
-use Rattle.annex_stock.specs.Columns.{record_of, place_of, count_of, InColumns, FilledTo}
+use Rattle.values.specs.Values.{job_of, Sound}
+use Rattle.annex_stock.specs.Columns.{no_record, record_of, place_of, count_of, InColumns, FilledTo}
+
+-- what stands at a place of a list is a member
+pub at_member : {A : Type 0} (d : A) (xs : List A) (i : ℕ) → i < length xs → Memᴰ (get_or xs i d) xs
+at_member d [] i h = absurd (omega arith)
+at_member d (x ∷ xs) zero h = Memᴰ.head refl
+at_member d (x ∷ xs) (suc i) h = Memᴰ.tail (at_member d xs i (omega arith))
 
 -- one more number in a column
 column_more : (f : ℕ → ℕ) (xs : List ℕ) (n v : ℕ) → n < length xs → ((i : ℕ) → i < n → get_or xs i 0 ≡ f i) → v ≡ f n

@@ -1,5 +1,5 @@
 -- The stock in passed cells, added up record by record.
-use Prim.Native.Nat.{ℕ, zero, suc, ◌+◌, ◌/◌, ◌%◌, ◌≤◌, ◌<◌}
+use Prim.Native.Nat.{ℕ, suc, ◌+◌, ◌/◌, ◌%◌, ◌≤◌, ◌<◌}
 use native.Mathlib.Omega.{arith}
 use mathlib.Core.Path.{◌≡◌, refl, sym, ap, ◌∙◌, subst, subst₂}
 use mathlib.Core.List.Memᴰ
@@ -16,12 +16,13 @@ use Rattle.rules.specs.Hours.{is_open}
 use Rattle.rules.specs.Jobs.{Job, open_stock}
 use Rattle.rules.specs.declared.OrderLine.{OrderLine}
 use Rattle.rules.specs.Serving.{supply, Serves, PlanServes}
-use Rattle.rules.proofs.Lists.{sum_append, sum_agree, sum_select, at_member}
+use Rattle.rules.proofs.Lists.{sum_append, sum_agree, sum_select}
 use borrow.Author.Tests.{eq-eqb, ne_eqb}
 use Rattle.rules.specs.Plans.{Plan, plan_passes}
 use Rattle.values.specs.declared.PlanValue.{PlanValue}
-use Rattle.values.specs.Values.{no_record, no_line, plan_of}
-use Rattle.annex_stock.specs.Columns.{record_of, count_of, InColumns, gives}
+use Rattle.values.specs.Values.{no_line, plan_of}
+use Rattle.annex_stock.proofs.ColumnLaws.{at_member}
+use Rattle.annex_stock.specs.Columns.{no_record, record_of, count_of, InColumns, gives}
 
 -- a member stands at a place
 member_at : {A : Type 0} {x : A} (xs : List A) (d : A) → Memᴰ x xs → (k : ℕ) × (k < length xs) × (get_or xs k d ≡ x)

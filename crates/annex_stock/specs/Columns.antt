@@ -10,7 +10,10 @@ use Rattle.rules.specs.Hours.{Hours, is_open}
 use Rattle.rules.specs.Jobs.{Job}
 use Rattle.rules.specs.Refusals.{RecordWithin}
 use Rattle.values.specs.declared.PlanValue.{PlanValue}
-use Rattle.values.specs.Values.{no_record}
+
+-- what stands where there is no record
+abbrev pub no_record : StockRecord
+no_record = record { aisle = 0; cell = 0; article = 0; quantity = 0 }
 
 -- record n of a job, counted from 0
 abbrev pub record_of : Job → ℕ → StockRecord

@@ -1,4 +1,6 @@
 // Sets of entered aisles as 16-bit numbers (#108): a bit for each aisle, counted by its ones.
+#![tactic(auto)]
+
 ghost use Prim.Native.Nat.{◌<◌, ◌≤◌};
 ghost use lib.Count.{ones};
 ghost use mathlib.Core.Bool.{cond};

@@ -1,4 +1,6 @@
 // The sheet of a job whose plan is known: its picks, its walk and its text, or refusal 9.
+#![tactic(auto)]
+
 ghost use Prim.Native.Nat.{ℕ};
 ghost use mathlib.Core.List.{List};
 ghost use Rattle.values.specs.Values.{Sound, RoutedOf, job_of};

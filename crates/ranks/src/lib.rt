@@ -1,4 +1,6 @@
 // The actions of an aisle by rank, and the passages by rank.
+#![tactic(auto)]
+
 ghost use Prim.Native.Nat.{◌<◌, ◌≤◌};
 ghost use lib.ListN.{get_or, length};
 ghost use mathlib.Core.Path.{◌≡◌};

@@ -14,7 +14,7 @@ use Rattle.rules.specs.Store.{Point}
 use Rattle.rules.specs.Jobs.{Job, open_stock}
 use Rattle.rules.specs.Picks.{record_at}
 use Rattle.rules.specs.Refusals.{Admitted}
-use Rattle.rules.proofs.Lists.{any_false, member_select, at_member}
+use Rattle.rules.proofs.Lists.{any_false, member_select}
 use Rattle.rules.proofs.Admission.{one_record_per_cell, open_in_stock}
 
 -- an or that is false is false on both sides
@@ -23,6 +23,12 @@ or-false true d h = absurd (true≢false h)
 or-false false d h = (refl, h)
 
 module _ {A : Type 0} where
+  -- what stands at a place of the list is a member
+  pub at_member : (d : A) (xs : List A) (i : ℕ) → i < length xs → Memᴰ (get_or xs i d) xs
+  at_member d [] i h = absurd (omega arith)
+  at_member d (x ∷ xs) zero h = Memᴰ.head refl
+  at_member d (x ∷ xs) (suc i) h = Memᴰ.tail (at_member d xs i (omega arith))
+
   -- where no two are alike, none in front of a place is like what stands there
   pub none_before : (alike : A → A → Bool) (d : A) (xs : List A) (n : ℕ) → n < length xs → any_two alike xs ≡ false → any_of (λ x. alike x (get_or xs n d)) (take n xs) ≡ false
   none_before alike d [] n h e = absurd (omega arith)

@@ -20,15 +20,15 @@ use Rattle.rules.specs.Hours.{Hours, is_open}
 use Rattle.rules.specs.Jobs.{Job, open_stock, listed, holds_listed, cell_holds_listed}
 use Rattle.rules.specs.Picks.{record_at}
 use Rattle.rules.specs.Refusals.{same_cell, Admitted}
-use Rattle.rules.proofs.Lists.{any_false, any_true, select_append, at_member}
+use Rattle.rules.proofs.Lists.{any_false, any_true, select_append}
 use Rattle.rules.proofs.Admission.{stock_within, layout_within, open_in_stock}
 use Rattle.values.specs.declared.JobValue.{JobValue}
 use Rattle.values.specs.declared.Shelf.{Shelf}
-use Rattle.values.specs.Values.{no_record, no_line, hours_of, job_of, Sound}
+use Rattle.values.specs.Values.{no_line, hours_of, job_of, Sound}
 use Rattle.values.specs.Shelves.{line_from, line_of, quantity_of, cell_number, ShelfOf}
 use Rattle.between.specs.Between.{listed_at, listed_flags}
 use Rattle.between.proofs.Heights.{filled_all}
-use Rattle.shelves.proofs.Records.{none_before, none_select, first_member, first_none, first_other, first_last, cell_at, is_at, is_at_lem, at_itself, one_open_record, its_record}
+use Rattle.shelves.proofs.Records.{at_member, none_before, none_select, first_member, first_none, first_other, first_last, cell_at, is_at, is_at_lem, at_itself, one_open_record, its_record}
 
 -- the line of an article, as the code looks for it: at the next line, or behind it; on no line behind the last
 pub line_here_lem : (lines : List OrderLine) (l a : ℕ) → l < length lines → (get_or lines l no_line).article ≡ a → line_from l (drop l lines) a ≡ l + 1
@@ -61,6 +61,10 @@ line_below (l ∷ ls) k a = go (eqb l.article a) (line_below ls (suc k) a)
 abbrev pub Shelved : (Option StockRecord → ℕ) → List StockRecord → List ℕ → Type 0
 Shelved f stock xs =
     (j c : ℕ) → 1 ≤ j → j ≤ 16 → 1 ≤ c → c ≤ 24 → get_or xs (cell_number j c) 0 ≡ f (record_at stock (cell_at j c))
+
+-- a record that is not there
+abbrev pub no_record : StockRecord
+no_record = record { aisle = 0; cell = 0; article = 0; quantity = 0 }
 
 -- the numbers of a record that the code computes with
 pub record RecordSmall (r : StockRecord) : Type 0 where

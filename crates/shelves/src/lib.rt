@@ -1,4 +1,6 @@
 // The shelf of a job: what each cell of an open aisle holds for the order lines, and which aisles are open.
+#![tactic(auto)]
+
 ghost use Prim.Native.Nat.{◌<◌, ◌≤◌};
 ghost use Rattle.between.specs.Between.{listed_flags};
 ghost use Rattle.rules.specs.Jobs.{Job, holds_listed};

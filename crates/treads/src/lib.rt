@@ -1,4 +1,6 @@
 // The treads of a plan, one number for each edge: how often the plan treads it.
+#![tactic(auto)]
+
 ghost use mathlib.Core.Path.{◌≡◌};
 ghost use Prim.Native.Nat.{suc, ◌≤◌};
 ghost use lib.ListN.{length};

@@ -1,4 +1,6 @@
 // The lent work area, as it is left: all zero.
+#![tactic(auto)]
+
 ghost use mathlib.Core.Path.{◌≡◌};
 ghost use lib.ListN.{length, replicate};
 
