@@ -1,4 +1,4 @@
-/* The planning host's entries to the router. Link with libhost.a, which `rt staticlib host` writes. */
+/* The planning host's entries to the router. Link with libhost.a, which `tools/build` writes. */
 #ifndef DIZHONDU_H
 #define DIZHONDU_H
 
