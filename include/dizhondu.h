@@ -21,9 +21,9 @@ extern "C" {
 /* What is added to a refusal's number. */
 #define DIZHONDU_REFUSED 65536
 
-/* A call fits a thread with this much stack. Measured on x86-64 over all jobs of tests/vectors and tests/cases, by what a call
-   changed of a filled stack below its caller's frame: 335,487 bytes by plan_sheet and 372,015 by plan_page at most. The
-   tests make each of their calls in a thread with just this much. */
+/* A call fits a thread with this much stack. Measured on x86-64, as the older kit built it, over all jobs of tests/vectors and
+   tests/cases, by what a call changed of a filled stack below its caller's frame: 335,487 bytes by plan_sheet and 372,015 by
+   plan_page at most. The tests make each of their calls in a thread with just this much. */
 #define DIZHONDU_STACK 393216
 
 /* Plans the tour of the job in job[0 .. job_length) and writes its sheet to the front of sheet[0 .. sheet_space).
