@@ -1,52 +1,56 @@
 -- The passes over an aisle, and that they look at every action. `row`, `after` and `perm` are the keys of rows, by state and demand.
-use Prim.Native.Nat.{ℕ, ◌+◌, ◌*◌, ◌≤◌, ◌<◌}
+use Prim.Native.Nat.{ℕ, zero, suc, ◌+◌, ◌*◌, ◌≤◌, ◌<◌}
 use native.Mathlib.Omega.{arith}
 use native.Mathlib.Nat.{le_refl}
 use mathlib.Core.Path.{◌≡◌, refl, sym, ◌∙◌, ap, ap₂, subst}
 use mathlib.Core.Logic.{◌⊎◌, inl, inr, ⊎_elim}
 use mathlib.Core.List.{List, Memᴰ}
-use mathlib.Core.Bool.{Bool, true, false, cond, ◌&&◌, ◌||◌, and-eq-true_iff}
-use lib.Dec.{ltb, eqb}
-use lib.ListN.{length, get_or}
-use borrow.Author.Tests.{ltb-true, ltb-false, eq-eqb, ne_eqb}
+use mathlib.Core.Bool.{Bool, true, false, cond, not, ◌&&◌, ◌||◌, and-eq-true_iff, true≢false}
+use lib.ListN.{get_or}
 use Rattle.rules.specs.declared.Action.{Action}
-use Rattle.rules.specs.Plans.{Fits}
+use Rattle.rules.specs.declared.Kind.{Kind}
+use Rattle.rules.specs.declared.Kind.TheVariants.{Void as VOID, Bottom as BOTTOM, Top as TOP, Gap as GAP, Once as ONCE, Twice as TWICE}
+use Rattle.rules.specs.Plans.{Fits, kind_of, kind_rank}
+use Rattle.rules.specs.declared.Side.TheVariants.{FrontSide}
+use Rattle.rules.specs.declared.Policy.TheVariants.{Exact}
+use Rattle.rules.specs.Policies.{kinds_named, through}
+use Rattle.rules.specs.Lengths.{action_length}
 use Rattle.rules.specs.BestPlan.{actions_of}
 use Rattle.rules.proofs.Enumeration.{actions_sound, actions_complete}
 use Rattle.optimum.specs.Least.{sum_up_to, least_or}
 use Rattle.optimum.specs.Routing.{no_key}
 use Rattle.rows.specs.Pairs.{walk}
 use Rattle.rows.proofs.Keys.{walk_entered}
+use Rattle.machine.specs.Tables.{asks_between, is_tested}
+use Rattle.aisles.specs.declared.layers.TheConstants.{KINDS, TESTED}
 use Rattle.aisles.specs.declared.layers.Aisle.{Aisle}
 use Rattle.aisles.specs.declared.layers.Turns.{Turns}
-use Rattle.machine.specs.Steps.{bit}
-use Rattle.aisles.specs.Candidates.{candidate_of, action_of_parts, front_cost, back_cost, candidate_length, candidate_between}
+use Rattle.aisles.specs.Actions.{front_of, back_of, front_cost, back_cost, passes_between}
 use Rattle.between.specs.Between.{Graded}
 use Rattle.aisles.specs.Turns.{front_at, back_at, front_turn, back_turn, least_back, turn_way, Pair, SweepReady, SweptTo}
-use Rattle.aisles.specs.Layers.{InRange, step_with, left_code, through_candidate, through_action, way_with, entered_by, AisleReady, TurnsOf}
-use Rattle.aisles.specs.Layers.{asks_between, pass_between, pass_kind, passes_of, OfPass, PassDone}
-use Rattle.aisles.proofs.Geometry.{within, Turning, between_turns, turns_between}
+use Rattle.aisles.specs.Layers.{InRange, step_with, left_code, through_action, way_with, entered_by, AisleReady, TurnsOf, OfPass, PassDone}
+use Rattle.aisles.proofs.Geometry.{within, length_of_parts, Turning, between_turns, turns_between}
 use Rattle.demand.proofs.Filling.{below}
 use Rattle.aisles.proofs.Bridge.{least_is}
-use Rattle.aisles.proofs.TurnLaws.{PairOf, PairAt, pair_action, action_pair}
-use Rattle.aisles.proofs.ActionRows.{candidate_parts, DeadNone, way_is, way_dead, way_true, way_any}
+use Rattle.aisles.proofs.TurnLaws.{PairOf, PairAt, action_by, pair_action, action_pair}
+use Rattle.aisles.proofs.ActionRows.{action_parts, DeadNone, way_is, way_dead, way_true, way_any}
 
 -- the least back turn of a front turn, up to the back crossing
-from_at : (x : Aisle) (kind : ℕ) (free : Bool) (t : Turns) → TurnsOf x kind free t → (h : ℕ) → h ≤ t.top
-    → get_or t.from h 0 ≡ least_back free (get_or x.between.from h 0) h
-from_at x kind free t turns h l = turns.from h (omega (arith, turns.top))
+from_at : (x : Aisle) (kind : Kind) (between : Bool) (t : Turns) → TurnsOf x kind between t → (h : ℕ) → h ≤ t.top
+    → get_or t.from h 0 ≡ least_back between (get_or x.between.from h 0) h
+from_at x kind between t turns h l = turns.from h (omega (arith, turns.top))
 
 -- it lies past the front turn and grows with it: as the next height, or by the test
-turns_graded : (x : Aisle) (kind : ℕ) (free : Bool) (t : Turns) → InRange x → TurnsOf x kind free t → Graded t.from t.top
-turns_graded x kind true t range turns =
-    let at = from_at x kind true t turns in
+turns_graded : (x : Aisle) (kind : Kind) (between : Bool) (t : Turns) → InRange x → TurnsOf x kind between t → Graded t.from t.top
+turns_graded x kind false t range turns =
+    let at = from_at x kind false t turns in
     record {
       past = λ h l. omega (arith, at h l);
       grows = λ h l. omega (arith, at h (omega arith), at (h + 1) (omega arith));
       ends = omega (arith, at t.top (le_refl t.top));
     }
-turns_graded x kind false t range turns =
-    let at = from_at x kind false t turns in
+turns_graded x kind true t range turns =
+    let at = from_at x kind true t turns in
     let g = subst (Graded x.between.from) (sym turns.top) range.graded in
     record {
       past = λ h l. omega (arith, at h l, g.past h l);
@@ -55,10 +59,9 @@ turns_graded x kind false t range turns =
     }
 
 -- an aisle that is ready lets the turns of a kind be swept
-pub sweep_ready : (x : Aisle) (row spared perm perm-spared fronts backs : List ℕ) (kind : ℕ) (free : Bool) (t : Turns) → AisleReady x fronts backs
-    → 2048 ≤ length row → 2048 ≤ length spared → 2048 ≤ length perm → 2048 ≤ length perm-spared → TurnsOf x kind free t
-    → SweepReady row spared perm perm-spared fronts backs t x.weight
-sweep_ready x row spared perm perm-spared fronts backs kind free t ready row_long spared_long perm_long perm_spared_long turns =
+pub sweep_ready : (x : Aisle) (fronts backs : List ℕ) (kind : Kind) (between : Bool) (t : Turns) → AisleReady x fronts backs → TurnsOf x kind between t
+    → SweepReady fronts backs t x.weight
+sweep_ready x fronts backs kind between t ready turns =
     let w = within x.layout ready.aisle.bounds in
     let light = ready.aisle.small in
     let top-is = turns.top in
@@ -66,15 +69,9 @@ sweep_ready x row spared perm perm-spared fronts backs kind free t ready row_lon
       behind = record {
         small = light;
         top_fits = omega (arith, w.cells.1);
-        graded = turns_graded x kind free t ready.aisle turns;
-        perm_long = omega arith;
-        perm_spared_long = omega arith;
-        backs_long = ready.backs_long;
+        graded = turns_graded x kind between t ready.aisle turns;
         back_below = λ i q l m n. ready.back_below i q l (omega arith) n;
       };
-      row_long = omega arith;
-      spared_long = omega arith;
-      fronts_long = ready.fronts_long;
       front_below = λ h q l m. ready.front_below h q (omega arith) m;
     }
 
@@ -83,12 +80,17 @@ or-true : (b c : Bool) → c ≡ true → (b || c) ≡ true
 or-true true c e = refl
 or-true false c e = e
 
--- a pass with the test is not free of it
-free_no : (between : ℕ) → between ≡ 1 → eqb between 0 ≡ false
-free_no between e = ne_eqb between 0 (λ z. omega arith)
+-- an action whose kind is asked the test is walked there and back
+tested_turns : (kind : Kind) (h i : ℕ) → is_tested kind ≡ true → through (action_by kind h i) ≡ false
+tested_turns VOID h i e = refl
+tested_turns BOTTOM h i e = refl
+tested_turns TOP h i e = refl
+tested_turns GAP h i e = refl
+tested_turns ONCE h i e = absurd (true≢false (sym e))
+tested_turns TWICE h i e = absurd (true≢false (sym e))
 
-module _ (x : Aisle) (row after : ℕ → ℕ → ℕ) (fronts backs steps : List ℕ) (kind between : ℕ)
-    (steps-are : (s : ℕ) → s < 8 → get_or steps s 0 ≡ step_with x kind (bit between) s) (fits : (s q : ℕ) → row s q ≤ no_key)
+module _ (x : Aisle) (row after : ℕ → ℕ → ℕ) (fronts backs steps : List ℕ) (kind : Kind) (between : Bool)
+    (steps-are : (s : ℕ) → s < 8 → get_or steps s 0 ≡ step_with x kind between s) (fits : (s q : ℕ) → row s q ≤ no_key)
     (dead-none : DeadNone after) where
   -- the aisle's cells
   abbrev cells : ℕ
@@ -98,20 +100,20 @@ module _ (x : Aisle) (row after : ℕ → ℕ → ℕ) (fronts backs steps : Lis
   pub pass_skipped : ((s : ℕ) → s < 8 → 8 ≤ get_or steps s 0) → PassDone x row row after fronts backs kind between
   pass_skipped none =
       record {
-        low = λ s q a l h o. omega (arith, fits s q, way_dead x after fronts backs s q dead-none (bit between) a (dead_step s a l o));
+        low = λ s q a l h o. omega (arith, fits s q, way_dead x after fronts backs s q dead-none between a (dead_step s a l o));
         less = λ s q l h. le_refl (row s q);
         one = λ s q l h. inl refl;
       }
     where
-      dead_step : (s : ℕ) (a : Action) → s < 8 → OfPass x kind between a → 8 ≤ step_with x (candidate_of cells a).kind (bit between) s
-      dead_step s a l o = subst (λ k. 8 ≤ step_with x k (bit between) s) (sym o.same) (subst (λ n. 8 ≤ n) (steps-are s l) (none s l))
+      dead_step : (s : ℕ) (a : Action) → s < 8 → OfPass x kind between a → 8 ≤ step_with x (kind_of a) between s
+      dead_step s a l o = subst (λ k. 8 ≤ step_with x k between s) (sym o.same) (subst (λ n. 8 ≤ n) (steps-are s l) (none s l))
 
-  module _ (ready : AisleReady x fronts backs) (small : kind < 6) (mode : (between ≡ 0) ⊎ ((between ≡ 1) × (kind < 4))) (t : Turns)
-      (turns : TurnsOf x kind (eqb between 0) t) (perm : ℕ → ℕ → ℕ)
+  module _ (ready : AisleReady x fronts backs) (tested : between ≡ true → is_tested kind ≡ true) (t : Turns)
+      (turns : TurnsOf x kind between t) (perm : ℕ → ℕ → ℕ)
       (stepped : (s q : ℕ) → s < 8 → q < x.weight → perm s q ≡ sum_up_to no_key (entered_by kind) (after (get_or steps s 0) q)) where
     -- whether a part of an action of the pass may turn at a height
     abbrev may : List Bool → ℕ → Bool
-    may able h = eqb between 0 || get_or able h false
+    may able h = not between || get_or able h false
 
     -- whether its turns are there, what they cost, and where the back turns of a front turn begin
     abbrev front_test : ℕ → Bool
@@ -128,45 +130,45 @@ module _ (x : Aisle) (row after : ℕ → ℕ → ℕ) (fronts backs steps : Lis
     unfolding back_turn
     back_is i b l e = turns.back i l ∙ ap (λ b. cond b (back_cost x.layout i) 65535) e
 
-    from_is : (h : ℕ) (b : Bool) → h ≤ cells + 1 → eqb between 0 ≡ b → get_or t.from h 0 ≡ least_back b (get_or x.between.from h 0) h
+    from_is : (h : ℕ) (b : Bool) → h ≤ cells + 1 → between ≡ b → get_or t.from h 0 ≡ least_back b (get_or x.between.from h 0) h
     from_is h b l e = turns.from h l ∙ ap (λ b. least_back b (get_or x.between.from h 0) h) e
 
     -- the way over the turns of an action is the way over the action
-    pair_way : (s q : ℕ) (a : Action) → let c = candidate_of cells a in s < 8 → q < x.weight → Fits cells a → c.kind ≡ kind
-        → front_test c.front ≡ true → back_test c.back ≡ true
-        → turn_way perm fronts backs t.front t.back s q c.front c.back ≡ way_with x after fronts backs (bit between) s q a
-    unfolding way_with left_code candidate_length
+    pair_way : (s q : ℕ) (a : Action) → s < 8 → q < x.weight → Fits cells a → kind_of a ≡ kind
+        → front_test (front_of cells a) ≡ true → back_test (back_of cells a) ≡ true
+        → turn_way perm fronts backs t.front t.back s q (front_of cells a) (back_of cells a) ≡ way_with x after fronts backs between s q a
+    unfolding way_with left_code
     pair_way s q a l h f same u v =
-        let c = candidate_of cells a in
-        ap₂ walk cost value ∙ walk_entered (candidate_length x.layout c) (entered_by c.kind) (after (step_with x c.kind (bit between) s) left)
+        ap₂ walk cost value ∙ walk_entered (action_length x.layout a) (entered_by (kind_of a)) (after (step_with x (kind_of a) between s) left)
       where
         front : ℕ
-        front = (candidate_of cells a).front
+        front = front_of cells a
 
         back : ℕ
-        back = (candidate_of cells a).back
+        back = back_of cells a
 
         left : ℕ
         left = get_or backs (back * 256 + get_or fronts (front * 256 + q) 0) 0
 
-        cost : get_or t.front front 0 + get_or t.back back 0 ≡ candidate_length x.layout (candidate_of cells a)
+        cost : get_or t.front front 0 + get_or t.back back 0 ≡ action_length x.layout a
         cost =
             let p = action_pair cells a f in
             ap₂ ◌+◌ (front_is front true (omega (arith, p.order, p.high)) u ∙ ap (λ k. front_cost x.layout k front) (sym same)) (back_is back true p.high v)
+            ∙ length_of_parts x.layout a
 
         below_weight : left < x.weight
         below_weight =
-            let p = candidate_parts cells a f in
+            let p = action_parts cells a f in
             ready.back_below back (get_or fronts (front * 256 + q) 0) p.back_low p.back_high (ready.front_below front q p.front_within h)
 
-        value : perm s left ≡ sum_up_to no_key (entered_by (candidate_of cells a).kind) (after (step_with x (candidate_of cells a).kind (bit between) s) left)
+        value : perm s left ≡ sum_up_to no_key (entered_by (kind_of a)) (after (step_with x (kind_of a) between s) left)
         value =
             stepped s left l below_weight
-            ∙ ap₂ (λ k n. sum_up_to no_key (entered_by k) (after n left)) (sym same) (steps-are s l ∙ ap (λ k. step_with x k (bit between) s) (sym same))
+            ∙ ap₂ (λ k n. sum_up_to no_key (entered_by k) (after n left)) (sym same) (steps-are s l ∙ ap (λ k. step_with x k between s) (sym same))
 
     -- the turns of an action of the pass are there, and go together
     tests : (a : Action) → OfPass x kind between a
-        → (front_test (candidate_of cells a).front ≡ true) × (back_test (candidate_of cells a).back ≡ true) × Pair t (candidate_of cells a).front (candidate_of cells a).back
+        → (front_test (front_of cells a) ≡ true) × (back_test (back_of cells a) ≡ true) × Pair t (front_of cells a) (back_of cells a)
     tests a o = (
       ap₂ ◌&&◌ (subst (λ k. front_at cells k h ≡ true) o.same p.at_front) able.0,
       ap₂ ◌&&◌ (subst (λ k. back_at (cells + 1) k i ≡ true) o.same p.at_back) able.1,
@@ -174,34 +176,34 @@ module _ (x : Aisle) (row after : ℕ → ℕ → ℕ) (fronts backs steps : Lis
     )
       where
         h : ℕ
-        h = (candidate_of cells a).front
+        h = front_of cells a
 
         i : ℕ
-        i = (candidate_of cells a).back
+        i = back_of cells a
 
-        p : PairAt cells (candidate_of cells a).kind h i
+        p : PairAt cells (kind_of a) h i
         p = action_pair cells a o.fits
 
         low : h ≤ cells + 1
         low = omega (arith, p.order, p.high)
 
         -- a back turn that goes by the test is past the front turn too
-        goes : (free : Bool) → eqb between 0 ≡ free → get_or x.between.from h 0 ≤ i → get_or t.from h 0 ≤ i
-        goes true e l = omega (arith, p.order, from_is h true low e)
-        goes false e l = omega (arith, from_is h false low e)
+        goes : (b : Bool) → between ≡ b → get_or x.between.from h 0 ≤ i → get_or t.from h 0 ≤ i
+        goes false e l = omega (arith, p.order, from_is h false low e)
+        goes true e l = omega (arith, from_is h true low e)
 
         able : (may x.between.front h ≡ true) × (may x.between.back i ≡ true) × (get_or t.from h 0 ≤ i)
         able =
             ⊎_elim
-            (λ e. let free = eq-eqb between 0 e in (
-              ap (λ b. b || get_or x.between.front h false) free,
-              ap (λ b. b || get_or x.between.back i false) free,
-              omega (arith, p.order, from_is h true low free),
+            (λ e. (
+              ap (λ b. not b || get_or x.between.front h false) e,
+              ap (λ b. not b || get_or x.between.back i false) e,
+              omega (arith, p.order, from_is h false low e),
             ))
-            (λ e. let u = between_turns x.between (candidate_of cells a) e in (
-              or-true (eqb between 0) (get_or x.between.front h false) u.front,
-              or-true (eqb between 0) (get_or x.between.back i false) u.back,
-              goes (eqb between 0) refl u.goes,
+            (λ e. let u = between_turns x.between cells a e in (
+              or-true (not between) (get_or x.between.front h false) u.front,
+              or-true (not between) (get_or x.between.back i false) u.back,
+              goes between refl u.goes,
             ))
             o.passes
 
@@ -215,16 +217,16 @@ module _ (x : Aisle) (row after : ℕ → ℕ → ℕ) (fronts backs steps : Lis
       still s q l h e = inl (omega (arith, swept.less s q l h, fits s q))
 
       -- a way with the answer of the pass is that of the action, or none
-      settle : (s q : ℕ) (a : Action) → s < 8 → q < x.weight → Fits cells a → (between ≡ 1 → candidate_between x.between (candidate_of cells a) ≡ true)
-          → row' s q ≡ way_with x after fronts backs (bit between) s q a → One s q
-      settle s q a l h f passes e = go mode
+      settle : (s q : ℕ) (a : Action) → s < 8 → q < x.weight → Fits cells a → (between ≡ true → passes_between x.between cells a ≡ true)
+          → row' s q ≡ way_with x after fronts backs between s q a → One s q
+      settle s q a l h f passes e = go between refl
         where
-          go : (between ≡ 0) ⊎ ((between ≡ 1) × (kind < 4)) → One s q
-          go (inl n) =
-              let way = e ∙ ap (λ n. way_with x after fronts backs (bit n) s q a) n in
+          go : (b : Bool) → between ≡ b → One s q
+          go false n =
+              let way = e ∙ ap (λ b. way_with x after fronts backs b s q a) n in
               ⊎_elim (λ p. inr (a, f, way ∙ p)) (λ p. still s q l h (way ∙ p)) (way_true x after fronts backs s q dead-none a)
-          go (inr (n, k)) =
-              inr (a, f, e ∙ ap (λ n. way_with x after fronts backs (bit n) s q a) n ∙ sym (way_is x after fronts backs s q a ∙ ap (λ b. way_with x after fronts backs b s q a) (passes n)))
+          go true n =
+              inr (a, f, e ∙ ap (λ b. way_with x after fronts backs b s q a) (n ∙ sym (passes n)) ∙ sym (way_is x after fronts backs s q a))
 
       -- a pair of turns that are there
       found : (s q h i : ℕ) → s < 8 → q < x.weight → Pair t h i → front_test h ≡ true → back_test i ≡ true
@@ -236,7 +238,7 @@ module _ (x : Aisle) (row after : ℕ → ℕ → ℕ) (fronts backs steps : Lis
           ∙ pair_way s q a l m p.fits p.kind_is (subst (λ n. front_test n ≡ true) (sym p.front_is) u) (subst (λ n. back_test n ≡ true) (sym p.back_is) v))
         where
           a : Action
-          a = action_of_parts kind h i
+          a = action_by kind h i
 
           fs : (front_at cells kind h ≡ true) × (may x.between.front h ≡ true)
           fs = (and-eq-true_iff (front_at cells kind h) (may x.between.front h)).0 u
@@ -245,27 +247,23 @@ module _ (x : Aisle) (row after : ℕ → ℕ → ℕ) (fronts backs steps : Lis
           bs = (and-eq-true_iff (back_at (cells + 1) kind i) (may x.between.back i)).0 v
 
           order : h < i
-          order = omega (arith, o.front, o.goes, (turns_graded x kind (eqb between 0) t ready.aisle turns).past h (omega (arith, o.front)))
+          order = omega (arith, o.front, o.goes, (turns_graded x kind between t ready.aisle turns).past h (omega (arith, o.front)))
 
-          p : PairOf cells kind h i (action_of_parts kind h i)
-          p = pair_action cells kind h i small order fs.0 bs.0
+          p : PairOf cells kind h i (action_by kind h i)
+          p = pair_action cells kind h i order fs.0 bs.0
 
-          low_kind : between ≡ 1 → kind < 4
-          low_kind n = ⊎_elim (λ z. absurd (omega arith)) (λ k. k.1) mode
-
-          turning : between ≡ 1 → Turning x.between h i
+          turning : between ≡ true → Turning x.between h i
           turning n =
-              let no = free_no between n in
               record {
-                front = sym (ap (λ b. b || get_or x.between.front h false) no) ∙ fs.1;
-                back = sym (ap (λ b. b || get_or x.between.back i false) no) ∙ bs.1;
-                goes = omega (arith, o.goes, from_is h false (omega (arith, o.front, turns.top)) no);
+                front = sym (ap (λ b. not b || get_or x.between.front h false) n) ∙ fs.1;
+                back = sym (ap (λ b. not b || get_or x.between.back i false) n) ∙ bs.1;
+                goes = omega (arith, o.goes, from_is h true (omega (arith, o.front, turns.top)) n);
               }
 
-          passes : between ≡ 1 → candidate_between x.between (candidate_of cells a) ≡ true
+          passes : between ≡ true → passes_between x.between cells a ≡ true
           passes n =
-              turns_between x.between (candidate_of cells a) (subst (λ k. k < 4) (sym p.kind_is) (low_kind n))
-              (subst (λ k. Turning x.between k (candidate_of cells a).back) (sym p.front_is) (subst (Turning x.between h) (sym p.back_is) (turning n)))
+              turns_between x.between cells a (tested_turns kind h i (tested n))
+              (subst (λ k. Turning x.between k (back_of cells a)) (sym p.front_is) (subst (Turning x.between h) (sym p.back_is) (turning n)))
 
       one : (s q : ℕ) → s < 8 → q < x.weight → One s q
       unfolding sum_up_to
@@ -289,130 +287,166 @@ module _ (x : Aisle) (row after : ℕ → ℕ → ℕ) (fronts backs steps : Lis
             one = one;
           }
         where
-          low : (s q : ℕ) (a : Action) → s < 8 → q < x.weight → OfPass x kind between a → row' s q ≤ way_with x after fronts backs (bit between) s q a
+          low : (s q : ℕ) (a : Action) → s < 8 → q < x.weight → OfPass x kind between a → row' s q ≤ way_with x after fronts backs between s q a
           low s q a l h o =
               let u = tests a o in
               subst (λ n. row' s q ≤ n) (pair_way s q a l h o.fits o.same u.0 u.1)
-              (swept.low s q (candidate_of cells a).front (candidate_of cells a).back l h (omega arith) u.2)
+              (swept.low s q (front_of cells a) (back_of cells a) l h (omega arith) u.2)
 
--- the numbers of the passes
-pub pass_kind_lem : (pass : ℕ) → pass < 9 → pass_kind pass < 6
-pass_kind_lem pass l = omega arith
-
-pub pass_mode : (pass : ℕ) → pass < 9 → (pass_between pass ≡ 0) ⊎ ((pass_between pass ≡ 1) × (pass_kind pass < 4))
-pass_mode pass l = go (ltb pass 6) refl
+-- a kind has its rank alone: it is found by it
+rank_alone : (k l : Kind) → kind_rank k ≡ kind_rank l → k ≡ l
+rank_alone k l e = sym (by_rank k) ∙ ap at e ∙ by_rank l
   where
-    go : (b : Bool) → ltb pass 6 ≡ b → (pass_between pass ≡ 0) ⊎ ((pass_between pass ≡ 1) × (pass_kind pass < 4))
-    go true e = inl (let h = ltb-true pass 6 e in omega arith)
-    go false e = inr (let h = ltb-false pass 6 e in (omega arith, omega arith))
+    at : ℕ → Kind
+    at n = get_or (kinds_named FrontSide Exact) n VOID
 
-pub passes_few : (policy : ℕ) → passes_of policy ≤ 9
-passes_few policy = go (asks_between policy)
-  where
-    go : (b : Bool) → cond b 9 6 ≤ 9
-    go true = omega arith
-    go false = omega arith
+    by_rank : (k : Kind) → at (kind_rank k) ≡ k
+    by_rank VOID = refl
+    by_rank BOTTOM = refl
+    by_rank TOP = refl
+    by_rank GAP = refl
+    by_rank ONCE = refl
+    by_rank TWICE = refl
 
-pub passes_many : (policy : ℕ) → 6 ≤ passes_of policy
-passes_many policy = go (asks_between policy)
-  where
-    go : (b : Bool) → 6 ≤ cond b 9 6
-    go true = omega arith
-    go false = omega arith
+-- the kinds stand in the order of their ranks, and of those that are asked the test the first is BOTTOM
+pub kind_at : (i : ℕ) → i < 6 → kind_rank (get_or KINDS i VOID) ≡ i
+kind_at zero l = refl
+kind_at (suc zero) l = refl
+kind_at (suc (suc zero)) l = refl
+kind_at (suc (suc (suc zero))) l = refl
+kind_at (suc (suc (suc (suc zero)))) l = refl
+kind_at (suc (suc (suc (suc (suc zero))))) l = refl
+kind_at (suc (suc (suc (suc (suc (suc i)))))) l = absurd (omega arith)
 
--- keys after the first n passes: no way over an action of theirs is less, and each key is 'none' or the way over an action
-pub record RowPassed (x : Aisle) (row after : ℕ → ℕ → ℕ) (fronts backs : List ℕ) (n : ℕ) : Type 0 where
-  pub low : (p s q : ℕ) (a : Action) → p < n → s < 8 → q < x.weight → OfPass x (pass_kind p) (pass_between p) a → row s q ≤ way_with x after fronts backs (bit (pass_between p)) s q a
+pub tested_at : (i : ℕ) → i < 3 → kind_rank (get_or TESTED i VOID) ≡ i + 1
+tested_at zero l = refl
+tested_at (suc zero) l = refl
+tested_at (suc (suc zero)) l = refl
+tested_at (suc (suc (suc i))) l = absurd (omega arith)
+
+-- keys after the first n kinds, and after the first m kinds that are asked the test for aisles between, as far as they pass it: no way over an
+-- action of theirs is less, and each key is 'none' or the way over an action
+pub record RowPassed (x : Aisle) (row after : ℕ → ℕ → ℕ) (fronts backs : List ℕ) (n m : ℕ) : Type 0 where
+  pub low : (k : Kind) (s q : ℕ) (a : Action) → kind_rank k < n → s < 8 → q < x.weight → OfPass x k false a → row s q ≤ way_with x after fronts backs false s q a
+  pub tested : (k : Kind) (s q : ℕ) (a : Action) → is_tested k ≡ true → kind_rank k ≤ m → s < 8 → q < x.weight → OfPass x k true a
+      → row s q ≤ way_with x after fronts backs true s q a
   pub one : (s q : ℕ) → s < 8 → q < x.weight → (row s q ≡ no_key) ⊎ ((a : Action) × Fits x.layout.cells a × (row s q ≡ through_action x after fronts backs s q a))
 
 module _ (x : Aisle) (after : ℕ → ℕ → ℕ) (fronts backs : List ℕ) where
   -- the way over an action
-  abbrev through : ℕ → ℕ → Action → ℕ
-  through s q a = through_action x after fronts backs s q a
+  abbrev through_by : ℕ → ℕ → Action → ℕ
+  through_by s q a = through_action x after fronts backs s q a
 
   -- at first there is no way
-  pub passed_none : (row : ℕ → ℕ → ℕ) → ((s q : ℕ) → s < 8 → q < x.weight → row s q ≡ no_key) → RowPassed x row after fronts backs 0
-  passed_none row none = record { low = λ p s q a n l h o. absurd (omega arith); one = λ s q l h. inl (none s q l h) }
-
-  -- one more pass
-  pub passed_one : (row row' : ℕ → ℕ → ℕ) (n : ℕ) → RowPassed x row after fronts backs n
-      → PassDone x row row' after fronts backs (pass_kind n) (pass_between n) → RowPassed x row' after fronts backs (n + 1)
-  passed_one row row' n r d =
+  pub passed_none : (row : ℕ → ℕ → ℕ) → ((s q : ℕ) → s < 8 → q < x.weight → row s q ≡ no_key) → RowPassed x row after fronts backs 0 0
+  passed_none row none =
       record {
-        low = λ p s q a m l h o. ⊎_elim (λ k. omega (arith, d.less s q l h, r.low p s q a k l h o)) (λ e. here p s q a e l h o) (below p n m);
-        one = λ s q l h. one s q (d.one s q l h) (r.one s q l h);
+        low = λ k s q a n l h o. absurd (omega arith);
+        tested = λ k s q a t n l h o. absurd (true≢false (sym t ∙ untested k n));
+        one = λ s q l h. inl (none s q l h);
       }
     where
-      here : (p s q : ℕ) (a : Action) → p ≡ n → s < 8 → q < x.weight → OfPass x (pass_kind p) (pass_between p) a → row' s q ≤ way_with x after fronts backs (bit (pass_between p)) s q a
-      here p s q a e l h = subst (λ k. OfPass x (pass_kind k) (pass_between k) a → row' s q ≤ way_with x after fronts backs (bit (pass_between k)) s q a) (sym e) (d.low s q a l h)
+      untested : (k : Kind) → kind_rank k ≤ 0 → is_tested k ≡ false
+      untested VOID n = refl
+      untested BOTTOM n = absurd (omega arith)
+      untested TOP n = absurd (omega arith)
+      untested GAP n = absurd (omega arith)
+      untested ONCE n = refl
+      untested TWICE n = refl
 
-      one : (s q : ℕ) → (row' s q ≡ row s q) ⊎ ((a : Action) × Fits x.layout.cells a × (row' s q ≡ through s q a))
-          → (row s q ≡ no_key) ⊎ ((a : Action) × Fits x.layout.cells a × (row s q ≡ through s q a))
-          → (row' s q ≡ no_key) ⊎ ((a : Action) × Fits x.layout.cells a × (row' s q ≡ through s q a))
-      one s q (inr w) v = inr w
-      one s q (inl e) (inl f) = inl (e ∙ f)
-      one s q (inl e) (inr (a, f, g)) = inr (a, f, e ∙ g)
+  module _ (row row' : ℕ → ℕ → ℕ) (n m : ℕ) (r : RowPassed x row after fronts backs n m) where
+    -- unchanged, or the way over an action
+    one_more : (s q : ℕ) → (row' s q ≡ row s q) ⊎ ((a : Action) × Fits x.layout.cells a × (row' s q ≡ through_by s q a))
+        → (row s q ≡ no_key) ⊎ ((a : Action) × Fits x.layout.cells a × (row s q ≡ through_by s q a))
+        → (row' s q ≡ no_key) ⊎ ((a : Action) × Fits x.layout.cells a × (row' s q ≡ through_by s q a))
+    one_more s q (inr w) v = inr w
+    one_more s q (inl e) (inl f) = inl (e ∙ f)
+    one_more s q (inl e) (inr (a, f, g)) = inr (a, f, e ∙ g)
 
-  module _ (row : ℕ → ℕ → ℕ) (passed : RowPassed x row after fronts backs (passes_of x.policy)) (s q : ℕ) (l : s < 8) (h : q < x.weight) where
+    -- one more kind
+    pub passed_one : (kind : Kind) → kind_rank kind ≡ n → PassDone x row row' after fronts backs kind false → RowPassed x row' after fronts backs (n + 1) m
+    passed_one kind here d =
+        record {
+          low = λ k s q a b l h o. ⊎_elim (λ p. omega (arith, d.less s q l h, r.low k s q a p l h o))
+              (λ e. d.low s q a l h (subst (λ k. OfPass x k false a) (rank_alone k kind (e ∙ sym here)) o)) (below (kind_rank k) n b);
+          tested = λ k s q a t b l h o. omega (arith, d.less s q l h, r.tested k s q a t b l h o);
+          one = λ s q l h. one_more s q (d.one s q l h) (r.one s q l h);
+        }
+
+    -- one more kind with the test
+    pub passed_tested : (kind : Kind) → kind_rank kind ≡ m + 1 → PassDone x row row' after fronts backs kind true → RowPassed x row' after fronts backs n (m + 1)
+    passed_tested kind here d =
+        record {
+          low = λ k s q a b l h o. omega (arith, d.less s q l h, r.low k s q a b l h o);
+          tested = λ k s q a t b l h o. ⊎_elim (λ p. omega (arith, d.less s q l h, r.tested k s q a t (omega arith) l h o))
+              (λ e. d.low s q a l h (subst (λ k. OfPass x k true a) (rank_alone k kind (e ∙ sym here)) o)) (below (kind_rank k) (m + 1) (omega arith));
+          one = λ s q l h. one_more s q (d.one s q l h) (r.one s q l h);
+        }
+
+  module _ (row : ℕ → ℕ → ℕ) (m : ℕ) (passed : RowPassed x row after fronts backs 6 m) (all : asks_between x.method.policy ≡ true → 3 ≤ m)
+      (s q : ℕ) (l : s < 8) (h : q < x.weight) where
     -- the way over an action with the answer of the test for aisles between given
     abbrev way : Bool → Action → ℕ
     way b a = way_with x after fronts backs b s q a
 
-    -- the kind of an action
-    abbrev kind : Action → ℕ
-    kind a = (candidate_of x.layout.cells a).kind
-
     -- the pass of its kind looks at an action with the answer 'no'
     low_no : (a : Action) → Fits x.layout.cells a → row s q ≤ way false a
-    low_no a f =
-        let small = (candidate_parts x.layout.cells a f).kind_below in
-        let none : pass_between (kind a) ≡ 0 = omega arith in
-        let more : 6 ≤ passes_of x.policy = passes_many x.policy in
-        subst (λ n. row s q ≤ way (bit n) a) none
-        (passed.low (kind a) s q a (omega arith) l h (record { fits = f; same = omega arith; passes = inl none }))
+    low_no a f = passed.low (kind_of a) s q a (rank_below (kind_of a)) l h (record { fits = f; same = refl; passes = inl refl })
+      where
+        rank_below : (k : Kind) → kind_rank k < 6
+        rank_below VOID = omega arith
+        rank_below BOTTOM = omega arith
+        rank_below TOP = omega arith
+        rank_below GAP = omega arith
+        rank_below ONCE = omega arith
+        rank_below TWICE = omega arith
 
     -- and the last passes, where the policy asks the test, with the answer 'yes'
-    low_yes : (a : Action) → Fits x.layout.cells a → asks_between x.policy ≡ true → 1 ≤ kind a → kind a < 4
-        → candidate_between x.between (candidate_of x.layout.cells a) ≡ true → row s q ≤ way true a
-    low_yes a f is low high passes =
-        let one : pass_between (kind a + 5) ≡ 1 = omega arith in
-        let nine : passes_of x.policy ≡ 9 = ap (λ b. cond b 9 6) is in
-        subst (λ n. row s q ≤ way (bit n) a) one
-        (passed.low (kind a + 5) s q a (omega arith) l h (record { fits = f; same = omega arith; passes = inr passes }))
+    low_yes : (a : Action) → Fits x.layout.cells a → asks_between x.method.policy ≡ true → is_tested (kind_of a) ≡ true
+        → passes_between x.between x.layout.cells a ≡ true → row s q ≤ way true a
+    low_yes a f is tested passes =
+        passed.tested (kind_of a) s q a tested (within_all (kind_of a) tested) l h (record { fits = f; same = refl; passes = inr passes })
+      where
+        within_all : (k : Kind) → is_tested k ≡ true → kind_rank k ≤ m
+        within_all VOID t = absurd (true≢false (sym t))
+        within_all BOTTOM t = omega (arith, all is)
+        within_all TOP t = omega (arith, all is)
+        within_all GAP t = all is
+        within_all ONCE t = absurd (true≢false (sym t))
+        within_all TWICE t = absurd (true≢false (sym t))
 
     -- no way is less
-    low : (a : Action) → Fits x.layout.cells a → row s q ≤ through s q a
-    low a f = by_policy (asks_between x.policy) refl
+    low : (a : Action) → Fits x.layout.cells a → row s q ≤ through_by s q a
+    low a f = by_policy (asks_between x.method.policy) refl
       where
-        any : (asks_between x.policy ≡ false) ⊎ ((kind a ≡ 0) ⊎ (4 ≤ kind a)) → row s q ≤ through s q a
+        any : (asks_between x.method.policy ≡ false) ⊎ (is_tested (kind_of a) ≡ false) → row s q ≤ through_by s q a
         any free = subst (λ n. row s q ≤ n) (way_any x after fronts backs s q a free) (low_no a f)
 
-        by_answer : asks_between x.policy ≡ true → 1 ≤ kind a → kind a < 4 → (b : Bool) → candidate_between x.between (candidate_of x.layout.cells a) ≡ b → row s q ≤ through s q a
-        by_answer is low high true e = subst (λ n. row s q ≤ n) (sym (way_is x after fronts backs s q a ∙ ap (λ b. way b a) e)) (low_yes a f is low high e)
-        by_answer is low high false e = subst (λ n. row s q ≤ n) (sym (way_is x after fronts backs s q a ∙ ap (λ b. way b a) e)) (low_no a f)
+        by_answer : asks_between x.method.policy ≡ true → is_tested (kind_of a) ≡ true → (b : Bool) → passes_between x.between x.layout.cells a ≡ b → row s q ≤ through_by s q a
+        by_answer is tested true e = subst (λ n. row s q ≤ n) (sym (way_is x after fronts backs s q a ∙ ap (λ b. way b a) e)) (low_yes a f is tested e)
+        by_answer is tested false e = subst (λ n. row s q ≤ n) (sym (way_is x after fronts backs s q a ∙ ap (λ b. way b a) e)) (low_no a f)
 
-        by_kind : asks_between x.policy ≡ true → (b c : Bool) → ltb 0 (kind a) ≡ b → ltb (kind a) 4 ≡ c → row s q ≤ through s q a
-        by_kind is false c e g = any (inr (inl (omega (arith, ltb-false 0 (kind a) e))))
-        by_kind is true false e g = any (inr (inr (ltb-false (kind a) 4 g)))
-        by_kind is true true e g = by_answer is (ltb-true 0 (kind a) e) (ltb-true (kind a) 4 g) (candidate_between x.between (candidate_of x.layout.cells a)) refl
+        by_kind : asks_between x.method.policy ≡ true → (b : Bool) → is_tested (kind_of a) ≡ b → row s q ≤ through_by s q a
+        by_kind is false e = any (inr e)
+        by_kind is true e = by_answer is e (passes_between x.between x.layout.cells a) refl
 
-        by_policy : (b : Bool) → asks_between x.policy ≡ b → row s q ≤ through s q a
+        by_policy : (b : Bool) → asks_between x.method.policy ≡ b → row s q ≤ through_by s q a
         by_policy false e = any (inl e)
-        by_policy true e = by_kind e (ltb 0 (kind a)) (ltb (kind a) 4) refl refl
+        by_policy true e = by_kind e (is_tested (kind_of a)) refl
 
     -- so the key is the least
-    pub least_passed : row s q ≡ least_or no_key (through s q) (actions_of x.layout.cells)
-    unfolding through_action through_candidate sum_up_to
+    pub least_passed : row s q ≡ least_or no_key (through_by s q) (actions_of x.layout.cells)
+    unfolding through_action sum_up_to
     least_passed =
-        least_is no_key (through s q) (row s q) (actions_of x.layout.cells) (top (passed.one s q l h))
+        least_is no_key (through_by s q) (row s q) (actions_of x.layout.cells) (top (passed.one s q l h))
         (λ a m. low a (actions_sound x.layout.cells a m))
         (listed (passed.one s q l h))
       where
-        top : (row s q ≡ no_key) ⊎ ((a : Action) × Fits x.layout.cells a × (row s q ≡ through s q a)) → row s q ≤ no_key
+        top : (row s q ≡ no_key) ⊎ ((a : Action) × Fits x.layout.cells a × (row s q ≡ through_by s q a)) → row s q ≤ no_key
         top (inl e) = omega arith
         top (inr (a, f, e)) = omega arith
 
-        listed : (row s q ≡ no_key) ⊎ ((a : Action) × Fits x.layout.cells a × (row s q ≡ through s q a))
-            → (row s q ≡ no_key) ⊎ ((a : Action) × Memᴰ a (actions_of x.layout.cells) × (row s q ≡ through s q a))
+        listed : (row s q ≡ no_key) ⊎ ((a : Action) × Fits x.layout.cells a × (row s q ≡ through_by s q a))
+            → (row s q ≡ no_key) ⊎ ((a : Action) × Memᴰ a (actions_of x.layout.cells) × (row s q ≡ through_by s q a))
         listed (inl e) = inl e
         listed (inr (a, f, e)) = inr (a, actions_complete x.layout.cells a f, e)

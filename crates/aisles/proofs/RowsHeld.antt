@@ -2,28 +2,30 @@
 use Prim.Native.Nat.{ℕ, suc, ◌+◌, ◌*◌, ◌≤◌, ◌<◌}
 use native.Mathlib.Omega.{arith}
 use mathlib.Core.Path.{◌≡◌, refl, sym, ◌∙◌, ap}
-use mathlib.Core.Logic.{◌⊎◌}
 use mathlib.Core.List.{List}
-use mathlib.Core.Bool.{cond}
-use lib.Dec.{eqb}
+use mathlib.Core.Bool.{Bool, true, false, true≢false}
 use lib.ListN.{get_or}
-use borrow.Author.Tests.{eq-eqb, ne_eqb}
+use denote.Enum.Bare.{sameb}
+use Rattle.rules.specs.contracts.Kind as KindType
+use Rattle.rules.specs.declared.Kind.{Kind}
+use Rattle.rules.specs.declared.Kind.TheVariants.{Void as VOID, Bottom as BOTTOM, Top as TOP, Gap as GAP, Once as ONCE, Twice as TWICE}
+use Rattle.rules.specs.Plans.{kind_rank}
 use Rattle.optimum.specs.Least.{sum_up_to}
 use Rattle.optimum.specs.Routing.{no_key}
 use Rattle.rows.specs.Rows.{next_at, Permuted, NoneTo}
 use Rattle.rows.specs.Pairs.{key_at, next_key, SoundRow, KeysRelaxed, SparedTo}
 use Rattle.rows.proofs.Keys.{key_top}
 use Rattle.rows.proofs.KeyRows.{row_top, dead_key, keys_none, keys_entered, sound_row_entered, keys_spared, sound_row_spared}
-use Rattle.machine.specs.Steps.{bit}
+use Rattle.machine.specs.Tables.{asks_between, is_tested}
 use Rattle.aisles.specs.declared.layers.Aisle.{Aisle}
 use Rattle.aisles.specs.declared.layers.Turns.{Turns}
 use Rattle.aisles.specs.declared.repeats.Repeats.{Repeats}
 use Rattle.aisles.specs.Repeating.{RepeatsTo}
 use Rattle.aisles.specs.Turns.{Thinned, BacksHeld, RowsSwept, SweepReady}
-use Rattle.aisles.specs.Layers.{step_with, RowsStepped, AisleReady, TurnsOf, RowsPassed, RowFilled, passes_of, pass_kind, pass_between}
+use Rattle.aisles.specs.Layers.{step_with, entered_by, RowsStepped, AisleReady, TurnsOf, RowsPassed, RowFilled}
 use Rattle.aisles.proofs.Sweeping.{backs_none, backs_one, swept_none, swept_one}
 use Rattle.aisles.proofs.Thinning.{swept_thin}
-use Rattle.aisles.proofs.PassLaws.{pass_skipped, pass_swept, RowPassed, passed_none, passed_one, least_passed}
+use Rattle.aisles.proofs.PassLaws.{pass_skipped, pass_swept, RowPassed, passed_none, passed_one, passed_tested, least_passed}
 
 module _ (perm perm-spared backs : List ℕ) (t : Turns) (weight : ℕ) where
   -- past the back crossing there is no back turn
@@ -75,7 +77,7 @@ module _ (row spared perm perm-spared fronts backs : List ℕ) (t : Turns) (weig
 
 -- rows that are swept over the turns that are kept are swept over all turns
 pub rows_thin : (row row' spared spared' perm perm-spared fronts backs : List ℕ) (weight : ℕ) (t : Turns) (same : Repeats) (u : Turns) → Thinned t same u
-    → SweepReady row spared perm perm-spared fronts backs t weight → RepeatsTo fronts weight same.front t.top → RepeatsTo backs weight same.back t.top
+    → SweepReady fronts backs t weight → RepeatsTo fronts weight same.front t.top → RepeatsTo backs weight same.back t.top
     → RowsSwept row row' spared spared' perm perm-spared fronts backs u weight 0 → RowsSwept row row' spared spared' perm perm-spared fronts backs t weight 0
 rows_thin row row' spared spared' perm perm-spared fronts backs weight t same u thin ready Front-same back-same swept =
     record {
@@ -92,42 +94,54 @@ rows_thin row row' spared spared' perm perm-spared fronts backs weight t same u 
           );
     }
 
-module _ (perm perm' perm-spared perm-spared' after after-spared steps : List ℕ) (kind weight : ℕ)
-    (x : Permuted perm perm' after steps weight 8) (y : Permuted perm-spared perm-spared' after-spared steps weight 8) where
+module _ (old way old-spared way-spared after after-spared steps : List ℕ) (kind : Kind) (weight : ℕ)
+    (x : Permuted old way after steps weight 8) (y : Permuted old-spared way-spared after-spared steps weight 8) where
   -- a kind that enters the aisle leaves the ones as they are
-  pub stepped_entered : (kind ≡ 0 → ⊥) → RowsStepped perm perm' perm-spared perm-spared' after after-spared steps kind weight
-  stepped_entered n =
+  pub stepped_entered : sameb KindType.the_type kind VOID ≡ false → RowsStepped way way-spared after after-spared steps kind weight
+  stepped_entered enters =
       record {
-        kept = x.kept;
-        spared_kept = y.kept;
         keyed = λ r room there. (
-          sound_row_entered perm perm' perm-spared perm-spared' after after-spared steps weight x y r there room,
-          λ s q l h. keys_entered perm perm' perm-spared perm-spared' after after-spared steps weight x y r there room s q l h
-              ∙ ap (λ b. sum_up_to no_key (cond b 0 1) (next_key r after after-spared (get_or steps s 0) q)) (sym (ne_eqb kind 0 n)),
-        );
-      }
-
-  -- VOID makes a one more
-  pub stepped_spared : (perm-spared'' : List ℕ) → kind ≡ 0 → SparedTo perm-spared' perm-spared'' (weight * 8)
-      → RowsStepped perm perm' perm-spared perm-spared'' after after-spared steps kind weight
-  unfolding sum_up_to
-  stepped_spared perm-spared'' e spared =
-      record {
-        kept = x.kept;
-        spared_kept = spared.kept ∙ y.kept;
-        keyed = λ r room there. (
-          sound_row_spared perm perm' perm-spared perm-spared' after after-spared steps weight x y r there room perm-spared'' spared,
-          λ s q l h. keys_spared perm perm' perm-spared perm-spared' after after-spared steps weight x y r there room perm-spared'' spared s q l h
-              ∙ nothing (next_key r after after-spared (get_or steps s 0) q) (key_top r (next_at after (get_or steps s 0) q) (next_at after-spared (get_or steps s 0) q))
-              ∙ ap (λ b. sum_up_to no_key (cond b 0 1) (next_key r after after-spared (get_or steps s 0) q)) (sym (eq-eqb kind 0 e)),
+          sound_row_entered old way old-spared way-spared after after-spared steps weight x y r there room,
+          λ s q l h. keys_entered old way old-spared way-spared after after-spared steps weight x y r there room s q l h
+              ∙ ap (λ n. sum_up_to no_key n (next_key r after after-spared (get_or steps s 0) q)) (sym (one kind enters)),
         );
       }
     where
+      one : (k : Kind) → sameb KindType.the_type k VOID ≡ false → entered_by k ≡ 1
+      one VOID e = absurd (true≢false e)
+      one BOTTOM e = refl
+      one TOP e = refl
+      one GAP e = refl
+      one ONCE e = refl
+      one TWICE e = refl
+
+  -- VOID makes a one more
+  pub stepped_spared : (spared : List ℕ) → sameb KindType.the_type kind VOID ≡ true → SparedTo way-spared spared (weight * 8)
+      → RowsStepped way spared after after-spared steps kind weight
+  unfolding sum_up_to
+  stepped_spared spared is more =
+      record {
+        keyed = λ r room there. (
+          sound_row_spared old way old-spared way-spared after after-spared steps weight x y r there room spared more,
+          λ s q l h. keys_spared old way old-spared way-spared after after-spared steps weight x y r there room spared more s q l h
+              ∙ nothing (next_key r after after-spared (get_or steps s 0) q) (key_top r (next_at after (get_or steps s 0) q) (next_at after-spared (get_or steps s 0) q))
+              ∙ ap (λ n. sum_up_to no_key n (next_key r after after-spared (get_or steps s 0) q)) (sym (none kind is)),
+        );
+      }
+    where
+      none : (k : Kind) → sameb KindType.the_type k VOID ≡ true → entered_by k ≡ 0
+      none VOID e = refl
+      none BOTTOM e = absurd (true≢false (sym e))
+      none TOP e = absurd (true≢false (sym e))
+      none GAP e = absurd (true≢false (sym e))
+      none ONCE e = absurd (true≢false (sym e))
+      none TWICE e = absurd (true≢false (sym e))
+
       nothing : (v : ℕ) → v ≤ no_key → v ≡ sum_up_to no_key 0 v
       nothing v h = omega arith
 
-module _ (x : Aisle) (row row' spared spared' after after-spared fronts backs steps : List ℕ) (kind between : ℕ)
-    (steps-are : (s : ℕ) → s < 8 → get_or steps s 0 ≡ step_with x kind (bit between) s) where
+module _ (x : Aisle) (row row' spared spared' after after-spared fronts backs steps : List ℕ) (kind : Kind) (between : Bool)
+    (steps-are : (s : ℕ) → s < 8 → get_or steps s 0 ≡ step_with x kind between s) where
   -- a kind that leads on from no state is passed over
   pub rows_skipped : ((s : ℕ) → s < 8 → 8 ≤ get_or steps s 0) → RowsPassed x row row spared spared after after-spared fronts backs kind between
   rows_skipped none =
@@ -144,10 +158,10 @@ module _ (x : Aisle) (row row' spared spared' after after-spared fronts backs st
       }
 
   -- the sweep over its turns does what the pass is to do
-  pub rows_passed : (ready : AisleReady x fronts backs) → kind < 6 → (between ≡ 0) ⊎ ((between ≡ 1) × (kind < 4)) → (t : Turns) → TurnsOf x kind (eqb between 0) t
-      → (perm perm' perm-spared perm-spared' : List ℕ) → RowsStepped perm perm' perm-spared perm-spared' after after-spared steps kind x.weight
-      → RowsSwept row row' spared spared' perm' perm-spared' fronts backs t x.weight 0 → RowsPassed x row row' spared spared' after after-spared fronts backs kind between
-  rows_passed ready small mode t turns perm perm' perm-spared perm-spared' stepped swept =
+  pub rows_passed : (ready : AisleReady x fronts backs) → (between ≡ true → is_tested kind ≡ true) → (t : Turns) → TurnsOf x kind between t
+      → (way way-spared : List ℕ) → RowsStepped way way-spared after after-spared steps kind x.weight
+      → RowsSwept row row' spared spared' way way-spared fronts backs t x.weight 0 → RowsPassed x row row' spared spared' after after-spared fronts backs kind between
+  rows_passed ready tested t turns way way-spared stepped swept =
       record {
         kept = swept.kept;
         spared_kept = swept.spared_kept;
@@ -158,34 +172,44 @@ module _ (x : Aisle) (row row' spared spared' after after-spared fronts backs st
             let s = swept.keyed (suc r) room here b.0 in (
               s.0,
               pass_swept x (key_at (suc r) row spared) (next_key r after after-spared) fronts backs steps kind between steps-are (row_top (suc r) row spared)
-                  (dead_key r after after-spared) ready small mode t turns (key_at (suc r) perm' perm-spared') b.1 (key_at (suc r) row' spared') s.1,
+                  (dead_key r after after-spared) ready tested t turns (key_at (suc r) way way-spared) b.1 (key_at (suc r) row' spared') s.1,
             )
             );
       }
 
--- two rows after the first n passes, with r aisles behind this one, whatever r is
-abbrev pub RowsPassedTo : Aisle → List ℕ → List ℕ → List ℕ → List ℕ → List ℕ → List ℕ → ℕ → Type 0
-RowsPassedTo x row spared after after-spared fronts backs n =
+-- two rows after the first n kinds and the first m that are asked the test, with r aisles behind this one, whatever r is
+abbrev pub RowsPassedTo : Aisle → List ℕ → List ℕ → List ℕ → List ℕ → List ℕ → List ℕ → ℕ → ℕ → Type 0
+RowsPassedTo x row spared after after-spared fronts backs n m =
     (r : ℕ) → r < 16 → SoundRow r after after-spared x.weight
-    → SoundRow (suc r) row spared x.weight × RowPassed x (key_at (suc r) row spared) (next_key r after after-spared) fronts backs n
+    → SoundRow (suc r) row spared x.weight × RowPassed x (key_at (suc r) row spared) (next_key r after after-spared) fronts backs n m
 
 module _ (x : Aisle) (after after-spared fronts backs : List ℕ) where
   -- at first there is no way
-  pub to_none : (row spared : List ℕ) → NoneTo row row (x.weight * 8) → RowsPassedTo x row spared after after-spared fronts backs 0
+  pub to_none : (row spared : List ℕ) → NoneTo row row (x.weight * 8) → RowsPassedTo x row spared after after-spared fronts backs 0 0
   to_none row spared none r room there =
       let at = keys_none (suc r) row row spared x.weight none in
       (λ s q l h. (at s q l h).0, passed_none x (next_key r after after-spared) fronts backs (key_at (suc r) row spared) (λ s q l h. (at s q l h).1))
 
-  -- one more pass
-  pub to_one : (row row' spared spared' : List ℕ) (n : ℕ) → RowsPassedTo x row spared after after-spared fronts backs n
-      → RowsPassed x row row' spared spared' after after-spared fronts backs (pass_kind n) (pass_between n) → RowsPassedTo x row' spared' after after-spared fronts backs (n + 1)
-  to_one row row' spared spared' n to d r room there =
-      let p = to r room there in
-      let k = d.keyed r room p.0 there in
-      (k.0, passed_one x (next_key r after after-spared) fronts backs (key_at (suc r) row spared) (key_at (suc r) row' spared') n p.1 k.1)
+  module _ (row row' spared spared' : List ℕ) (n m : ℕ) (to : RowsPassedTo x row spared after after-spared fronts backs n m) where
+    -- one more kind
+    pub to_one : (kind : Kind) → kind_rank kind ≡ n → RowsPassed x row row' spared spared' after after-spared fronts backs kind false
+        → RowsPassedTo x row' spared' after after-spared fronts backs (n + 1) m
+    to_one kind here d r room there =
+        let p = to r room there in
+        let k = d.keyed r room p.0 there in
+        (k.0, passed_one x (next_key r after after-spared) fronts backs (key_at (suc r) row spared) (key_at (suc r) row' spared') n m p.1 kind here k.1)
+
+    -- one more kind with the test
+    pub to_tested : (kind : Kind) → kind_rank kind ≡ m + 1 → RowsPassed x row row' spared spared' after after-spared fronts backs kind true
+        → RowsPassedTo x row' spared' after after-spared fronts backs n (m + 1)
+    to_tested kind here d r room there =
+        let p = to r room there in
+        let k = d.keyed r room p.0 there in
+        (k.0, passed_tested x (next_key r after after-spared) fronts backs (key_at (suc r) row spared) (key_at (suc r) row' spared') n m p.1 kind here k.1)
 
   -- after all of them the rows hold the least
-  pub to_all : (row spared : List ℕ) → RowsPassedTo x row spared after after-spared fronts backs (passes_of x.policy) → RowFilled x row spared after after-spared fronts backs
-  to_all row spared to r room there s q l h =
+  pub to_all : (row spared : List ℕ) (m : ℕ) → (asks_between x.method.policy ≡ true → 3 ≤ m) → RowsPassedTo x row spared after after-spared fronts backs 6 m
+      → RowFilled x row spared after after-spared fronts backs
+  to_all row spared m all to r room there s q l h =
       let p = to r room there in
-      record { sound = p.0 s q l h; same = least_passed x (next_key r after after-spared) fronts backs (key_at (suc r) row spared) p.1 s q l h }
+      record { sound = p.0 s q l h; same = least_passed x (next_key r after after-spared) fronts backs (key_at (suc r) row spared) m p.1 all s q l h }

@@ -1,16 +1,17 @@
 -- A turn whose row of the map repeats that of its neighbour can be left out: the neighbour's way is no longer. `row` and `perm` are the
 -- keys of rows, by state and demand.
-use Prim.Native.Nat.{ℕ, zero, suc, ◌+◌, ◌-◌, ◌≤◌, ◌<◌}
+use Prim.Native.Nat.{ℕ, zero, suc, ◌+◌, ◌*◌, ◌-◌, ◌≤◌, ◌<◌}
 use native.Mathlib.Omega.{arith}
 use native.Mathlib.Nat.{eq-or-lt_of_le, le_trans}
 use native.Mathlib.Numerals.{add-one}
 use mathlib.Core.Path.{◌≡◌, refl, sym, ◌∙◌, ap, ap₂, subst}
 use mathlib.Core.Logic.{◌⊎◌, inl, inr, ⊎_elim}
-use mathlib.Core.List.{List}
+use mathlib.Core.List.{List, [], ◌∷◌}
 use mathlib.Core.Bool.{Bool, true, false, cond, ◌&&◌, and-eq-true_iff}
 use lib.Dec.{leb, eqb}
-use lib.ListN.{length, get_or, set}
-use lib.Seq.{get_or-set_same, get_or-set_other}
+use lib.ListN.{length, get_or, set, take, drop, length-take, length-drop}
+use lib.Seq.{get_or-set_same, get_or-set_other, get_or-take, get_or-drop}
+use lib.Pointwise.{pointwise}
 use borrow.Author.Tests.{leb-true, eqb-true, eqb-false}
 use Rattle.optimum.specs.Least.{sum_up_to}
 use Rattle.optimum.specs.Routing.{no_key}
@@ -24,15 +25,43 @@ use Rattle.aisles.specs.Repeating.{Agree, RepeatsTo}
 use Rattle.between.specs.Between.{Graded}
 use Rattle.aisles.specs.Turns.{kept_turn, Thinned, turn_way, Pair, SweepReady, SweptTo}
 
--- two rows of a map, compared at one more demand
-pub agree_one : (map : List ℕ) (a b n : ℕ) (same : Bool) → Agree map a b n same → Agree map a b (n + 1) (same && eqb (entry map a n) (entry map b n))
-agree_one map a b n false (q, l, d) = (q, omega arith, d)
-agree_one map a b n true agreed = go (eqb (entry map a n) (entry map b n)) refl
+-- two lists of one length, compared: they are the same, or there is a place where they are not
+abbrev Compared : List ℕ → List ℕ → Bool → Type 0
+Compared xs ys true = (k : ℕ) → get_or xs k 0 ≡ get_or ys k 0
+Compared xs ys false = (k : ℕ) × (k < length xs) × (get_or xs k 0 ≡ get_or ys k 0 → ⊥)
+
+compared : (xs ys : List ℕ) → length xs ≡ length ys → Compared xs ys (pointwise eqb xs ys)
+compared [] [] e = λ k. refl
+compared [] (y ∷ ys) e = absurd (omega arith)
+compared (x ∷ xs) [] e = absurd (omega arith)
+compared (x ∷ xs) (y ∷ ys) e = go (eqb x y) (pointwise eqb xs ys) refl (compared xs ys (omega arith))
   where
-    go : (e : Bool) → eqb (entry map a n) (entry map b n) ≡ e → Agree map a b (n + 1) e
-    go true e =
-        λ q l. ⊎_elim (agreed q) (λ p. subst (λ k. entry map a k ≡ entry map b k) (sym p) (eqb-true (entry map a n) (entry map b n) e)) (below q n l)
-    go false e = (n, omega arith, eqb-false (entry map a n) (entry map b n) e)
+    all : x ≡ y → ((k : ℕ) → get_or xs k 0 ≡ get_or ys k 0) → (k : ℕ) → get_or (x ∷ xs) k 0 ≡ get_or (y ∷ ys) k 0
+    all f g zero = f
+    all f g (suc k) = g k
+
+    go : (u v : Bool) → eqb x y ≡ u → Compared xs ys v → Compared (x ∷ xs) (y ∷ ys) (u && v)
+    go false v f g = (0, omega arith, eqb-false x y f)
+    go true true f g = all (eqb-true x y f) g
+    go true false f (k, l, d) = (suc k, omega arith, d)
+
+-- so two rows of a map agree, or they do not
+pub rows_agree : (map : List ℕ) (a b n : ℕ) → a * 256 + n ≤ length map → b * 256 + n ≤ length map
+    → Agree map a b n (pointwise eqb (take (a * 256 + n - a * 256) (drop (a * 256) map)) (take (b * 256 + n - b * 256) (drop (b * 256) map)))
+rows_agree map a b n a-in b-in = go (pointwise eqb (part a) (part b)) (compared (part a) (part b) (long a a-in ∙ sym (long b b-in)))
+  where
+    part : ℕ → List ℕ
+    part i = take (i * 256 + n - i * 256) (drop (i * 256) map)
+
+    long : (i : ℕ) → i * 256 + n ≤ length map → length (part i) ≡ n
+    long i l = simp (length-take, length-drop) (omega arith)
+
+    at : (i q : ℕ) → q < n → get_or (part i) q 0 ≡ entry map i q
+    at i q l = get_or-take (i * 256 + n - i * 256) (drop (i * 256) map) q 0 (omega arith) ∙ get_or-drop (i * 256) map q 0
+
+    go : (same : Bool) → Compared (part a) (part b) same → Agree map a b n same
+    go true e = λ q l. sym (at a q l) ∙ e q ∙ at b q l
+    go false (q, l, d) = let below : q < n = omega (arith, long a a-in) in (q, below, λ e. d (at a q below ∙ e ∙ sym (at b q below)))
 
 -- one more height whose next row is compared
 pub repeats_one : (map : List ℕ) (weight : ℕ) (same : List Bool) (n : ℕ) (b : Bool) → n < length same → RepeatsTo map weight same n
@@ -76,9 +105,9 @@ kept_or_none : (map : List ℕ) (weight : ℕ) (costs kept : List ℕ) (h near :
 kept_or_none map weight costs kept h near k = ⊎_elim (λ p. inl p) (λ n. inr n.0) k
 
 -- where all turns can be swept, so can those that are kept
-pub sweep_kept : (row spared perm perm-spared fronts backs : List ℕ) (t : Turns) (same : Repeats) (r : Turns) (weight : ℕ)
-    → SweepReady row spared perm perm-spared fronts backs t weight → Thinned t same r → SweepReady row spared perm perm-spared fronts backs r weight
-sweep_kept row spared perm perm-spared fronts backs t same r weight ready thin =
+pub sweep_kept : (fronts backs : List ℕ) (t : Turns) (same : Repeats) (r : Turns) (weight : ℕ)
+    → SweepReady fronts backs t weight → Thinned t same r → SweepReady fronts backs r weight
+sweep_kept fronts backs t same r weight ready thin =
     let top-is = thin.top in
     let b = ready.behind in
     record {
@@ -86,14 +115,8 @@ sweep_kept row spared perm perm-spared fronts backs t same r weight ready thin =
         small = b.small;
         top_fits = omega (arith, b.top_fits);
         graded = subst (λ from. Graded from r.top) (sym thin.from) (subst (Graded t.from) (sym thin.top) b.graded);
-        perm_long = b.perm_long;
-        perm_spared_long = b.perm_spared_long;
-        backs_long = b.backs_long;
         back_below = λ i q l m n. b.back_below i q l (omega arith) n;
       };
-      row_long = ready.row_long;
-      spared_long = ready.spared_long;
-      fronts_long = ready.fronts_long;
       front_below = λ h q l m. ready.front_below h q (omega arith) m;
     }
 

@@ -1,42 +1,46 @@
 -- The turns of a kind of action, and all pairs of them in one sweep.
-use Rattle.std.specs.Prelude.{ℕ, zero, suc, ◌+◌, ◌*◌, ◌≤◌, ◌<◌, ◌≡◌, ◌⊎◌, List, Bool, false, cond, ◌&&◌, ltb, leb, eqb, length, get_or}
+use Rattle.std.specs.Prelude.{ℕ, ◌+◌, ◌*◌, ◌≤◌, ◌<◌, ◌≡◌, ◌⊎◌, List, Bool, false, cond, ◌&&◌, ltb, leb, eqb, length, get_or}
 use Rattle.rules.specs.declared.Layout.{Layout}
+use Rattle.rules.specs.declared.Kind.{Kind}
+use Rattle.rules.specs.declared.Kind.TheVariants.{Void as VOID, Bottom as BOTTOM, Top as TOP, Gap as GAP, Once as ONCE, Twice as TWICE}
 use Rattle.between.specs.Between.{Graded}
 use Rattle.optimum.specs.Routing.{no_tour, no_key}
 use Rattle.aisles.specs.declared.layers.Turns.{Turns}
 use Rattle.aisles.specs.declared.repeats.Repeats.{Repeats}
-use Rattle.aisles.specs.Candidates.{front_cost, back_cost}
+use Rattle.aisles.specs.Actions.{front_cost, back_cost}
 use Rattle.demand.specs.Digits.{demands}
-use Rattle.demand.specs.Maps.{entry, map_size}
+use Rattle.demand.specs.Maps.{entry}
 use Rattle.rows.specs.Rows.{states}
 use Rattle.rows.specs.Pairs.{walk, key_at, SoundRow}
 
 -- the heights that the front part of a kind of action reaches: VOID and TOP have none, ONCE and TWICE pass all cells
-abbrev pub front_at : ℕ → ℕ → ℕ → Bool
-front_at cells zero h = eqb h 0
-front_at cells (suc zero) h = leb 1 h && leb h cells
-front_at cells (suc (suc zero)) h = eqb h 0
-front_at cells (suc (suc (suc zero))) h = leb 1 h && ltb h cells
-front_at cells (suc (suc (suc (suc n)))) h = eqb h cells
+abbrev pub front_at : ℕ → Kind → ℕ → Bool
+front_at cells VOID h = eqb h 0
+front_at cells BOTTOM h = leb 1 h && leb h cells
+front_at cells TOP h = eqb h 0
+front_at cells GAP h = leb 1 h && ltb h cells
+front_at cells ONCE h = eqb h cells
+front_at cells TWICE h = eqb h cells
 
 -- the heights that its back part reaches; `top` is the back crossing, for none
-abbrev pub back_at : ℕ → ℕ → ℕ → Bool
-back_at top zero i = eqb i top
-back_at top (suc zero) i = eqb i top
-back_at top (suc (suc zero)) i = leb 1 i && ltb i top
-back_at top (suc (suc (suc zero))) i = leb 2 i && ltb i top
-back_at top (suc (suc (suc (suc n)))) i = eqb i top
+abbrev pub back_at : ℕ → Kind → ℕ → Bool
+back_at top VOID i = eqb i top
+back_at top BOTTOM i = eqb i top
+back_at top TOP i = leb 1 i && ltb i top
+back_at top GAP i = leb 2 i && ltb i top
+back_at top ONCE i = eqb i top
+back_at top TWICE i = eqb i top
 
 -- what a turn costs; 'none' where the kind has none, or may not turn
-unfoldable pub front_turn : Layout → ℕ → ℕ → Bool → ℕ
+unfoldable pub front_turn : Layout → Kind → ℕ → Bool → ℕ
 front_turn z kind h may = cond (front_at z.cells kind h && may) (front_cost z kind h) no_tour
 
-unfoldable pub back_turn : Layout → ℕ → ℕ → Bool → ℕ
+unfoldable pub back_turn : Layout → Kind → ℕ → Bool → ℕ
 back_turn z kind i may = cond (back_at (z.cells + 1) kind i && may) (back_cost z i) no_tour
 
--- the least back turn that goes with a front turn at height h: the next height, or what the test says
+-- the least back turn that goes with a front turn at height h: what the test says, if it is asked, or the next height
 abbrev pub least_back : Bool → ℕ → ℕ → ℕ
-least_back free from h = cond free (h + 1) from
+least_back between from h = cond between from (h + 1)
 
 -- what a turn costs; 'none' where the neighbouring height leaves the same demand and costs no more
 unfoldable pub kept_turn : Bool → ℕ → ℕ → ℕ
@@ -102,19 +106,13 @@ pub record RowsSwept (row row' spared spared' perm perm-spared fronts backs : Li
       → SoundRow r row' spared' weight × SweptTo (key_at r row spared) (key_at r row' spared') (key_at r perm perm-spared) fronts backs t weight h
 
 -- what the back turns need to be let in
-pub record BacksReady (perm perm-spared backs : List ℕ) (t : Turns) (weight : ℕ) : Type 0 where
+pub record BacksReady (backs : List ℕ) (t : Turns) (weight : ℕ) : Type 0 where
   pub small : weight ≤ demands
   pub top_fits : t.top ≤ 25
   pub graded : Graded t.from t.top
-  pub perm_long : weight * states ≤ length perm
-  pub perm_spared_long : weight * states ≤ length perm-spared
-  pub backs_long : map_size ≤ length backs
   pub back_below : (i q : ℕ) → 1 ≤ i → i ≤ t.top → q < weight → entry backs i q < weight
 
 -- what the sweep needs
-pub record SweepReady (row spared perm perm-spared fronts backs : List ℕ) (t : Turns) (weight : ℕ) : Type 0 where
-  pub behind : BacksReady perm perm-spared backs t weight
-  pub row_long : weight * states ≤ length row
-  pub spared_long : weight * states ≤ length spared
-  pub fronts_long : map_size ≤ length fronts
+pub record SweepReady (fronts backs : List ℕ) (t : Turns) (weight : ℕ) : Type 0 where
+  pub behind : BacksReady backs t weight
   pub front_below : (h q : ℕ) → h < t.top → q < weight → entry fronts h q < weight

@@ -14,20 +14,14 @@ pub struct Repeats {
     pub back: [bool; HEIGHTS],
 }
 
-// Whether two rows of a map agree for all demands. It looks at all of them, so that they can be compared several at a time.
+// Whether two rows of a map agree for all demands.
 fn same_rows(map: &[u16], a: usize, b: usize, weight: usize) -> bool
     requires { (a < heights) × (b < heights) × (weight ≤ demands) × (map_size ≤ length map.now) }
     ensures { Agree map.now a b weight result }
 {
     let from = a * DEMANDS;
     let to = b * DEMANDS;
-    let mut same = true;
-    let mut q = 0;
-    while q < weight {
-        same = same & (map[from + q] == map[to + q]);
-        q += 1;
-    }
-    same
+    map[from..from + weight] == map[to..to + weight]
 }
 
 // For each height below the back crossing, whether the next row of a map repeats its row.
@@ -36,10 +30,8 @@ pub(crate) fn repeats_of(map: &[u16], top: usize, weight: usize) -> [bool; HEIGH
     ensures { RepeatsTo map.now weight result top }
 {
     let mut out = [false; HEIGHTS];
-    let mut h = 0;
-    while h < top {
+    for h in 0..top {
         out[h] = same_rows(map, h, h + 1, weight);
-        h += 1;
     }
     out
 }

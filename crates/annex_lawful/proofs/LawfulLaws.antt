@@ -1,13 +1,10 @@
 -- The tests of lawfulness together say what `Lawful` says.
-use Prim.Native.Nat.{ℕ, ◌+◌, ◌*◌, ◌≤◌, ◌<◌}
+use Prim.Native.Nat.{◌+◌, ◌*◌, ◌≤◌, ◌<◌}
 use native.Mathlib.Omega.{arith}
 use mathlib.Core.Path.{◌≡◌, refl, sym, ap, ◌∙◌, subst}
 use mathlib.Core.Logic.{◌⊎◌, inl, inr, ◌↔◌}
 use mathlib.Core.List.{List, [], ◌∷◌}
-use mathlib.Core.Bool.{true, ◌&&◌, and-eq-true_iff}
-use lib.Dec.{eqb}
 use lib.ListN.{length}
-use borrow.Author.Tests.{eqb-true, eq-eqb}
 use Rattle.rules.specs.declared.Layout.{Layout}
 use Rattle.rules.specs.declared.OrderLine.{OrderLine}
 use Rattle.rules.specs.Store.{Edge, InStore, depot_point}
@@ -120,10 +117,3 @@ module _ (z : Layout) (plan : PlanValue) (p : PlanFor z plan) where
       go (inl l) = l
       go (inr t) = absurd (ne (refl, length_idle t))
   lawful_other (l ∷ lines) ne = (λ x. x, λ x. x)
-
--- the test that both numbers are 0
-pub both_zero : (a b : ℕ) → (eqb a 0 && eqb b 0 ≡ true) ↔ ((a ≡ 0) × (b ≡ 0))
-both_zero a b = (
-  λ e. let t = (and-eq-true_iff (eqb a 0) (eqb b 0)).0 e in (eqb-true a 0 t.0, eqb-true b 0 t.1),
-  λ n. (and-eq-true_iff (eqb a 0) (eqb b 0)).1 (eq-eqb a 0 n.0, eq-eqb b 0 n.1),
-)

@@ -18,16 +18,16 @@ use annex_plans::stages::{action_of, passage_of};
 use flood::{HEIGHTS, depot_number};
 use rules::{Layout, Side};
 use treads::{EDGES, aisle_treads, back_treads, fill, front_treads};
-use values::{PlanValue, depot_side};
+use values::PlanValue;
 
 // The treads at the front crossing of aisle j.
 fn front_degree(z: Layout, plan: PlanValue, j: usize) -> usize
     requires { PlanFor z plan × (1 ≤ j) × (j ≤ z.aisles) }
     ensures { result ≡ front_degree (multiplicity (plan_of plan)) j }
 {
-    aisle_treads(action_of(plan, j), 0) as usize
-        + front_treads(passage_of(plan, j - 1)) as usize
-        + front_treads(passage_of(plan, j)) as usize
+    usize::from(aisle_treads(action_of(plan, j), 0))
+        + usize::from(front_treads(passage_of(plan, j - 1)))
+        + usize::from(front_treads(passage_of(plan, j)))
 }
 
 // The treads at its back crossing.
@@ -35,9 +35,9 @@ fn back_degree(z: Layout, plan: PlanValue, j: usize) -> usize
     requires { PlanFor z plan × (1 ≤ j) × (j ≤ z.aisles) }
     ensures { result ≡ back_degree z (multiplicity (plan_of plan)) j }
 {
-    aisle_treads(action_of(plan, j), z.cells) as usize
-        + back_treads(passage_of(plan, j - 1)) as usize
-        + back_treads(passage_of(plan, j)) as usize
+    usize::from(aisle_treads(action_of(plan, j), z.cells))
+        + usize::from(back_treads(passage_of(plan, j - 1)))
+        + usize::from(back_treads(passage_of(plan, j)))
 }
 
 // Whether each crossing has an even number of treads.
@@ -45,14 +45,8 @@ fn all_even(z: Layout, plan: PlanValue) -> bool
     requires { PlanFor z plan }
     ensures { (result ≡ true) ↔ EvenTo z (plan_of plan) z.aisles }
 {
-    let aisles = z.aisles;
-    let mut j = 0;
-    while j < aisles {
-        j += 1;
-        if front_degree(z, plan, j) % 2 != 0 {
-            return false;
-        }
-        if back_degree(z, plan, j) % 2 != 0 {
+    for j in 1..z.aisles + 1 {
+        if front_degree(z, plan, j) % 2 != 0 || back_degree(z, plan, j) % 2 != 0 {
             return false;
         }
     }
@@ -66,8 +60,7 @@ fn depot_degree(z: Layout, plan: PlanValue) -> usize
 {
     let front = front_degree(z, plan, z.depot);
     let back = back_degree(z, plan, z.depot);
-    let side = depot_side(z);
-    match side {
+    match z.side() {
         Side::FrontSide => front,
         Side::BackSide => back,
     }
@@ -80,8 +73,7 @@ fn hangs_together(z: Layout, plan: PlanValue) -> bool
 {
     let mut treads = [0u8; EDGES];
     fill(z, plan, &mut treads);
-    let depot = depot_number(z);
-    flood::reaches(&treads, depot, HEIGHTS * (z.aisles + 1))
+    flood::reaches(&treads, depot_number(z), HEIGHTS * (z.aisles + 1))
 }
 
 // Whether a plan is lawful: each crossing even, the depot's touched, and all that is trodden hangs together.
@@ -89,16 +81,10 @@ fn lawful(z: Layout, plan: PlanValue) -> bool
     requires { PlanFor z plan }
     ensures { (result ≡ true) ↔ Lawful z (plan_of plan) }
 {
-    if !all_even(z, plan) {
+    if !all_even(z, plan) || depot_degree(z, plan) == 0 {
         return false;
     }
-    if depot_degree(z, plan) == 0 {
-        return false;
-    }
-    if !hangs_together(z, plan) {
-        return false;
-    }
-    true
+    hangs_together(z, plan)
 }
 
 // Whether a plan of this length is lawful for a list of so many lines: for an empty list the plan that treads nothing, the one of length
@@ -107,7 +93,7 @@ pub fn lawful_for(z: Layout, orders: usize, plan: PlanValue, size: usize) -> boo
     requires { PlanFor z plan × (size ≡ plan_length z (plan_of plan)) }
     ensures { (lines : List OrderLine) → length lines ≡ orders → (result ≡ true) ↔ LawfulFor z lines (plan_of plan) }
 {
-    if (orders == 0) & (size == 0) {
+    if orders == 0 && size == 0 {
         return true;
     }
     lawful(z, plan)

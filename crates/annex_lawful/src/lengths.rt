@@ -1,4 +1,4 @@
-// The length of a plan.
+// The length of a plan. Its parts are counted here, and not by the crates under the table: the search stands beside the table, not on it.
 ghost use Prim.Native.Nat.{◌≤◌};
 ghost use mathlib.Core.Bool.{true};
 ghost use mathlib.Core.Path.{◌≡◌};
@@ -34,7 +34,7 @@ fn passage_length(z: Layout, passage: Passage) -> usize
     requires { layout_in_bounds z ≡ true }
     ensures { (result ≡ passage_length z passage) × (result ≤ 1600) }
 {
-    (back_treads(passage) as usize + front_treads(passage) as usize) * z.width
+    (usize::from(back_treads(passage)) + usize::from(front_treads(passage))) * z.width
 }
 
 // The length of a plan.
@@ -42,11 +42,8 @@ pub fn plan_length(z: Layout, plan: PlanValue) -> usize
     requires { PlanFor z plan }
     ensures { result ≡ plan_length z (plan_of plan) }
 {
-    let aisles = z.aisles;
     let mut sum = 0;
-    let mut j = 0;
-    while j < aisles {
-        j += 1;
+    for j in 1..z.aisles + 1 {
         sum += action_length(z, action_of(plan, j)) + passage_length(z, passage_of(plan, j));
     }
     sum

@@ -109,7 +109,7 @@ module _ (cells aisles number : ℕ) (stages : List Stage) (size rest j : ℕ) w
   abbrev pub Ends : Type 0
   Ends =
       (rest < length (actions_of cells))
-      × ((s : Stage) → s.action ≡ get_or (actions_of cells) rest Void → plan_of (record { aisles = aisles; stages = set stages j s }) ≡ plan_numbered cells aisles number)
+      × ((s : Stage) (fits : aisles ≤ 16) → s.action ≡ get_or (actions_of cells) rest Void → plan_of (record { aisles = aisles; stages = set stages j s; fits = fits }) ≡ plan_numbered cells aisles number)
 
   pub going_end : Going cells aisles number stages size rest j → aisles ≤ 16 → aisles ≤ j + 1 → Ends
   unfolding plan_of
@@ -124,14 +124,14 @@ module _ (cells aisles number : ℕ) (stages : List Stage) (size rest j : ℕ) w
           let k : aisles - 1 ≡ j = omega arith in
           let inside : j < length stages = omega (arith, g.wide) in (
             t.0,
-            λ s x. (
+            λ s fits x. (
                 let acts : actions_in (take aisles (set stages j s)) ≡ actions_in (take j stages) ++ (s.action ∷ []) =
                 ap (λ i. actions_in (take i (set stages j s))) m
                 ∙ ap actions_in (take-suc-set stages j s inside)
                 ∙ map-append (λ (r : Stage). r.action) (take j stages) (s ∷ []) in
                 let ps : passages_in (take (aisles - 1) (set stages j s)) ≡ passages_in (take j stages) =
                 ap (λ i. passages_in (take i (set stages j s))) k ∙ ap passages_in (take-set-le j stages j s (omega arith)) in
-                let both : plan_of (record { aisles = aisles; stages = set stages j s }) ≡ record { actions = actions_in (take j stages) ++ (s.action ∷ []); passages = passages_in (take j stages) } =
+                let both : plan_of (record { aisles = aisles; stages = set stages j s; fits = fits }) ≡ record { actions = actions_in (take j stages) ++ (s.action ∷ []); passages = passages_in (take j stages) } =
                 λ i. record { actions = acts i; passages = ps i } in
                 both ∙ sym (joined_single (take j stages) s.action) ∙ ap (λ a. joined (take j stages) (single a)) x ∙ ap (joined (take j stages)) (sym t.1) ∙ same
                 ),

@@ -15,19 +15,18 @@ use rules::{Action, Passage};
 use values::{PlanValue, Stage};
 
 // How many plans a store of at most 3 aisles and 4 cells has.
+#[tactic(auto, using(crate::proofs::Numbers::few_actions, crate::proofs::Numbers::two_few, crate::proofs::Numbers::three_few))]
 pub fn plan_count(cells: usize, aisles: usize) -> usize
     requires { (cells ≤ 4) × (1 ≤ aisles) × (aisles ≤ 3) }
     ensures { (result ≡ length (plans_of cells aisles)) × (result ≤ 122825) }
 {
-    let count = action_count(cells);
-    if aisles == 1 {
-        return count;
+    let one = action_count(cells);
+    let two = one * (5 * one);
+    match aisles {
+        1 => one,
+        2 => two,
+        _ => one * (5 * two),
     }
-    let two = count * (5 * count);
-    if aisles == 2 {
-        return two;
-    }
-    count * (5 * two)
 }
 
 // The plan of a number, from the first aisle on: the plans of the aisles that are left are in blocks, one for each action, and a block is in five
@@ -44,22 +43,18 @@ pub fn plan_at(cells: usize, aisles: usize, number: usize) -> PlanValue
     let mut stages = [none; 16];
     let mut size = plan_count(cells, aisles);
     let mut rest = number;
-    let mut j = 0;
-    while j + 1 < aisles {
+    let last = aisles - 1;
+    for j in 0..last {
         let block = size / count;
         size = block / 5;
-        let a = rest / block;
         let behind = rest % block;
-        let p = behind / size;
-        rest = behind % size;
-        let action = action_at(cells, a);
-        let passage = passage_at(p);
+        let action = action_at(cells, rest / block);
+        let passage = passage_at(behind / size);
         stages[j] = Stage { action, passage };
-        j += 1;
+        rest = behind % size;
     }
-    let action = action_at(cells, rest);
-    stages[j] = Stage {
-        action,
+    stages[last] = Stage {
+        action: action_at(cells, rest),
         passage: Passage::P00,
     };
     PlanValue { aisles, stages }

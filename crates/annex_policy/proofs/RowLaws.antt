@@ -4,7 +4,7 @@ use native.Mathlib.Omega.{arith}
 use native.Mathlib.Nat.{eq-or-lt_of_le}
 use mathlib.Core.Path.{◌≡◌, refl, sym, ap, ◌∙◌, subst}
 use mathlib.Core.Logic.{◌⊎◌, inl, inr}
-use mathlib.Core.Bool.{false, cond, true≢false}
+use mathlib.Core.Bool.{Bool, true, false, cond, true≢false}
 use Rattle.rules.specs.declared.Layout.{Layout}
 use Rattle.rules.specs.declared.Action.{Action}
 use Rattle.rules.specs.declared.Action.TheVariants.{Void}
@@ -18,7 +18,6 @@ use Rattle.closedwalks.proofs.Splits.{none_or_some, below_or_from}
 use Rattle.annex_plans.specs.OfStore.{PlanFor}
 use Rattle.annex_policy.specs.declared.row.Row.{Row}
 use Rattle.annex_policy.specs.Rows.{entered_to, LastTo, RowTo}
-use Rattle.annex_policy.proofs.KindLaws.{rank_of, rank_void, rank_entered}
 use Rattle.annex_policy.proofs.RuleLaws.{action_outside}
 
 -- the row of no aisle
@@ -34,10 +33,10 @@ row_none plan =
 
 module _ (plan : Plan) (i : ℕ) (row : Row) (t : RowTo plan i row) where
   -- the next aisle is not entered
-  module _ (v : rank_of (action_at plan (suc i)) ≡ 0) where
-    -- it is VOID
+  module _ (v : entered (action_at plan (suc i)) ≡ false) where
+    -- as said
     void : entered (action_at plan (suc i)) ≡ false
-    void = ap entered (rank_void (action_at plan (suc i)) v)
+    void = v
 
     -- not entered
     idle : Entered plan (suc i) → ⊥
@@ -64,11 +63,11 @@ module _ (plan : Plan) (i : ℕ) (row : Row) (t : RowTo plan i row) where
         }
 
   -- the next aisle is entered
-  module _ (v : rank_of (action_at plan (suc i)) ≡ 0 → ⊥) where
-    -- by its rank
+  module _ (v : entered (action_at plan (suc i)) ≡ true) where
+    -- as said
     does : Entered plan (suc i)
     unfolding Entered
-    does = rank_entered (action_at plan (suc i)) v
+    does = v
 
     -- there is one more
     more : entered_to plan (suc i) ≡ entered_to plan i + 1
@@ -102,27 +101,27 @@ module _ (plan : Plan) (i : ℕ) (row : Row) (t : RowTo plan i row) where
           last = λ p. newest (record { entered = row.entered + 1; first = row.first; last = suc i }) refl;
         }
 
--- the same of aisle j, by the rank of its kind
-module _ (plan : Plan) (i j : ℕ) (row : Row) (a : Action) (e : j ≡ i + 1) (t : RowTo plan i row) (same : a ≡ action_at plan j) (k : ℕ) (q : k ≡ rank_of a) where
+-- the same of aisle j
+module _ (plan : Plan) (i j : ℕ) (row : Row) (a : Action) (e : j ≡ i + 1) (t : RowTo plan i row) (same : a ≡ action_at plan j) (k : Bool) (q : k ≡ entered a) where
   -- it is the next
   at : j ≡ suc i
   at = omega arith
 
-  -- and of that rank
-  rank : k ≡ rank_of (action_at plan (suc i))
-  rank = q ∙ ap rank_of same ∙ ap (λ n. rank_of (action_at plan n)) at
+  -- and entered or not as that
+  enters : k ≡ entered (action_at plan (suc i))
+  enters = q ∙ ap entered same ∙ ap (λ n. entered (action_at plan n)) at
 
   -- VOID
-  pub with_idle : k ≡ 0 → RowTo plan j row
-  with_idle z = subst (λ n. RowTo plan n row) (sym at) (row_idle plan i row t (sym rank ∙ z))
+  pub with_idle : k ≡ false → RowTo plan j row
+  with_idle z = subst (λ n. RowTo plan n row) (sym at) (row_idle plan i row t (sym enters ∙ z))
 
   -- the first that is entered
-  pub with_first : (k ≡ 0 → ⊥) → row.entered ≡ 0 → RowTo plan j (record { entered = 1; first = j; last = j })
-  with_first n z = subst (λ m. RowTo plan m (record { entered = 1; first = m; last = m })) (sym at) (row_first plan i row t (λ w. n (rank ∙ w)) z)
+  pub with_first : k ≡ true → row.entered ≡ 0 → RowTo plan j (record { entered = 1; first = j; last = j })
+  with_first n z = subst (λ m. RowTo plan m (record { entered = 1; first = m; last = m })) (sym at) (row_first plan i row t (sym enters ∙ n) z)
 
   -- a later one
-  pub with_more : (k ≡ 0 → ⊥) → (row.entered ≡ 0 → ⊥) → RowTo plan j (record { entered = row.entered + 1; first = row.first; last = j })
-  with_more n z = subst (λ m. RowTo plan m (record { entered = row.entered + 1; first = row.first; last = m })) (sym at) (row_more plan i row t (λ w. n (rank ∙ w)) z)
+  pub with_more : k ≡ true → (row.entered ≡ 0 → ⊥) → RowTo plan j (record { entered = row.entered + 1; first = row.first; last = j })
+  with_more n z = subst (λ m. RowTo plan m (record { entered = row.entered + 1; first = row.first; last = m })) (sym at) (row_more plan i row t (sym enters ∙ n) z)
 
 -- the number of entered aisles, added up
 entered_sum : (plan : Plan) (n : ℕ) → entered_to plan n ≡ sum_of (λ j. cond (entered (action_at plan j)) 1 0) (from 1 n)

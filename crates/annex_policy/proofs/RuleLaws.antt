@@ -5,10 +5,8 @@ use native.Mathlib.Nat.{eq-or-lt_of_le}
 use mathlib.Core.Path.{◌≡◌, refl, sym, ap, ◌∙◌, subst}
 use mathlib.Core.Logic.{◌⊎◌, inl, inr}
 use mathlib.Core.List.{map}
-use mathlib.Core.Bool.{Bool, true, false, not, ◌&&◌, true≢false, false≢true}
-use lib.Dec.{eqb}
+use mathlib.Core.Bool.{true, false}
 use lib.ListN.{take, length-map, length-take}
-use borrow.Author.Tests.{eq-eqb, eqb-true, not-false}
 use Rattle.rules.specs.declared.Action.{Action}
 use Rattle.rules.specs.declared.Action.TheVariants.{Void}
 use Rattle.rules.specs.declared.Passage.{Passage}
@@ -85,13 +83,3 @@ named_all job plan f = record { actions = λ j. (at j).action; passages = λ j. 
         go : (plan.aisles < suc j) ⊎ (suc j ≤ plan.aisles) → NamedAt job (plan_of plan) (suc j)
         go (inl h) = outside (suc j) (inr h)
         go (inr h) = f (suc j) (omega arith) h
-
--- the test of an aisle that may not be entered refuses it: its rank is not VOID's
-pub enter_refused : (a : Bool) (k : ℕ) → not a && not (eqb k 0) ≡ true → (a ≡ false) × (k ≡ 0 → ⊥)
-enter_refused true k e = absurd (false≢true e)
-enter_refused false k e = (refl, λ z. false≢true (sym (ap not (eq-eqb k 0 z)) ∙ e))
-
--- or passes it: its rank is VOID's
-pub enter_passed : (a : Bool) (k : ℕ) → not a && not (eqb k 0) ≡ false → a ≡ false → k ≡ 0
-enter_passed true k e p = absurd (true≢false p)
-enter_passed false k e p = eqb-true k 0 (not-false (eqb k 0) e)

@@ -10,7 +10,8 @@ use borrow.Author.Tests.{eqb-true, eqb-false, eq-eqb, ne_eqb}
 use Rattle.rules.specs.declared.Layout.{Layout}
 use Rattle.rules.specs.declared.Side.{Side}
 use Rattle.rules.specs.Plans.{Plan, action_at}
-use Rattle.rules.specs.Policies.{Entered, First, Last, leftmost, rightmost, EnteredAt, WalkedBack, entered_aisles, TraversalRule}
+use Rattle.rules.specs.declared.End.TheVariants.{Leftmost, Rightmost}
+use Rattle.rules.specs.Policies.{Entered, First, Last, EnteredAt, WalkedBack, entered_aisles, TraversalRule}
 use Rattle.values.specs.declared.PlanValue.{PlanValue}
 use Rattle.values.specs.Values.{plan_of}
 use Rattle.annex_plans.specs.OfStore.{PlanFor}
@@ -49,7 +50,7 @@ module _ (z : Layout) (v : PlanValue) (p : PlanFor z v) (row : Row) (t : RowTo (
   back_is : (j : ℕ) → Entered plan j → WalkedBack z plan back
   back_is j e = go (ltb (z.aisles + 1) (2 * z.depot))
     where
-      go : (b : Bool) → EnteredAt (cond b leftmost rightmost) plan (cond b row.first row.last)
+      go : (b : Bool) → EnteredAt (cond b Leftmost Rightmost) plan (cond b row.first row.last)
       go true = row_first_is z v p row t j e
       go false = row_last_is z v p row t j e
 
@@ -57,7 +58,7 @@ module _ (z : Layout) (v : PlanValue) (p : PlanFor z v) (row : Row) (t : RowTo (
   back_only : (j : ℕ) → Entered plan j → WalkedBack z plan j → j ≡ back
   back_only j e w = go (ltb (z.aisles + 1) (2 * z.depot)) w
     where
-      go : (b : Bool) → EnteredAt (cond b leftmost rightmost) plan j → j ≡ cond b row.first row.last
+      go : (b : Bool) → EnteredAt (cond b Leftmost Rightmost) plan j → j ≡ cond b row.first row.last
       go true f = one_first plan j row.first f (row_first_is z v p row t j e)
       go false f = one_last plan j row.last f (row_last_is z v p row t j e)
 
@@ -65,7 +66,7 @@ module _ (z : Layout) (v : PlanValue) (p : PlanFor z v) (row : Row) (t : RowTo (
   back_entered : (j : ℕ) → WalkedBack z plan j → Entered plan j
   back_entered j w = go (ltb (z.aisles + 1) (2 * z.depot)) w
     where
-      go : (b : Bool) → EnteredAt (cond b leftmost rightmost) plan j → Entered plan j
+      go : (b : Bool) → EnteredAt (cond b Leftmost Rightmost) plan j → Entered plan j
       go true f = (unfold First in f.0)
       go false f = (unfold Last in f.0)
 

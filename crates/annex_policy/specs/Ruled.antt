@@ -8,22 +8,12 @@ use Rattle.rules.specs.declared.Layout.{Layout}
 use Rattle.rules.specs.declared.Policy.{Policy}
 use Rattle.rules.specs.declared.Policy.TheVariants.{Exact, Return, Traversal, Midpoint, Composite, Largest}
 use Rattle.rules.specs.declared.Action.TheVariants.{Void}
-use Rattle.rules.specs.declared.Passage.{Passage}
-use Rattle.rules.specs.declared.Passage.TheVariants.{P00, P02, P11, P20, P22}
 use Rattle.rules.specs.Store.{side_of}
 use Rattle.rules.specs.Hours.{is_open}
 use Rattle.rules.specs.Jobs.{Job, holds_listed}
 use Rattle.rules.specs.Plans.{Plan, action_at, passage_at}
 use Rattle.rules.specs.Policies.{action_named, passage_named}
 use Rattle.values.specs.declared.PlanValue.{PlanValue}
-
--- the two digits of a passage as a number
-abbrev pub digits_of : Passage → ℕ
-digits_of P00 = 0
-digits_of P02 = 2
-digits_of P11 = 11
-digits_of P20 = 20
-digits_of P22 = 22
 
 -- whether a policy lets an aisle be entered that holds no article of the list: EXACT alone does
 abbrev pub enters_any : Policy → Bool

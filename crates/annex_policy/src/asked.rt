@@ -18,28 +18,14 @@ use values::Shelf;
 fn enters_any(policy: Policy) -> bool
     ensures { result ≡ enters_any policy }
 {
-    match policy {
-        Policy::Exact => true,
-        Policy::Return => false,
-        Policy::Traversal => false,
-        Policy::Midpoint => false,
-        Policy::Composite => false,
-        Policy::Largest => false,
-    }
+    matches!(policy, Policy::Exact)
 }
 
 // Whether a policy is LARGEST, which has a test of its own for aisles between (#104).
 fn is_largest(policy: Policy) -> bool
     ensures { result ≡ is_largest policy }
 {
-    match policy {
-        Policy::Exact => false,
-        Policy::Return => false,
-        Policy::Traversal => false,
-        Policy::Midpoint => false,
-        Policy::Composite => false,
-        Policy::Largest => true,
-    }
+    matches!(policy, Policy::Largest)
 }
 
 // Which aisles may be entered, aisle j at j - 1: open ones (#106) that hold an article of the list, under EXACT all open ones.
@@ -48,14 +34,10 @@ pub fn enterable(z: Layout, policy: Policy, shelf: Shelf) -> [bool; 16]
     ensures { (job : Job) → ShelfFor job z policy shelf → (j : ℕ) → 1 ≤ j → j ≤ z.aisles → get_or result (j - 1) false ≡ may_be_entered job j }
 {
     let any = enters_any(policy);
-    let cells = z.cells;
-    let aisles = z.aisles;
     let mut may = [false; 16];
-    let mut j = 0;
-    while j < aisles {
-        let holds = holds_listed(shelf, cells, j + 1);
-        may[j] = shelf.open[j] & (any | holds);
-        j += 1;
+    for j in 0..z.aisles {
+        // `&` and `|`: with `&&` and `||` one equation would be proved in three cases.
+        may[j] = shelf.open[j] & (any | holds_listed(shelf, z.cells, j + 1));
     }
     may
 }
@@ -66,14 +48,10 @@ pub fn betweens(z: Layout, policy: Policy, shelf: Shelf) -> [Between; 3]
     ensures { (job : Job) → ShelfFor job z policy shelf → BetweenAsked (is_largest policy) job z result }
 {
     let gaps = is_largest(policy);
-    let cells = z.cells;
-    let aisles = z.aisles;
-    let none = between_of(z, gaps, listed_cells(shelf, cells, 1));
-    let mut out = [none; 3];
-    let mut j = 0;
-    while j < aisles {
-        out[j] = between_of(z, gaps, listed_cells(shelf, cells, j + 1));
-        j += 1;
+    let first = between_of(z, gaps, listed_cells(shelf, z.cells, 1));
+    let mut betweens = [first; 3];
+    for j in 0..z.aisles {
+        betweens[j] = between_of(z, gaps, listed_cells(shelf, z.cells, j + 1));
     }
-    out
+    betweens
 }

@@ -21,11 +21,8 @@ pub fn own_rule(z: Layout, policy: Policy, betweens: [Between; 3], plan: PlanVal
     ensures { (job : Job) → policy ≡ job.policy → BetweenAsked (is_largest policy) job z betweens → (result ≡ true) ↔ OwnRule job.policy job (plan_of plan) }
 {
     match policy {
-        Policy::Exact => true,
-        Policy::Return => true,
+        Policy::Exact | Policy::Return | Policy::Composite => true,
         Policy::Traversal => traversal(z, plan),
-        Policy::Midpoint => midpoint(z, betweens, plan),
-        Policy::Composite => true,
-        Policy::Largest => midpoint(z, betweens, plan),
+        Policy::Midpoint | Policy::Largest => midpoint(z, betweens, plan),
     }
 }

@@ -1,7 +1,7 @@
 // The row of entered aisles of a plan, and TRAVERSAL's own rule.
-ghost use Prim.Native.Nat.{◌*◌, ◌+◌, ◌<◌, ◌≤◌, ℕ};
-ghost use lib.Dec.{ltb};
-ghost use mathlib.Core.Bool.{cond, true};
+ghost use Prim.Native.Nat.{◌%◌, ◌*◌, ◌+◌, ◌<◌, ◌≤◌, ℕ};
+ghost use lib.Dec.{eqb, ltb};
+ghost use mathlib.Core.Bool.{◌&&◌, cond, true};
 ghost use mathlib.Core.Logic.{◌↔◌};
 ghost use mathlib.Core.Path.{◌≡◌};
 ghost use Rattle.rules.specs.Plans.{Plan, action_at};
@@ -11,12 +11,13 @@ ghost use Rattle.values.specs.Values.{plan_of};
 ghost use Rattle.annex_policy.specs.Rows.{RowTo, WalksAs};
 ghost use Rattle.annex_plans.specs.OfStore.{PlanFor};
 
-use crate::kinds::{ONCE, VOID, kind, side_kind};
 use annex_plans::stages::action_of;
+use entered::enters;
 use rules::{Action, Layout, Side};
-use values::{PlanValue, depot_side};
+use values::PlanValue;
 
-// How many aisles are entered, the first and the last of them.
+// How many aisles are entered, the first and the last of them; aisles count from 1, so 0 is none. The ends are compared with aisles'
+// numbers and nothing else, so that 0 is equal to none of them; an `Option` would be unwrapped at each comparison.
 #[derive(Clone, Copy)]
 pub struct Row {
     pub entered: usize,
@@ -29,7 +30,7 @@ fn with_aisle(row: Row, j: usize, action: Action) -> Row
     requires { row.entered < 16 }
     ensures { (plan : Plan) (i : ℕ) → j ≡ i + 1 → RowTo plan i row → action ≡ action_at plan j → RowTo plan j result }
 {
-    if kind(action) == VOID {
+    if !enters(action) {
         return row;
     }
     if row.entered == 0 {
@@ -48,19 +49,15 @@ fn with_aisle(row: Row, j: usize, action: Action) -> Row
 
 // The row of a plan.
 pub fn row_of(plan: PlanValue) -> Row
-    requires { plan.aisles ≤ 16 }
     ensures { RowTo (plan_of plan) plan.aisles result }
 {
-    let aisles = plan.aisles;
     let mut row = Row {
         entered: 0,
         first: 0,
         last: 0,
     };
-    let mut j = 0;
-    while j < aisles {
-        j += 1;
-        row = with_aisle(row, j, action_of(plan, j));
+    for j in 0..plan.aisles {
+        row = with_aisle(row, j + 1, action_of(plan, j + 1));
     }
     row
 }
@@ -80,11 +77,20 @@ fn walked_back(z: Layout, row: Row) -> usize
 pub fn walks_as(side: Side, action: Action, back: bool) -> bool
     ensures { (result ≡ true) ↔ WalksAs side action back }
 {
-    let k = kind(action);
-    if back {
-        return (k == VOID) | (k == side_kind(side));
+    match action {
+        Action::Void => true,
+        Action::Bottom(_) => back && matches!(side, Side::FrontSide),
+        Action::Top(_) => back && matches!(side, Side::BackSide),
+        Action::Once => !back,
+        Action::Gap(_, _) | Action::Twice => false,
     }
-    (k == VOID) | (k == ONCE)
+}
+
+// Whether aisle j is the one walked back, which `back` is where an odd number of aisles is entered.
+fn is_back(row: Row, back: usize, j: usize) -> bool
+    ensures { result ≡ (eqb (row.entered % 2) 1 && eqb j back) }
+{
+    row.entered % 2 == 1 && j == back
 }
 
 // TRAVERSAL's own rule: with an even number of entered aisles all are ONCE; with an odd number one is walked back and the others are ONCE.
@@ -92,15 +98,11 @@ pub fn traversal(z: Layout, plan: PlanValue) -> bool
     requires { PlanFor z plan }
     ensures { (result ≡ true) ↔ TraversalRule (side_of z) z (plan_of plan) }
 {
-    let side = depot_side(z);
+    let side = z.side();
     let row = row_of(plan);
     let back = walked_back(z, row);
-    let odd = row.entered % 2 == 1;
-    let aisles = plan.aisles;
-    let mut j = 0;
-    while j < aisles {
-        j += 1;
-        if !walks_as(side, action_of(plan, j), odd & (j == back)) {
+    for j in 0..plan.aisles {
+        if !walks_as(side, action_of(plan, j + 1), is_back(row, back, j + 1)) {
             return false;
         }
     }

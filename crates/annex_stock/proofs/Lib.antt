@@ -1,3 +1,3 @@
--- Laws of the stock in columns.
-pub mod ServingLaws
-pub mod ColumnLaws
+-- Laws of the stock that is lent.
+pub mod Supplies
+pub mod OfJob

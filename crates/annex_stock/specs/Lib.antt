@@ -1,2 +1,2 @@
--- The stock records of a job in columns.
-pub mod Columns
+-- The stock that counts.
+pub mod Stocked

@@ -4,3 +4,4 @@ pub mod Reaching
 pub mod First
 pub mod Wide
 pub mod Laws
+pub mod Few

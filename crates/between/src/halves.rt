@@ -31,13 +31,11 @@ pub(crate) fn halves_of(z: Layout) -> Between
 {
     let mut front = [false; HEIGHTS];
     let mut back = [false; HEIGHTS];
-    let mut from = [0usize; HEIGHTS];
-    let mut h = 0;
-    while h < HEIGHTS {
+    let mut from = [0; HEIGHTS];
+    for h in 0..HEIGHTS {
         front[h] = front_half(z, h);
         back[h] = back_half(z, h);
         from[h] = h + 1;
-        h += 1;
     }
     Between { front, back, from }
 }

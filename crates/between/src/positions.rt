@@ -11,8 +11,7 @@ fn posts_before(posts: Posts, i: usize) -> usize
 {
     match posts {
         Posts::NoPosts => 0,
-        Posts::Every(k, u) => u * ((i - 1) / k),
-        Posts::Sided(k, u, _) => u * ((i - 1) / k),
+        Posts::Every(k, u) | Posts::Sided(k, u, _) => u * ((i - 1) / k),
     }
 }
 
@@ -39,10 +38,10 @@ pub fn position_of(z: Layout, k: usize) -> usize
     ensures { (result ≡ position z k) × (result ≤ 1040) }
 {
     if k == 0 {
-        return 0;
+        0
+    } else if k <= z.cells {
+        cell_position(z, k)
+    } else {
+        aisle_length(z)
     }
-    if k <= z.cells {
-        return cell_position(z, k);
-    }
-    aisle_length(z)
 }

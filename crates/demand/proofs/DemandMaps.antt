@@ -8,6 +8,7 @@ use mathlib.Core.Logic.{⊎_elim}
 use mathlib.Core.List.{List, [], ◌∷◌, map, Memᴰ}
 use mathlib.Core.Bool.{Bool, true, false, cond, ◌&&◌, and-false}
 use mathlib.Core.Option.{Option, none, some}
+use Rattle.std.specs.Prelude.{Option as Line, Some, None, IfSome}
 use lib.Dec.{eqb, leb}
 use lib.ListN.{length, get_or, replicate}
 use borrow.Author.Tests.{le-leb, lt-leb, eq-eqb, ne_eqb}
@@ -27,13 +28,15 @@ use Rattle.values.specs.declared.Shelf.{Shelf}
 use Rattle.values.specs.Shelves.{line_of, quantity_of, cell_number}
 use Rattle.demand.specs.declared.digits.Digits.{Digits}
 use Rattle.demand.specs.Digits.{demands, no_digit, Within, less_line}
+use Rattle.demand.specs.declared.maps.Part.{Part}
+use Rattle.demand.specs.declared.maps.Part.TheVariants.{Front, Back}
 use Rattle.demand.specs.Maps.{entry, RowSet, RowBelow, MapsAsked, RowOf, reach, height_at, RowsTo, MapsReady}
 use Rattle.demand.proofs.Filling.{below}
 use Rattle.demand.proofs.Rows.{less_or_more, row_other}
 use Rattle.demand.proofs.Composition.{plus, Parted, gains_where, gains_parted, less_code_plus}
 use Rattle.demand.proofs.DigitLaws.{radices_length, less_code_none, less_at, none_gained, less_article, less_line_lem, digit_within}
 use Rattle.demand.proofs.Records.{supplied, cell_gains}
-use Rattle.demand.proofs.Shelving.{lines_below}
+use Rattle.shelves.proofs.Shelving.{lines_below}
 
 -- one more cell in front, one more cell behind
 front_parted : (h c : ℕ) → Parted (leb c (suc h)) (leb c h) (eqb c (suc h))
@@ -83,17 +86,17 @@ less_cell job ok (some r) q h =
     less_article r.article r.quantity job.lines ok.articles_once q (omega (arith, count_weight job))
 
 -- heights: within the aisle, at a cell, all different
-pub height_below : (back : Bool) (cells n : ℕ) → n ≤ suc cells → height_at back cells n ≤ suc cells
-height_below false cells n h = h
-height_below true cells n h = omega arith
+pub height_below : (part : Part) (cells n : ℕ) → n ≤ suc cells → height_at part cells n ≤ suc cells
+height_below Front cells n h = h
+height_below Back cells n h = omega arith
 
-pub height_in : (back : Bool) (cells n : ℕ) → n < cells → (1 ≤ height_at back cells (n + 1)) × (height_at back cells (n + 1) ≤ cells)
-height_in false cells n h = (omega arith, omega arith)
-height_in true cells n h = (omega arith, omega arith)
+pub height_in : (part : Part) (cells n : ℕ) → n < cells → (1 ≤ height_at part cells (n + 1)) × (height_at part cells (n + 1) ≤ cells)
+height_in Front cells n h = (omega arith, omega arith)
+height_in Back cells n h = (omega arith, omega arith)
 
-pub heights_differ : (back : Bool) (cells k n : ℕ) → k < n → n ≤ suc cells → height_at back cells k ≡ height_at back cells n → ⊥
-heights_differ false cells k n b h e = omega arith
-heights_differ true cells k n b h e = omega arith
+pub heights_differ : (part : Part) (cells k n : ℕ) → k < n → n ≤ suc cells → height_at part cells k ≡ height_at part cells n → ⊥
+heights_differ Front cells k n b h e = omega arith
+heights_differ Back cells k n b h e = omega arith
 
 -- at the next height one more cell is reached
 module _ (job : Job) (ok : stock_in_bounds job ≡ true) (j : ℕ) where
@@ -105,24 +108,24 @@ module _ (job : Job) (ok : stock_in_bounds job ≡ true) (j : ℕ) where
   unfolding gains supply_in
   back_gains i = gains_parted job ok j (λ c. leb i c) (λ c. leb (suc i) c) (λ c. eqb c i) (λ c low high. back_parted i c)
 
-  next_gains : (back : Bool) (cells n : ℕ) → n < cells → let c = height_at back cells (n + 1) in
-      gains job j (reach back c) ≡ plus (gains job j (reach back (height_at back cells n))) (gains_where job j (λ k. eqb k c))
-  next_gains false cells n h = rw (add-one n) (front_gains n)
-  next_gains true cells n h =
+  next_gains : (part : Part) (cells n : ℕ) → n < cells → let c = height_at part cells (n + 1) in
+      gains job j (reach part c) ≡ plus (gains job j (reach part (height_at part cells n))) (gains_where job j (λ k. eqb k c))
+  next_gains Front cells n h = rw (add-one n) (front_gains n)
+  next_gains Back cells n h =
       let e : suc cells - n ≡ suc (suc cells - (n + 1)) = omega arith in
       rw e (back_gains (suc cells - (n + 1)))
 
   -- at the first height none is reached
-  first_gains : (back : Bool) → gains job j (reach back (height_at back job.layout.cells 0)) ≡ replicate (length job.lines) 0
+  first_gains : (part : Part) → gains job j (reach part (height_at part job.layout.cells 0)) ≡ replicate (length job.lines) 0
   unfolding gains supply_in
-  first_gains false = no_gains job (λ c. leb c 0) j ok (λ c low high. lt-leb c 0 low)
-  first_gains true =
+  first_gains Front = no_gains job (λ c. leb c 0) j ok (λ c low high. lt-leb c 0 low)
+  first_gains Back =
       let last = suc job.layout.cells - 0 in
       no_gains job (λ c. leb last c) j ok (λ c low high. lt-leb last c (omega arith))
 
 -- the line and the quantity of a cell
-abbrev pub line_at : Shelf → ℕ → ℕ → ℕ
-line_at shelf j c = get_or shelf.line (cell_number j c) 0
+abbrev pub line_at : Shelf → ℕ → ℕ → Line ℕ
+line_at shelf j c = get_or shelf.line (cell_number j c) None
 
 abbrev pub held_quantity_at : Shelf → ℕ → ℕ → ℕ
 held_quantity_at shelf j c = get_or shelf.quantity (cell_number j c) 0
@@ -144,15 +147,15 @@ module _ {job : Job} {shelf : Shelf} {d : Digits} {cells j : ℕ} (asked : MapsA
       let z = (layout_within job.layout).0 asked.admitted.layout in
       (omega (arith, asked.cells_are), omega (arith, asked.cells_are), asked.aisle.0, omega (arith, asked.aisle.1))
 
-  line_below : (c : ℕ) → 1 ≤ c → c ≤ cells → line_at shelf j c ≤ length job.lines
+  line_below : (c : ℕ) → 1 ≤ c → c ≤ cells → IfSome (line_at shelf j c) (λ l. l < length job.lines)
   line_below c low high = let z = aisle_small in lines_below asked.shelf_of j c z.2 z.3 low (omega arith)
 
-  pub line_digit : (c : ℕ) → 1 ≤ c → c ≤ cells → let line = line_at shelf j c in
-      (line ≤ 8) × (1 ≤ line → Within (get_or d.digit (line - 1) no_digit) d.weight)
-  line_digit c low high =
-      let few = line_below c low high in
-      let eight = ((list_within job).0 asked.admitted.list).count in
-      (omega arith, λ has. digit_within asked.digits_of (line_at shelf j c - 1) (omega arith))
+  pub line_digit : (c : ℕ) → 1 ≤ c → c ≤ cells → IfSome (line_at shelf j c) (λ l. (l < 8) × Within (get_or d.digit l no_digit) d.weight)
+  line_digit c low high = go (line_at shelf j c) (line_below c low high)
+    where
+      go : (line : Line ℕ) → IfSome line (λ l. l < length job.lines) → IfSome line (λ l. (l < 8) × Within (get_or d.digit l no_digit) d.weight)
+      go None few = tt
+      go (Some l) few = (omega (arith, few, ((list_within job).0 asked.admitted.list).count), digit_within asked.digits_of l few)
 
   -- the demands of a row are below the weight
   less_below : (x : Action) (q : ℕ) → less_code (radices job) (gains job j x) q < weight job.lines
@@ -179,39 +182,39 @@ module _ {job : Job} {shelf : Shelf} {d : Digits} {cells j : ℕ} (asked : MapsA
       ∙ sym (less_code_plus (gains job j x) here (radices_positive job) (gains_length job j x) q)
 
   -- the first row of a map, and one more
-  pub first_row_lem : (back : Bool) (map map' : List ℕ) → RowSet map map' (height_at back cells 0) d.weight (λ q. q) → RowsTo job cells j back 1 map'
-  first_row_lem back map map' r k l q h =
+  pub first_row_lem : (part : Part) (map map' : List ℕ) → RowSet map map' (height_at part cells 0) d.weight (λ q. q) → RowsTo job cells j part 1 map'
+  first_row_lem part map map' r k l q h =
       let first : k ≡ 0 = omega arith in
-      rw (first, asked.cells_are, first_gains job ok j back, ← radices_length job, less_code_none (radices_positive job) q (omega (arith, count_weight job)), ← asked.cells_are)
+      rw (first, asked.cells_are, first_gains job ok j part, ← radices_length job, less_code_none (radices_positive job) q (omega (arith, count_weight job)), ← asked.cells_are)
       (r.done q (omega (arith, counted)))
 
-  module _ (back : Bool) (map map' : List ℕ) (n from to at : ℕ) (low : n < cells)
-      (from_is : from ≡ height_at back cells n) (to_is : to ≡ height_at back cells (n + 1)) (at-is : at ≡ cell_number j to) where
-    pub next_row : RowsTo job cells j back (n + 1) map
-        → RowSet map map' to d.weight (λ q. less_line d (get_or shelf.line at 0) (get_or shelf.quantity at 0) (entry map from q))
-        → RowsTo job cells j back (n + 1 + 1) map'
-    next_row t r k l q h = ⊎_elim kept (λ p. subst Here (to_is ∙ ap (height_at back cells) (sym p)) here) (below k (n + 1) l)
+  module _ (part : Part) (map map' : List ℕ) (n from to at : ℕ) (low : n < cells)
+      (from_is : from ≡ height_at part cells n) (to_is : to ≡ height_at part cells (n + 1)) (at-is : at ≡ cell_number j to) where
+    pub next_row : RowsTo job cells j part (n + 1) map
+        → RowSet map map' to d.weight (λ q. less_line d (get_or shelf.line at None) (get_or shelf.quantity at 0) (entry map from q))
+        → RowsTo job cells j part (n + 1 + 1) map'
+    next_row t r k l q h = ⊎_elim kept (λ p. subst Here (to_is ∙ ap (height_at part cells) (sym p)) here) (below k (n + 1) l)
       where
         Here : ℕ → Type 0
-        Here c = entry map' c q ≡ less_code (radices job) (gains job j (reach back c)) q
+        Here c = entry map' c q ≡ less_code (radices job) (gains job j (reach part c)) q
 
         here : Here to
         here =
-            let (one, all) = rw (← to_is) at (height_in back cells n low) in
-            let more = rw (← to_is) at (next_gains job ok j back cells n low) in
+            let (one, all) = rw (← to_is) at (height_in part cells n low) in
+            let more = rw (← to_is) at (next_gains job ok j part cells n low) in
             r.done q (omega (arith, counted))
-            ∙ ap (λ k. less_line d (get_or shelf.line k 0) (get_or shelf.quantity k 0) (entry map from q)) at-is
-            ∙ cell_step (reach back (height_at back cells n)) to q (entry map from q) one all (rw from_is (t n (omega arith) q h))
+            ∙ ap (λ k. less_line d (get_or shelf.line k None) (get_or shelf.quantity k 0) (entry map from q)) at-is
+            ∙ cell_step (reach part (height_at part cells n)) to q (entry map from q) one all (rw from_is (t n (omega arith) q h))
             ∙ ap (λ gs. less_code (radices job) gs q) (sym more)
 
-        kept : k < n + 1 → Here (height_at back cells k)
+        kept : k < n + 1 → Here (height_at part cells k)
         kept b =
-            let other : height_at back cells k ≡ to → ⊥ = λ p. heights_differ back cells k (n + 1) b (omega arith) (p ∙ to_is) in
-            row_other r (height_at back cells k) q other light (omega (arith, counted, light)) ∙ t k b q h
+            let other : height_at part cells k ≡ to → ⊥ = λ p. heights_differ part cells k (n + 1) b (omega arith) (p ∙ to_is) in
+            row_other r (height_at part cells k) q other light (omega (arith, counted, light)) ∙ t k b q h
 
 -- the rows of both maps
 pub maps_ready : (job : Job) (cells j : ℕ) (fronts backs : List ℕ) → cells ≡ job.layout.cells
-    → RowsTo job cells j false (suc cells) fronts → RowsTo job cells j true (suc cells) backs → MapsReady job j fronts backs
+    → RowsTo job cells j Front (suc cells) fronts → RowsTo job cells j Back (suc cells) backs → MapsReady job j fronts backs
 maps_ready job cells j fronts backs e f b =
     record {
       front = λ h q l k. f h (omega arith) q k;

@@ -9,9 +9,10 @@ use mathlib.Core.Path.{◌≡◌, refl, sym, ◌∙◌, ap, ap₂, subst}
 use mathlib.Core.Logic.{⊎_elim}
 use mathlib.Core.Bool.{Bool, true, false, cond}
 use mathlib.Core.List.{List, [], ◌∷◌, map, Memᴰ}
+use Rattle.std.specs.Prelude.{Option, Some, None, IfSome, option_map}
 use lib.Dec.{eqb}
 use lib.ListN.{length, get_or, take, set, replicate, length-set, length-map, length-take}
-use lib.Seq.{get_or-set_same, get_or-set_other, get_or-take, take_all}
+use lib.Seq.{get_or-set_same, get_or-set_other, take_all}
 use borrow.Author.Tests.{eq-eqb, ne_eqb}
 use Rattle.rules.specs.declared.OrderLine.{OrderLine}
 use Rattle.rules.specs.Lists.{any_of, any_two}
@@ -25,9 +26,9 @@ use Rattle.values.specs.Values.{no_line, job_of, Sound}
 use Rattle.values.specs.Shelves.{line_from}
 use Rattle.demand.specs.declared.digits.Digit.{Digit}
 use Rattle.demand.specs.declared.digits.Digits.{Digits}
-use Rattle.demand.specs.Digits.{no_digit, DigitOf, DigitsOf, Within, less_digit, less_line}
+use Rattle.demand.specs.Digits.{no_digit, DigitOf, DigitsOf, Within, less_line}
 use Rattle.demand.proofs.Filling.{below}
-use Rattle.demand.proofs.Records.{or-false}
+use Rattle.shelves.proofs.Records.{or-false}
 
 -- the product of the first radices: at least 1, at most the product of all
 count_positive : {rs : List ℕ} → Positive rs → 1 ≤ count rs
@@ -102,31 +103,35 @@ pub digits_none : (job : Job) (x : Digit) → DigitsTo job (replicate 8 x) 1 0
 digits_none job x = record { digit_length = refl; digit_to = λ k h. absurd (omega arith); weight_to = refl }
 
 -- the next line of a job's value
-module _ (v : JobValue) (sound : Sound v) (whole : length v.lines ≡ 8) (l : ℕ) (h : l < v.orders) where
+module _ (v : JobValue) (sound : Sound v) (l : ℕ) (h : l < length (take v.orders v.lines)) where
   abbrev job : Job
   job = job_of v
 
+  -- one more than its quantity
+  abbrev radix : ℕ
+  radix = (get_or (take v.orders v.lines) l no_line).quantity + 1
+
   line_there : l < length job.lines
   unfolding job_of
-  line_there = omega (arith, length-take v.orders v.lines, sound.order_count)
+  line_there = h
 
-  radix_read : get_or (radices job) l 0 ≡ (get_or v.lines l no_line).quantity + 1
+  radix_read : get_or (radices job) l 0 ≡ radix
   unfolding radices job_of
-  radix_read = radix_at job.lines l line_there ∙ ap radix_of (get_or-take v.orders v.lines l no_line h)
+  radix_read = radix_at job.lines l h
 
-  module _ (digit : List Digit) (w r : ℕ) (e : r ≡ (get_or v.lines l no_line).quantity + 1) (t : DigitsTo job digit w l) where
-    weight_next : w * r ≡ count (take (l + 1) (radices job))
+  module _ (digit : List Digit) (w : ℕ) (t : DigitsTo job digit w l) where
+    weight_next : w * radix ≡ count (take (l + 1) (radices job))
     weight_next =
-        rw (t.weight_to, e, ← radix_read, add-one l) (sym (count_next (radices job) l (omega (arith, radices_length job, line_there))))
+        rw (t.weight_to, ← radix_read, add-one l) (sym (count_next (radices job) l (omega (arith, radices_length job, line_there))))
 
     -- the numbers stay within the weight
-    pub digits_fit : (1 ≤ r) × (r ≤ 256) × (1 ≤ w) × (w * r ≤ 256)
+    pub digits_fit : (radix ≤ 256) × (1 ≤ w) × (w * radix ≤ 256)
     digits_fit =
         let low : 1 ≤ w = rw t.weight_to (count_positive (take_positive (radices_positive job) l)) in
-        let next : w * r ≤ 256 = omega (arith, weight_next, take_below (radices_positive job) (l + 1), count_weight job, sound.admitted.light) in
-        (omega arith, omega (arith, mul-le-mul_right r low), low, next)
+        let next : w * radix ≤ 256 = omega (arith, weight_next, take_below (radices_positive job) (l + 1), count_weight job, sound.admitted.light) in
+        (omega (arith, mul-le-mul_right radix low), low, next)
 
-    pub digits_one : (x : Digit) → x.stride ≡ w → ((q : ℕ) → q < 256 → get_or x.lacks q 0 ≡ q / w % r) → DigitsTo job (set digit l x) (w * r) (l + 1)
+    pub digits_one : (x : Digit) → x.stride ≡ w → ((q : ℕ) → q < 256 → get_or x.lacks q 0 ≡ q / w % radix) → DigitsTo job (set digit l x) (w * radix) (l + 1)
     digits_one x stride lacks =
         record {
           digit_length = length-set digit l x ∙ t.digit_length;
@@ -135,13 +140,13 @@ module _ (v : JobValue) (sound : Sound v) (whole : length v.lines ≡ 8) (l : �
         }
       where
         inside : l < length digit
-        inside = omega (arith, t.digit_length, sound.order_count)
+        inside = omega (arith, t.digit_length, length-take v.orders v.lines, sound.order_count)
 
         here : DigitOf job l x
         here =
             record {
               stride_is = stride ∙ t.weight_to;
-              lacks_at = λ q b. lacks q b ∙ rw (t.weight_to, e, ← radix_read) (sym (digit_is (radices_positive job) l q (omega (arith, radices_length job, line_there))));
+              lacks_at = λ q b. lacks q b ∙ rw (t.weight_to, ← radix_read) (sym (digit_is (radices_positive job) l q (omega (arith, radices_length job, line_there))));
             }
 
         last : DigitOf job l (get_or (set digit l x) l no_digit)
@@ -151,14 +156,10 @@ module _ (v : JobValue) (sound : Sound v) (whole : length v.lines ≡ 8) (l : �
         earlier k b = rw (get_or-set_other digit l k x no_digit (λ e. omega arith)) (t.digit_to k b)
 
 -- the digits of all lines
-lines_count : (v : JobValue) → length (job_of v).lines ≤ v.orders
+pub digits_all : (v : JobValue) → Sound v → (d : Digits) (l : ℕ) → length (take v.orders v.lines) ≤ l → DigitsTo (job_of v) d.digit d.weight l → DigitsOf (job_of v) d
 unfolding job_of
-lines_count v = omega (arith, length-take v.orders v.lines)
-
-pub digits_all : (v : JobValue) → Sound v → (d : Digits) (l : ℕ) → v.orders ≤ l → DigitsTo (job_of v) d.digit d.weight l → DigitsOf (job_of v) d
-digits_all v sound d l all t =
+digits_all v sound d l few t =
     let job = job_of v in
-    let few = lines_count v in
     let whole : d.weight ≡ weight job.lines = t.weight_to ∙ ap count (take_all l (radices job) (omega (arith, radices_length job, few))) ∙ count_weight job in
     record {
       counted = whole;
@@ -180,29 +181,28 @@ unfolding less_code
 less_code_none {rs} p q h =
     ap (code_of rs) (ap (λ n. less (demand_of rs q) (replicate n 0)) (sym (demand_length rs q)) ∙ less_none (demand_of rs q)) ∙ code_of_demand p q h
 
--- a number less n in the digit of a line, given as its number + 1; 0 for no line
-abbrev pub less_at : List ℕ → ℕ → ℕ → ℕ → ℕ
-less_at rs zero n q = q
-less_at rs (suc l) n q = q - min (get_or (demand_of rs q) l 0) n * count (take l rs)
+-- a number less n in the digit of a line, if there is one
+abbrev pub less_at : List ℕ → Option ℕ → ℕ → ℕ → ℕ
+less_at rs None n q = q
+less_at rs (Some l) n q = q - min (get_or (demand_of rs q) l 0) n * count (take l rs)
 
 -- the same number for lines that begin one earlier
-abbrev onward : ℕ → ℕ
-onward zero = zero
-onward (suc l) = suc (suc l)
+abbrev onward : Option ℕ → Option ℕ
+onward = option_map suc
 
 line_onward : (lines : List OrderLine) (k a : ℕ) → line_from (suc k) lines a ≡ onward (line_from k lines a)
 line_onward [] k a = refl
 line_onward (l ∷ ls) k a = go (eqb l.article a) (line_onward ls (suc k) a)
   where
     go : (b : Bool) → line_from (suc (suc k)) ls a ≡ onward (line_from (suc k) ls a)
-        → cond b (suc (suc k)) (line_from (suc (suc k)) ls a) ≡ onward (cond b (suc k) (line_from (suc k) ls a))
+        → cond b (Some (suc k)) (line_from (suc (suc k)) ls a) ≡ onward (cond b (Some k) (line_from (suc k) ls a))
     go true e = refl
     go false e = e
 
 -- in a higher digit: what is below stays
-less_higher : (r : ℕ) {rs : List ℕ} → Positive rs → (x n q : ℕ) → q % r - 0 + r * less_at rs x n (q / r) ≡ less_at (r ∷ rs) (onward x) n q
-less_higher r {rs} p zero n q = omega (arith, mod-add-div q r)
-less_higher r {rs} p (suc l) n q =
+less_higher : (r : ℕ) {rs : List ℕ} → Positive rs → (x : Option ℕ) (n q : ℕ) → q % r - 0 + r * less_at rs x n (q / r) ≡ less_at (r ∷ rs) (onward x) n q
+less_higher r {rs} p None n q = omega (arith, mod-add-div q r)
+less_higher r {rs} p (Some l) n q =
     let s = count (take l rs) in
     let d = get_or (demand_of rs (q / r)) l 0 in
     let m = min d n in
@@ -248,7 +248,7 @@ module _ (a n : ℕ) where
           ∙ ap (λ k. replicate k 0) (sym (length-map ls radix_of))
 
       go : Dec (l.article ≡ a) → less_code rs (map gain ls) (q / r) ≡ less_at rs (line_from 0 ls a) n (q / r)
-          → q % r - gain l + r * less_code rs (map gain ls) (q / r) ≡ less_at (r ∷ rs) (cond (eqb l.article a) 1 (line_from 1 ls a)) n q
+          → q % r - gain l + r * less_code rs (map gain ls) (q / r) ≡ less_at (r ∷ rs) (cond (eqb l.article a) (Some 0) (line_from 1 ls a)) n q
       go (yes e) rest =
           rw (eq-eqb l.article a e, eq-eqb a l.article (sym e), others e, less_code_none (radix_positive ls) (q / r) lower)
           (omega (arith, mod-add-div q r))
@@ -256,16 +256,11 @@ module _ (a n : ℕ) where
           rw (ne_eqb l.article a ne, ne_eqb a l.article (λ e. ne (sym e)), rest, line_onward ls 0 a)
           (less_higher r (radix_positive ls) (line_from 0 ls a) n q)
 
--- a line by its number + 1
-pub line_less : (d : Digits) (line n q : ℕ) → 1 ≤ line → less_digit (get_or d.digit (line - 1) no_digit) n q ≡ less_line d line n q
-line_less d zero n q h = absurd (omega arith)
-line_less d (suc l) n q h = let s : suc l - 1 ≡ l = omega arith in rw s refl
-
 -- what a cell leaves of a number, and that it can be taken from it, as the digits of a job have it
 module _ {job : Job} {d : Digits} (of : DigitsOf job d) where
-  pub less_line_lem : (line n q : ℕ) → line ≤ length job.lines → q < 256 → less_line d line n q ≡ less_at (radices job) line n q
-  less_line_lem zero n q h b = refl
-  less_line_lem (suc l) n q h b = rw ((of.digit_at l h).stride_is, (of.digit_at l h).lacks_at q b) refl
+  pub less_line_lem : (line : Option ℕ) (n q : ℕ) → IfSome line (λ l. l < length job.lines) → q < 256 → less_line d line n q ≡ less_at (radices job) line n q
+  less_line_lem None n q h b = refl
+  less_line_lem (Some l) n q h b = rw ((of.digit_at l h).stride_is, (of.digit_at l h).lacks_at q b) refl
 
   pub digit_within : (l : ℕ) → l < length job.lines → Within (get_or d.digit l no_digit) d.weight
   digit_within l h q b =

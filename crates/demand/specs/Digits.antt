@@ -1,5 +1,5 @@
 -- The order lines as digits of a demand number.
-use Rattle.std.specs.Prelude.{ℕ, zero, suc, ◌*◌, ◌-◌, ◌≤◌, ◌<◌, min, ◌≡◌, [], length, get_or, take}
+use Rattle.std.specs.Prelude.{ℕ, ◌*◌, ◌-◌, ◌≤◌, ◌<◌, min, ◌≡◌, [], length, get_or, take, Option, Some, None}
 use Rattle.rules.specs.Lists.{product_of}
 use Rattle.rules.specs.Jobs.{Job}
 use Rattle.rules.specs.Refusals.{weight}
@@ -30,10 +30,10 @@ pub record DigitsOf (job : Job) (d : Digits) : Type 0 where
 abbrev pub less_digit : Digit → ℕ → ℕ → ℕ
 less_digit x n q = q - min (get_or x.lacks q 0) n * x.stride
 
--- the same for a line given as its number + 1; 0 for no line
-abbrev pub less_line : Digits → ℕ → ℕ → ℕ → ℕ
-less_line d zero n q = q
-less_line d (suc l) n q = less_digit (get_or d.digit l no_digit) n q
+-- the same for a cell's line, if it has one
+abbrev pub less_line : Digits → Option ℕ → ℕ → ℕ → ℕ
+less_line d None n q = q
+less_line d (Some l) n q = less_digit (get_or d.digit l no_digit) n q
 
 -- a digit that can be taken from every number below n
 abbrev pub Within : Digit → ℕ → Type 0

@@ -1,5 +1,5 @@
 -- The maps of an aisle: what is lacking of a demand after the cells that the front or the back part of an action reaches.
-use Rattle.std.specs.Prelude.{ℕ, suc, ◌+◌, ◌*◌, ◌-◌, ◌≤◌, ◌<◌, ◌≡◌, ◌⊎◌, List, Bool, true, false, length, get_or}
+use Rattle.std.specs.Prelude.{ℕ, suc, ◌+◌, ◌*◌, ◌-◌, ◌≤◌, ◌<◌, ◌≡◌, ◌⊎◌, List, length, get_or}
 use Rattle.rules.specs.declared.Action.{Action}
 use Rattle.rules.specs.declared.Action.TheVariants.{Bottom, Top}
 use Rattle.rules.specs.Jobs.{Job}
@@ -8,6 +8,8 @@ use Rattle.optimum.specs.Demand.{gains, radices, less_code}
 use Rattle.values.specs.declared.Shelf.{Shelf}
 use Rattle.values.specs.Shelves.{ShelfOf}
 use Rattle.demand.specs.declared.digits.Digits.{Digits}
+use Rattle.demand.specs.declared.maps.Part.{Part}
+use Rattle.demand.specs.declared.maps.Part.TheVariants.{Front, Back}
 use Rattle.demand.specs.Digits.{demands, DigitsOf}
 
 -- the heights of an aisle: its two ends, and 24 cells at most
@@ -53,18 +55,18 @@ abbrev pub RowOf : Job → ℕ → Action → List ℕ → ℕ → Type 0
 RowOf job j x map row = (q : ℕ) → q < weight job.lines → entry map row q ≡ less_code (radices job) (gains job j x) q
 
 -- the action that reaches a cell from the front, or from the back
-abbrev pub reach : Bool → ℕ → Action
-reach false c = Bottom c
-reach true c = Top c
+abbrev pub reach : Part → ℕ → Action
+reach Front c = Bottom c
+reach Back c = Top c
 
 -- the height at which n cells are reached from the front, or from the back
-abbrev pub height_at : Bool → ℕ → ℕ → ℕ
-height_at false cells n = n
-height_at true cells n = suc cells - n
+abbrev pub height_at : Part → ℕ → ℕ → ℕ
+height_at Front cells n = n
+height_at Back cells n = suc cells - n
 
 -- the first n rows of the map by the front part of an action, or by its back part
-abbrev pub RowsTo : Job → ℕ → ℕ → Bool → ℕ → List ℕ → Type 0
-RowsTo job cells j back n map = (k : ℕ) → k < n → RowOf job j (reach back (height_at back cells k)) map (height_at back cells k)
+abbrev pub RowsTo : Job → ℕ → ℕ → Part → ℕ → List ℕ → Type 0
+RowsTo job cells j part n map = (k : ℕ) → k < n → RowOf job j (reach part (height_at part cells k)) map (height_at part cells k)
 
 -- the maps of aisle j: for each cell and each demand, by its number, what is lacking after BOTTOM h and after TOP i
 pub record MapsReady (job : Job) (j : ℕ) (fronts backs : List ℕ) : Type 0 where

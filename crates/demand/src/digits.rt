@@ -33,13 +33,10 @@ pub fn digits_of(job: JobValue) -> Digits
     };
     let mut digit = [none; 8];
     let mut weight = 1;
-    let mut l = 0;
-    while l < job.orders {
-        let line = job.lines[l];
+    for (l, line) in job.lines[..job.orders].iter().enumerate() {
         let radix = line.quantity + 1;
         digit[l] = digit_of(radix, weight);
         weight *= radix;
-        l += 1;
     }
     Digits { digit, weight }
 }
@@ -50,10 +47,8 @@ fn digit_of(radix: usize, stride: usize) -> Digit
     ensures { (result.stride ≡ stride) × ((q : ℕ) → q < demands → get_or result.lacks q 0 ≡ q / stride % radix) }
 {
     let mut lacks = [0; DEMANDS];
-    let mut q = stride;
-    while q < DEMANDS {
+    for q in stride..DEMANDS {
         lacks[q] = next(lacks[q - stride], radix);
-        q += 1;
     }
     Digit { stride, lacks }
 }
@@ -63,20 +58,6 @@ fn next(x: u8, radix: usize) -> u8
     requires { (x < radix) × (radix ≤ demands) }
     ensures { result ≡ suc x % radix }
 {
-    let up = wide_digit(x) + 1;
+    let up = usize::from(x) + 1;
     if up < radix { up as u8 } else { 0 }
-}
-
-// A digit as a wider number.
-pub(crate) fn wide_digit(x: u8) -> usize
-    ensures { (result ≡ x) × (result ≤ 255) }
-{
-    x as usize
-}
-
-// A number of the table as a wider one.
-pub fn wide(x: u16) -> usize
-    ensures { (result ≡ x) × (result ≤ 65535) }
-{
-    x as usize
 }

@@ -6,4 +6,3 @@
 
 pub mod digits;
 pub mod maps;
-pub mod shelf;

@@ -7,7 +7,6 @@ use mathlib.Core.List.{List, [], ◌∷◌, ◌++◌, map}
 use mathlib.Core.Bool.{Bool, true, false, cond}
 use lib.Bits.{bit_or, or_shifted_r}
 use lib.Count.{ones, ones_cat, ones-ones, ones_step}
-use lib.Dec.{eqb}
 use lib.ListN.{length, get_or, take, length-map}
 use lib.Seq.{take-suc, length-take-le}
 use Rattle.rules.specs.declared.Action.{Action}
@@ -16,7 +15,6 @@ use Rattle.rules.specs.Plans.{Plan, entered}
 use Rattle.rules.specs.Policies.{entered_aisles}
 use Rattle.rules.proofs.Lists.{map-append}
 use Rattle.values.specs.declared.Stage.{Stage}
-use Rattle.values.specs.declared.PlanValue.{PlanValue}
 use Rattle.entered.specs.Sets.{with_aisle, set_of, entered_set}
 
 -- one has one one
@@ -28,28 +26,28 @@ at_most_one : (b : Bool) → cond b 1 0 ≤ 1
 at_most_one true = omega arith
 at_most_one false = omega arith
 
-module _ (set n kind : ℕ) (before : set < 2 ^ n) where
+module _ (set n : ℕ) (action : Action) (before : set < 2 ^ n) where
   -- the aisle of a number is not in a set of those before it
   with_it : bit_or set (2 ^ n) ≡ 1 * 2 ^ n + set
   with_it = ap (bit_or set) (sym (one-mul (2 ^ n))) ∙ or_shifted_r 1 n set before
 
   -- with it the set has a one more, if the aisle is entered
-  pub ones_with : ones (with_aisle set n kind) ≡ ones set + cond (eqb kind 0) 0 1
+  pub ones_with : ones (with_aisle set n action) ≡ ones set + cond (entered action) 1 0
   unfolding with_aisle
-  ones_with = go (eqb kind 0)
+  ones_with = go (entered action)
     where
-      go : (b : Bool) → ones (cond b set (bit_or set (2 ^ n))) ≡ ones set + cond b 0 1
-      go true = omega arith
-      go false = omega (arith, ap ones with_it, ones_cat n 1 set before, one_one)
+      go : (b : Bool) → ones (cond b (bit_or set (2 ^ n)) set) ≡ ones set + cond b 1 0
+      go true = omega (arith, ap ones with_it, ones_cat n 1 set before, one_one)
+      go false = omega arith
 
   -- and it is a set of the aisles up to it
-  pub with_below : with_aisle set n kind < 2 ^ suc n
+  pub with_below : with_aisle set n action < 2 ^ suc n
   unfolding with_aisle
-  with_below = go (eqb kind 0)
+  with_below = go (entered action)
     where
-      go : (b : Bool) → cond b set (bit_or set (2 ^ n)) < 2 ^ suc n
-      go true = omega (arith, before, pow-suc 2 n)
-      go false = omega (arith, before, with_it, pow-suc 2 n)
+      go : (b : Bool) → cond b (bit_or set (2 ^ n)) set < 2 ^ suc n
+      go true = omega (arith, with_it, pow-suc 2 n)
+      go false = omega (arith, before, pow-suc 2 n)
 
 -- the set of a list of actions has a bit for each of them at most
 set_below : (actions : List Action) → set_of actions < 2 ^ length actions
@@ -57,7 +55,7 @@ set_below [] = omega arith
 set_below (a ∷ actions) = omega (arith, at_most_one (entered a), set_below actions, pow-suc 2 (length actions))
 
 -- with one more action it is that with the bit of that one's aisle, if it enters it
-set_more : (actions : List Action) (a : Action) → with_aisle (set_of actions) (length actions) (cond (entered a) 1 0) ≡ set_of (actions ++ (a ∷ []))
+set_more : (actions : List Action) (a : Action) → with_aisle (set_of actions) (length actions) a ≡ set_of (actions ++ (a ∷ []))
 unfolding with_aisle
 set_more actions a = go (entered a) refl
   where
@@ -68,31 +66,30 @@ set_more actions a = go (entered a) refl
     more true e (x ∷ xs) = omega (arith, more true e xs, pow-suc 2 (length xs))
     more false e (x ∷ xs) = omega (arith, more false e xs)
 
-    go : (b : Bool) → entered a ≡ b → cond (eqb (cond b 1 0) 0) (set_of actions) (bit_or (set_of actions) (2 ^ length actions)) ≡ set_of (actions ++ (a ∷ []))
-    go true e = omega (arith, with_it (set_of actions) (length actions) 1 (set_below actions), more true e actions)
+    go : (b : Bool) → entered a ≡ b → cond b (bit_or (set_of actions) (2 ^ length actions)) (set_of actions) ≡ set_of (actions ++ (a ∷ []))
+    go true e = omega (arith, with_it (set_of actions) (length actions) a (set_below actions), more true e actions)
     go false e = omega (arith, more false e actions)
 
--- the first k actions of a plan value
-abbrev pub first_actions : PlanValue → ℕ → List Action
-first_actions plan k = map (λ (s : Stage). s.action) (take k plan.stages)
+-- the first k actions of a list of stages
+abbrev pub first_actions : List Stage → ℕ → List Action
+first_actions stages k = map (λ (s : Stage). s.action) (take k stages)
 
-module _ (plan : PlanValue) (k : ℕ) (d : Stage) (within : k < length plan.stages) where
+module _ (stages : List Stage) (k : ℕ) (d : Stage) (within : k < length stages) where
   -- one action more
-  actions_next : first_actions plan (suc k) ≡ first_actions plan k ++ ((get_or plan.stages k d).action ∷ [])
+  actions_next : first_actions stages (suc k) ≡ first_actions stages k ++ ((get_or stages k d).action ∷ [])
   actions_next =
-      ap (map (λ (s : Stage). s.action)) (take-suc plan.stages k d within)
-      ∙ map-append (λ (s : Stage). s.action) (take k plan.stages) (get_or plan.stages k d ∷ [])
+      ap (map (λ (s : Stage). s.action)) (take-suc stages k d within)
+      ∙ map-append (λ (s : Stage). s.action) (take k stages) (get_or stages k d ∷ [])
 
   -- there are k of them
-  actions_long : length (first_actions plan k) ≡ k
-  actions_long = length-map (take k plan.stages) (λ (s : Stage). s.action) ∙ length-take-le k plan.stages (omega arith)
+  actions_long : length (first_actions stages k) ≡ k
+  actions_long = length-map (take k stages) (λ (s : Stage). s.action) ∙ length-take-le k stages (omega arith)
 
   -- the set with the next action is that with the bit of its aisle, if it enters it
-  pub set_next : (set kind : ℕ) → set ≡ set_of (first_actions plan k) → kind ≡ cond (entered (get_or plan.stages k d).action) 1 0
-      → with_aisle set k kind ≡ set_of (first_actions plan (suc k))
-  set_next set kind set_is kind_is =
-      let more = set_more (first_actions plan k) (get_or plan.stages k d).action in
-      rw (set_is, kind_is, actions_next) (rw actions_long at more)
+  pub set_next : (set : ℕ) → set ≡ set_of (first_actions stages k) → with_aisle set k (get_or stages k d).action ≡ set_of (first_actions stages (suc k))
+  set_next set set_is =
+      let more = set_more (first_actions stages k) (get_or stages k d).action in
+      rw (set_is, actions_next) (rw actions_long at more)
 
 -- a set of a list of actions has a one for each that enters its aisle
 ones_set : (actions : List Action) → ones (set_of actions) ≡ sum_of (λ a. cond (entered a) 1 0) actions

@@ -3,13 +3,12 @@ use Prim.Native.Nat.{ℕ, ◌+◌, ◌*◌, ◌^◌}
 use mathlib.Core.List.{List, [], ◌∷◌}
 use mathlib.Core.Bool.{cond}
 use lib.Bits.{bit_or}
-use lib.Dec.{eqb}
 use Rattle.rules.specs.declared.Action.{Action}
 use Rattle.rules.specs.Plans.{Plan, entered}
 
--- a set with the aisle whose bit has that number, if an action of the kind enters it; only VOID, 0, does not
-unfoldable pub with_aisle : ℕ → ℕ → ℕ → ℕ
-with_aisle set aisle kind = cond (eqb kind 0) set (bit_or set (2 ^ aisle))
+-- a set with the aisle whose bit has that number, if the action enters it
+unfoldable pub with_aisle : ℕ → ℕ → Action → ℕ
+with_aisle set aisle action = cond (entered action) (bit_or set (2 ^ aisle)) set
 
 -- the set of the aisles that a list of actions enters, the first one's bit the lowest
 abbrev pub set_of : List Action → ℕ

@@ -1,5 +1,5 @@
--- Laws of the sheet of a job whose plan is known.
+-- Laws of a routed job.
 pub mod Replies
-pub mod Answers
 pub mod Routes
-pub mod Space
+pub mod PageLaws
+pub mod PageRoutes

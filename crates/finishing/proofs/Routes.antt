@@ -1,26 +1,22 @@
--- A routed job: its plan is lawful for the job's list, and the sheet of the values is the job's sheet.
-use Prim.Native.Nat.{◌≤◌}
-use mathlib.Core.Path.{◌≡◌, refl, sym, subst, ◌∙◌, ap}
-use mathlib.Core.List.{[]}
-use Rattle.rules.specs.Plans.{plan_length}
+-- A routed job: its plan is lawful for the job's list, and with its picks and its runs it makes the job's sheet.
+use mathlib.Core.Path.{◌≡◌, refl, sym, subst}
+use mathlib.Core.List.{List, []}
+use Rattle.rules.specs.declared.Pick.{Pick}
+use Rattle.rules.specs.declared.Run.{Run}
 use Rattle.rules.specs.Lawful.{LawfulFor}
 use Rattle.rules.specs.BestPlan.{best_plan}
-use Rattle.rules.specs.Picks.{picks_of}
-use Rattle.rules.specs.FirstWalk.{first_walk}
-use Rattle.rules.specs.Sheet.{runs_of, sheet_of, sheet_text}
-use Rattle.rules.proofs.Admission.{layout_within}
+use Rattle.rules.specs.Sheet.{sheet_text}
 use Rattle.rules.proofs.EmptyList.{lawful_for_empty}
 use Rattle.values.specs.declared.JobValue.{JobValue}
-use Rattle.values.specs.declared.PickList.{PickList}
-use Rattle.values.specs.declared.RunList.{RunList}
 use Rattle.values.specs.declared.Routed.{Routed}
 use Rattle.values.specs.declared.Shelf.{Shelf}
 use Rattle.values.specs.Shelves.{ShelfOf}
-use Rattle.values.specs.Values.{job_of, plan_of, picks_of_value, runs_of_value, Sound, RoutedOf}
+use Rattle.values.specs.Values.{job_of, plan_of, Sound, RoutedOf}
 use Rattle.optimum.proofs.Best.{best_plan_lem}
 use Rattle.picks.specs.Picking.{Asked}
-use Rattle.sheets.specs.Parts.{sheet_of_values, CountsWithin}
-use Rattle.sheets.proofs.SheetLaws.{sheet_of_values_lem}
+use Rattle.sheets.specs.Parts.{sheet_of_parts}
+use Rattle.sheets.proofs.SheetLaws.{sheet_of_parts_lem}
+use Rattle.finishing.specs.Toured.{Toured}
 use Rattle.walks.specs.Lawfully.{LawfulPlan}
 
 module _ (job : JobValue) (routed : Routed) (s : Sound job) (r : RoutedOf (job_of job) routed) where
@@ -51,24 +47,8 @@ module _ (job : JobValue) (routed : Routed) (s : Sound job) (r : RoutedOf (job_o
         lawful = subst (LawfulFor job.layout []) (sym r.plan) (lawful_for_empty job.layout (job_of job).lines (best_plan (job_of job)) (best_plan_lem (job_of job) s.admitted).allowed.lawful);
       }
 
-  -- its counts are within the arrays
-  pub routed_counts : (picks : PickList) (runs : RunList) → picks.count ≤ 384 → runs.count ≤ 860 → CountsWithin routed.plan picks runs
-  unfolding job_of
-  routed_counts picks runs p w =
-      let l = ((layout_within job.layout).0 s.admitted.layout).aisles in
-      record {
-        some_aisle = subst (λ n. 1 ≤ n) (sym same_aisles) l.0;
-        aisle_count = subst (λ n. n ≤ 16) (sym same_aisles) l.1;
-        pick_count = p;
-        run_count = w;
-      }
-
   -- with its picks and its runs it makes the job's sheet
-  pub routed_sheet : (picks : PickList) (runs : RunList) →
-      picks_of_value picks ≡ picks_of (job_of job) (plan_of routed.plan) →
-      runs_of_value runs ≡ runs_of (first_walk job.layout (plan_of routed.plan)) →
-      sheet_of_values job.policy routed.length routed.plan picks runs ≡ sheet_text (job_of job)
+  pub routed_sheet : (picks : List Pick) (runs : List Run) → Toured (job_of job) picks runs
+      → sheet_of_parts job.policy routed.length (plan_of routed.plan) picks runs ≡ sheet_text (job_of job)
   unfolding sheet_text job_of
-  routed_sheet picks runs p w =
-      sheet_of_values_lem job routed.plan routed.length picks runs (r.length ∙ ap (plan_length job.layout) (sym r.plan)) p w
-      ∙ ap (sheet_of (job_of job)) r.plan
+  routed_sheet picks runs t = rw r.plan (sheet_of_parts_lem (job_of job) (best_plan (job_of job)) routed.length picks runs r.length t.its_picks t.its_runs)

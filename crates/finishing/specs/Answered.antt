@@ -1,12 +1,7 @@
 -- What a call answers and leaves, as the definitions say.
-use Prim.Native.Nat.{ℕ}
-use mathlib.Core.Path.{◌≡◌}
-use mathlib.Core.List.{List}
-use mathlib.Core.Bool.{true, false}
-use lib.Dec.{ltb}
-use lib.ListN.{length}
+use Rattle.std.specs.Prelude.{ℕ, ◌≡◌, List, true, false, ltb, length}
 use Rattle.rules.specs.declared.Refusal.TheVariants.{SheetSpace}
-use Rattle.rules.specs.declared.Reply.{Reply}
+use Rattle.rules.specs.Answers.{Reply}
 use Rattle.rules.specs.Jobs.{Job}
 use Rattle.rules.specs.Sheet.{sheet_text}
 use Rattle.rules.specs.Answers.{Answer, refused, served}
@@ -20,8 +15,3 @@ written job sheet work =
 pub record Replied (a : Answer) (r : Reply) (bytes : List ℕ) : Type 0 where
   pub reply : r ≡ a.reply
   pub sheet : bytes ≡ a.sheet
-
--- so is every number of the lent work area
-pub record Answered (a : Answer) (r : Reply) (bytes numbers : List ℕ) : Type 0 where
-  pub replied : Replied a r bytes
-  pub work : numbers ≡ a.work

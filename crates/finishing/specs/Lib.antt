@@ -1,2 +1,4 @@
--- What the contracts of the library calls are stated with.
+-- What the contracts of a routed job are stated with.
 pub mod Answered
+pub mod Paged
+pub mod Toured

@@ -1,14 +1,13 @@
-// What can be reached along edges that are left: a flood fill over the points. `left` has the treads left of each edge, `seen` a number
-// for each point, 0 where it is not seen. The points lie below `end`, where the last aisle's numbers end.
+// What can be reached along edges that are left: a flood fill over the points. `left` has the treads left of each edge, `seen` whether
+// each point is seen. The points lie below `end`, where the last aisle's numbers end.
 #![tactic(auto)]
 
-ghost use Rattle.std.specs.Prelude.{◌≡◌, true, ◌↔◌, ◌+◌, ◌-◌, ◌≤◌, ◌<◌, length};
+ghost use Rattle.std.specs.Prelude.{◌≡◌, true, ◌↔◌, ◌≤◌, ◌<◌, length};
 ghost use Rattle.rules.specs.Store.{layout_in_bounds};
-ghost use Rattle.flood.specs.Points.{depot_number};
-ghost use Rattle.flood.specs.Flooded.{unseen, AllReached, Ranged, spread_edge, spread_at, swept_up, swept_down, Flooded, AllSeen};
+ghost use Rattle.flood.specs.Points.{depot_number, next_by};
+ghost use Rattle.flood.specs.Flooded.{unseen, AllReached, Ranged, spread_edge, spread_at, Swept, Flooded, AllSeen};
 
-use rules::{Layout, Side};
-use values::depot_side;
+use rules::{Direction, Layout, Side};
 
 // The numbers of an aisle: a point has the number 26 * aisle + height, where height 0 is the front crossing, then come the cells,
 // at most 24, and the back crossing.
@@ -25,109 +24,98 @@ pub fn depot_number(z: Layout) -> usize
 {
     let front = HEIGHTS * z.depot;
     let back = front + z.cells + 1;
-    let side = depot_side(z);
+    let side = z.side();
     match side {
         Side::FrontSide => front,
         Side::BackSide => back,
     }
 }
 
-// Two points that an edge joins, of which n treads are left: where one is seen, the other is too. The number of points seen newly.
-fn spread_edge(n: u8, a: usize, b: usize, seen: &mut [u8]) -> usize
+// The number of the point where a step ends. Numbers have no type of their own: a step may lead out of those of points, and only a walk
+// that stays in the store never does.
+pub fn next_of(at: usize, step: Direction) -> usize
+    requires { (26 ≤ at) × (at < 442) }
+    ensures { result ≡ next_by step at }
+{
+    match step {
+        Direction::Back => at + 1,
+        Direction::Front => at - 1,
+        Direction::Left => at - HEIGHTS,
+        Direction::Right => at + HEIGHTS,
+    }
+}
+
+// Two points that an edge joins, of which n treads are left: where one is seen, the other is too. Whether a point is seen newly.
+fn spread_edge(n: u8, a: usize, b: usize, seen: &mut [bool]) -> bool
     requires { 0 < n → (a < length seen.old) × (b < length seen.old) }
     ensures seen_after { seen.new ≡ spread_edge n a b seen.old }
-    ensures result_after { unseen seen.new + result ≡ unseen seen.old }
+    ensures fewer { unseen seen.new ≤ unseen seen.old }
+    ensures news { (result ≡ true) ↔ (unseen seen.new < unseen seen.old) }
 {
-    if n == 0 {
-        return 0;
+    if n == 0 || seen[a] == seen[b] {
+        return false;
     }
-    if seen[a] == 0 {
-        if seen[b] == 0 {
-            return 0;
-        }
-        seen[a] = 1;
-        return 1;
-    }
-    if seen[b] == 0 {
-        seen[b] = 1;
-        return 1;
-    }
-    0
-}
-
-// The edges towards the back and to the right of one point. The number of points seen newly, as for a sweep.
-fn spread(left: &[u8], at: usize, seen: &mut [u8]) -> usize
-    requires { (at < 442) × Ranged left.now 442 × (length seen.old ≡ 442) }
-    ensures seen_after { seen.new ≡ spread_at left.now at seen.old }
-    ensures result_after { unseen seen.new + result ≡ unseen seen.old }
-{
-    let along = spread_edge(left[at], at, at + 1, seen);
-    let across = spread_edge(left[POINTS + at], at, at + HEIGHTS, seen);
-    along + across
-}
-
-// Sweeps the points upwards.
-fn sweep_up(left: &[u8], end: usize, seen: &mut [u8]) -> usize
-    requires { Ranged left.now end × (length seen.old ≡ 442) }
-    ensures seen_after { seen.new ≡ swept_up left.now (end - 26) seen.old }
-    ensures result_after { unseen seen.new + result ≡ unseen seen.old }
-{
-    let mut news = 0;
-    let mut at = HEIGHTS;
-    while at < end {
-        news += spread(left, at, seen);
-        at += 1;
-    }
-    news
-}
-
-// Sweeps the points downwards.
-fn sweep_down(left: &[u8], end: usize, seen: &mut [u8]) -> usize
-    requires { Ranged left.now end × (length seen.old ≡ 442) }
-    ensures seen_after { seen.new ≡ swept_down left.now (end - 26) seen.old }
-    ensures result_after { unseen seen.new + result ≡ unseen seen.old }
-{
-    let mut news = 0;
-    let mut at = end;
-    while HEIGHTS < at {
-        at -= 1;
-        news += spread(left, at, seen);
-    }
-    news
-}
-
-// Sweeps up and down until nothing is new.
-fn flood(left: &[u8], end: usize, seen: &mut [u8])
-    requires { Ranged left.now end × (length seen.old ≡ 442) }
-    ensures { Flooded left.now seen.old seen.new }
-{
-    // Not 0, so that there is a first turn.
-    let mut news = POINTS;
-    while 0 < news {
-        let up = sweep_up(left, end, seen);
-        let down = sweep_down(left, end, seen);
-        news = up + down;
-    }
-}
-
-// Whether all that is left starts at a point that is seen.
-fn all_seen(left: &[u8], end: usize, seen: &[u8]) -> bool
-    requires { (length left.now ≡ 884) × (length seen.now ≡ 442) × (end ≤ 442) }
-    ensures { (result ≡ true) ↔ AllSeen left.now seen.now end }
-{
-    let mut at = HEIGHTS;
-    while at < end {
-        if seen[at] == 0 {
-            if 0 < left[at] {
-                return false;
-            }
-            if 0 < left[POINTS + at] {
-                return false;
-            }
-        }
-        at += 1;
-    }
+    seen[a] = true;
+    seen[b] = true;
     true
+}
+
+// The edges of a store: the treads that are left of each, and the number where its points end.
+#[derive(Clone, Copy)]
+struct Edges<'a> {
+    left: &'a [u8],
+    end: usize,
+    ghost ranged: { Ranged left.now end },
+}
+
+impl Edges<'_> {
+    // Spreads along the edges towards the back and to the right of one point. Whether a point is seen newly.
+    fn spread(&self, at: usize, seen: &mut [bool]) -> bool
+        requires { (at < 442) × (length seen.old ≡ 442) }
+        ensures seen_after { seen.new ≡ spread_at self.now.left.now at seen.old }
+        ensures news { (result ≡ true) ↔ (unseen seen.new < unseen seen.old) }
+    {
+        let along = spread_edge(self.left[at], at, at + 1, seen);
+        let across = spread_edge(self.left[POINTS + at], at, at + HEIGHTS, seen);
+        along | across
+    }
+
+    // Sweeps the points upwards and then downwards. Whether a point is seen newly.
+    fn sweep(&self, seen: &mut [bool]) -> bool
+        requires { length seen.old ≡ 442 }
+        ensures { Swept self.now.left.now self.now.end seen.old seen.new result }
+    {
+        let mut news = false;
+        for at in HEIGHTS..self.end {
+            news |= self.spread(at, seen);
+        }
+        for at in (HEIGHTS..self.end).rev() {
+            news |= self.spread(at, seen);
+        }
+        news
+    }
+
+    // Sweeps until nothing is new.
+    fn flood(&self, seen: &mut [bool])
+        requires { length seen.old ≡ 442 }
+        ensures { Flooded self.now.left.now seen.old seen.new }
+    {
+        while self.sweep(seen) {}
+    }
+
+    // Whether all that is left starts at a point that is seen.
+    #[tactic(auto, unfolding(crate::specs::Flooded::AllSeen))]
+    fn all_start_at(&self, seen: &[bool]) -> bool
+        requires { length seen.now ≡ 442 }
+        ensures { (result ≡ true) ↔ AllSeen self.now.left.now seen.now self.now.end }
+    {
+        for at in HEIGHTS..self.end {
+            if !seen[at] && (0 < self.left[at] || 0 < self.left[POINTS + at]) {
+                return false;
+            }
+        }
+        true
+    }
 }
 
 // Whether all that is left can be reached from a point.
@@ -135,8 +123,9 @@ pub fn reaches(left: &[u8], at: usize, end: usize) -> bool
     requires { (at < 442) × Ranged left.now end }
     ensures { (result ≡ true) ↔ AllReached left.now at }
 {
-    let mut seen = [0u8; POINTS];
-    seen[at] = 1;
-    flood(left, end, &mut seen);
-    all_seen(left, end, &seen)
+    let edges = Edges { left, end };
+    let mut seen = [false; POINTS];
+    seen[at] = true;
+    edges.flood(&mut seen);
+    edges.all_start_at(&seen)
 }

@@ -7,7 +7,8 @@ ghost use Rattle.std.specs.Io.{ReadsAtMost};
 
 use std::io::{Read, Result};
 
-// Reads into a buffer and gives how many bytes were read: all of its bytes, or fewer where the reader is at its end.
+// Reads into a buffer and gives how many bytes were read: all of its bytes, or fewer where the reader is at its end. (How many reads it
+// takes is the reader's, and std's `read_exact` does not tell how far it came.)
 pub fn read_full<R: Read>(reader: &mut R, buf: &mut [u8]) -> Result<usize>
     ensures within { ReadsAtMost result buf.new }
     ensures bytes { IfOk result (λ n. Consumes (R.remaining reader.old) (R.remaining reader.new) (take n buf.new)) }

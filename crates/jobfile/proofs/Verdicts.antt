@@ -2,9 +2,8 @@
 use Prim.Native.Nat.{ℕ, ◌≤◌}
 use mathlib.Core.Path.{◌≡◌, refl, sym, ◌∙◌, ap, ap₂}
 use mathlib.Core.List.{List, [], ◌∷◌}
-use mathlib.Core.Bool.{Bool, true, false, cond, ◌&&◌, not, true≢false}
+use mathlib.Core.Bool.{Bool, true, false, cond, ◌&&◌, not}
 use mathlib.Core.Option.{Option, none, some}
-use native.Mathlib.Omega.{arith}
 use lib.Dec.{leb, ltb}
 use lib.ListN.{length, take, drop}
 use borrow.Author.Tests.{leb-true}
@@ -23,14 +22,17 @@ use Rattle.rules.specs.Looked.{looked, stock_tested, looked_on, looked_in, hande
 use Rattle.rules.proofs.Admission.{stock_within, hours_within, list_within, admitted}
 use Rattle.rules.proofs.Numbers.{both_true}
 use Rattle.values.specs.declared.JobValue.{JobValue}
+use Rattle.std.specs.Prelude.{Some, None, IfSome, Ok, Err}
+use Rattle.std.specs.Prelude.{Option as Clocked}
+use Rattle.values.specs.declared.Clock.{Clock}
+use Rattle.jobfile.specs.Ready.{few_windows}
 use Rattle.values.specs.Values.{no_line, hours_of, job_of, Sound, no_window}
 use Rattle.reading.specs.declared.raw.RawJob.{RawJob}
-use Rattle.jobfile.specs.declared.Verdict.{Verdict}
-use Rattle.jobfile.specs.declared.Decision.{Decision}
+use Rattle.jobfile.specs.declared.verdict.Decision.{Decision}
 use Rattle.jobfile.specs.declared.ReadJob.{ReadJob}
-use Rattle.jobfile.specs.Ready.{StockReady, ListReady}
-use Rattle.reading.specs.Kept.{no_record, padded, hours_value, job_value, raw_of}
-use Rattle.jobfile.specs.Answer.{verdict_of, stopped_by, Decides, checked_as, checked_of, answer_to}
+use Rattle.jobfile.specs.Ready.{StockReady, ListReady, Tested}
+use Rattle.reading.specs.Kept.{no_record, padded, hours_value, job_value, raw_value, raw_of}
+use Rattle.jobfile.specs.Answer.{Verdict, verdict_of, Tells, Decides, checked_as, checked_of, answer_to}
 use Rattle.marks.proofs.Cells.{cells_bounded}
 use Rattle.reading.proofs.Storing.{padded_all}
 use Rattle.jobfile.proofs.Ranges.{hours_test}
@@ -49,8 +51,10 @@ stock_ready v z e =
     record { count = leb-true v.records 384 t.0; layout = z; stock = t.1 }
 
 -- hours that have passed their tests
-pub hours_ready : (v : JobValue) → hours_test v ≡ true → v.hours.count ≤ 64
-hours_ready v e = leb-true v.hours.count 64 (both_true (leb v.hours.count 64) (hours_in_bounds (job_of v).layout.aisles (job_of v).hours) e).0
+pub hours_ready : (m : ℕ) (hours : Clocked Clock) → few_windows hours && hours_in_bounds m (hours_of hours) ≡ true → IfSome hours (λ clock. clock.count ≤ 64)
+hours_ready m None e = tt
+hours_ready m (Some clock) e =
+    leb-true clock.count 64 (both_true (leb clock.count 64) (hours_in_bounds m (hours_of (Some clock))) e).0
 
 -- a list that has passed its tests
 pub list_ready : (v : JobValue) → list_test v ≡ true → ListReady v
@@ -59,16 +63,14 @@ list_ready v e =
     record { count = leb-true v.orders 8 t.0; list = t.1 }
 
 -- all windows of hours within the bounds are kept
-whole_hours : (m : ℕ) (hours : Hours) → hours_in_bounds m hours ≡ true → (hours_of (hours_value hours) ≡ hours) × ((hours_value hours).count ≤ 64)
-unfolding hours_of hours_value
-whole_hours m NoHours e = (refl, omega arith)
+whole_hours : (m : ℕ) (hours : Hours) → hours_in_bounds m hours ≡ true → (hours_of (hours_value hours) ≡ hours) × IfSome (hours_value hours) (λ clock. clock.count ≤ 64)
+whole_hours m NoHours e = (refl, tt)
 whole_hours m (At t windows) e =
     let few = ((hours_within m (At t windows)).0 e).1 in
     (ap (At t) (padded_all 64 no_window windows few), few)
 
 -- the test of the hours on their value is that of the hours
-hours_same : (m : ℕ) (hours : Hours) → leb (hours_value hours).count 64 && hours_in_bounds m (hours_of (hours_value hours)) ≡ hours_in_bounds m hours
-unfolding hours_of hours_value
+hours_same : (m : ℕ) (hours : Hours) → few_windows (hours_value hours) && hours_in_bounds m (hours_of (hours_value hours)) ≡ hours_in_bounds m hours
 hours_same m NoHours = refl
 hours_same m (At t windows) = go (leb (length windows) 64) refl
   where
@@ -121,24 +123,24 @@ module _ (job : Job) where
       go false e = rw (list_in_bounds, e)
 
 -- the outcomes of the tests on what was read are those of the tests on the job
-module _ (raw : RawJob) (job : Job) (e : raw ≡ raw_of (some job)) {b : Bool} where
+module _ (raw : RawJob) (job : Job) (e : raw ≡ raw_value job) {b : Bool} where
   layout_on : layout_in_bounds raw.job.layout ≡ b → layout_in_bounds job.layout ≡ b
-  unfolding raw_of job_value
+  unfolding raw_value job_value
   layout_on t = sym (ap (λ (r : RawJob). layout_in_bounds r.job.layout) e) ∙ t
 
   stock_on : stock_test raw.job ≡ b → stock_in_bounds job ≡ b
-  unfolding raw_of
+  unfolding raw_value
   stock_on t = sym (stock_same job) ∙ sym (ap (λ (r : RawJob). stock_test r.job) e) ∙ t
 
   hours_on : hours_test raw.job ≡ b → hours_in_bounds job.layout.aisles job.hours ≡ b
-  unfolding raw_of job_of job_value
+  unfolding raw_value job_of job_value
   hours_on t = sym (hours_same job.layout.aisles job.hours) ∙ sym (ap (λ (r : RawJob). hours_test r.job) e) ∙ t
 
   list_on : list_test raw.job ≡ b → list_in_bounds job ≡ b
-  unfolding raw_of
+  unfolding raw_value
   list_on t = sym (list_same job) ∙ sym (ap (λ (r : RawJob). list_test r.job) e) ∙ t
 
-module _ (raw : RawJob) (job : Job) (e : raw ≡ raw_of (some job)) where
+module _ (raw : RawJob) (job : Job) (e : raw ≡ raw_value job) where
   -- all records of a stock within the bounds are kept
   stock_kept : stock_test raw.job ≡ true → length job.stock ≤ 384
   stock_kept t = ((stock_within job).0 (stock_on raw job e t)).count
@@ -149,23 +151,23 @@ module _ (raw : RawJob) (job : Job) (e : raw ≡ raw_of (some job)) where
 
   module _ {b : Bool} where
     cells_on : layout_in_bounds raw.job.layout ≡ true → stock_test raw.job ≡ true → raw.twice ≡ b → any_two same_cell job.stock ≡ b
-    unfolding raw_of
+    unfolding raw_value
     cells_on l s t = sym (cells_bounded job (layout_on raw job e l) (stock_on raw job e s)) ∙ sym (ap (λ (r : RawJob). r.twice) e) ∙ t
 
     articles_on : list_test raw.job ≡ true → any_two same_article (job_of raw.job).lines ≡ b → any_two same_article job.lines ≡ b
-    unfolding raw_of
+    unfolding raw_value
     articles_on l t =
         ap (any_two same_article) (sym (whole_lines job (list_kept l)))
         ∙ sym (ap (λ (r : RawJob). any_two same_article (job_of r.job).lines) e) ∙ t
 
     weight_on : list_test raw.job ≡ true → ltb 256 (weight (job_of raw.job).lines) ≡ b → ltb 256 (weight job.lines) ≡ b
-    unfolding raw_of
+    unfolding raw_value
     weight_on l t =
         ap (λ (lines : List OrderLine). ltb 256 (weight lines)) (sym (whole_lines job (list_kept l)))
         ∙ sym (ap (λ (r : RawJob). ltb 256 (weight (job_of r.job).lines)) e) ∙ t
 
     short_on : stock_test raw.job ≡ true → hours_test raw.job ≡ true → list_test raw.job ≡ true → short_of_stock (job_of raw.job) ≡ b → short_of_stock job ≡ b
-    unfolding raw_of
+    unfolding raw_value
     short_on s w l t =
         ap short_of_stock (sym (whole_job job (stock_kept s) (hours_on raw job e w) (list_kept l)))
         ∙ sym (ap (λ (r : RawJob). short_of_stock (job_of r.job)) e) ∙ t
@@ -173,14 +175,14 @@ module _ (raw : RawJob) (job : Job) (e : raw ≡ raw_of (some job)) where
   -- the records looked at are those of the job
   pub looked_on_lem : (n : ℕ) → stock_test raw.job ≡ true → hours_test raw.job ≡ true → list_test raw.job ≡ true
       → n ≡ looked (job_of raw.job) → looked job ≡ n
-  unfolding raw_of
+  unfolding raw_value
   looked_on_lem n s w l t =
       ap looked (sym (whole_job job (stock_kept s) (hours_on raw job e w) (list_kept l)))
       ∙ sym (ap (λ (r : RawJob). looked (job_of r.job)) e) ∙ sym t
 
 -- the refusal of the job that was read is that of the rows
 abbrev pub Rows : RawJob → (Job → List (Bool × Refusal)) → Type 0
-Rows raw rows = (job : Job) → raw ≡ raw_of (some job) → job_refusal job ≡ first_row (rows job)
+Rows raw rows = (job : Job) → raw ≡ raw_value job → job_refusal job ≡ first_row (rows job)
 
 -- it is that of the rows behind the first k
 abbrev pub Past : ℕ → RawJob → Type 0
@@ -219,10 +221,9 @@ module _ (raw : RawJob) (b : Bool) where
   unfolding job_rows
   row_weight h l t job e = h job e ∙ rw (weight_on raw job e l t)
 
-  pub row_short : Past 7 raw → stock_test raw.job ≡ true → hours_test raw.job ≡ true → list_test raw.job ≡ true
-      → short_of_stock (job_of raw.job) ≡ b → Rows raw (λ (job : Job). (b, ShortOfStock) ∷ [])
-  unfolding job_rows
-  row_short h s w l t job e = h job e ∙ rw (short_on raw job e s w l t)
+-- the stock test is left, and has that outcome
+pub row_short : (raw : RawJob) (b : Bool) → Tested raw → short_of_stock (job_of raw.job) ≡ b → Rows raw (λ (job : Job). (b, ShortOfStock) ∷ [])
+row_short raw b t q job e = t.last job e ∙ ap (λ (c : Bool). first_row ((c, ShortOfStock) ∷ [])) (short_on raw job e t.stock t.hours t.list q)
 
 -- the decision on a job goes by its refusal
 decision_by : (job : Job) (r : Option Refusal) → job_refusal job ≡ r
@@ -231,16 +232,15 @@ decision_by : (job : Job) (r : Option Refusal) → job_refusal job ≡ r
 unfolding looked_on
 decision_by job r e = ap (λ (q : Option Refusal). record { verdict = verdict_of q; looked = handed_on (cond (stock_tested q) (some (looked job)) none) }) e
 
--- the row of a refusal before 8 applies
-pub stopped : (raw : RawJob) (x : Refusal) → stock_tested (some x) ≡ false → ((job : Job) → raw ≡ raw_of (some job) → job_refusal job ≡ some x)
-    → (d : Decision) → d ≡ stopped_by x → Decides raw d
+-- the row of a refusal before 8 applies: no record is looked at
+pub stopped : (raw : RawJob) (x : Refusal) → Tells raw (Err x) → Decides raw (record { verdict = Err x; looked = 0 })
 unfolding Decides
-stopped raw x early h d s job e =
-    s ∙ sym (decision_by job (some x) (h job e) ∙ ap (λ (b : Bool). record { verdict = Verdict.Refused x; looked = handed_on (cond b (some (looked job)) none) }) early)
+stopped raw x t job e =
+    sym (decision_by job (some x) (t.1 job e) ∙ ap (λ (b : Bool). record { verdict = Err x; looked = handed_on (cond b (some (looked job)) none) }) t.0)
 
 -- none of them does: the stock test decides, and its number is handed on
-pub tested : (raw : RawJob) (r : Option Refusal) (n : ℕ) → stock_tested r ≡ true → ((job : Job) → raw ≡ raw_of (some job) → job_refusal job ≡ r)
-    → ((job : Job) → raw ≡ raw_of (some job) → looked job ≡ n) → Decides raw (record { verdict = verdict_of r; looked = n })
+pub tested : (raw : RawJob) (r : Option Refusal) (n : ℕ) → stock_tested r ≡ true → ((job : Job) → raw ≡ raw_value job → job_refusal job ≡ r)
+    → ((job : Job) → raw ≡ raw_value job → looked job ≡ n) → Decides raw (record { verdict = verdict_of r; looked = n })
 unfolding Decides
 tested raw r n late h number job e =
     sym
@@ -273,16 +273,16 @@ checked s = go (read_job s)
     go (some job) = verdict job (job_refusal job) refl
 
 -- a refused job is not admitted
-not_admitted : {C : Type 0} {x : Refusal} → Verdict.Refused x ≡ Verdict.Admitted → C
-not_admitted e = let z : ◌≡◌ {A = ℕ} 0 1 = cc in absurd (omega arith)
+not_admitted : {C : Type 0} {x : Refusal} → ◌≡◌ {A = Verdict} (Err x) (Ok tt) → C
+not_admitted e = cc
 
 -- an admitted job is sound
-sound : (o : Option Job) → (answer_to o).verdict ≡ Verdict.Admitted → Sound (answer_to o).job
+sound : (o : Option Job) → (answer_to o).verdict ≡ Ok tt → Sound (answer_to o).job
 unfolding answer_to
 sound none q = not_admitted q
 sound (some job) q = go (job_refusal job) refl q
   where
-    go : (o : Option Refusal) → job_refusal job ≡ o → verdict_of o ≡ Verdict.Admitted → Sound (job_value job)
+    go : (o : Option Refusal) → job_refusal job ≡ o → verdict_of o ≡ Ok tt → Sound (job_value job)
     go none e q = (admitted_whole job e).1
     go (some x) e q = not_admitted q
 
@@ -297,28 +297,24 @@ number_handed_on s = go (read_job s)
 
 -- the answer to the bytes, and what follows of it
 pub answered : (s : List ℕ) (r : ReadJob) → r ≡ answer_to (read_job s)
-    → (checked_of r ≡ check_bytes s) × ((r.verdict ≡ Verdict.Admitted → Sound r.job) × ((r ≡ answer_to (read_job s)) × (r.looked ≡ handed_on (looked_in s))))
+    → (checked_of r ≡ check_bytes s) × ((r.verdict ≡ Ok tt → Sound r.job) × ((r ≡ answer_to (read_job s)) × (r.looked ≡ handed_on (looked_in s))))
 answered s r e = (
   ap checked_of e ∙ checked s,
   (λ q. rw e (sound (read_job s) (ap (λ (a : ReadJob). a.verdict) (sym e) ∙ q)), (e, ap (λ (a : ReadJob). a.looked) e ∙ number_handed_on s)),
 )
 
-module _ (raw : RawJob) where
-  -- no job was read
-  pub no_job_read : (o : Option Job) → raw ≡ raw_of o → raw.ok ≡ false
-      → ◌≡◌ {A = ReadJob} record { verdict = Verdict.Refused NotAJobFile; job = raw.job; looked = 0 } (answer_to o)
-  unfolding raw_of answer_to
-  no_job_read none e n = ap (λ (r : RawJob). record { verdict = Verdict.Refused NotAJobFile; job = r.job; looked = 0 }) e
-  no_job_read (some job) e n = absurd (true≢false (ap (λ (r : RawJob). r.ok) (sym e) ∙ n))
+-- no job was read
+pub job_missing : (o : Option Job) → None ≡ raw_of o → o ≡ none
+job_missing none e = refl
+job_missing (some job) e = cc
 
-  -- a job was read
-  pub job_there : (o : Option Job) → raw ≡ raw_of o → raw.ok ≡ true → (job : Job) × (o ≡ some job) × (raw ≡ raw_of (some job))
-  unfolding raw_of
-  job_there none e y = absurd (true≢false (sym y ∙ ap (λ (r : RawJob). r.ok) e))
-  job_there (some job) e y = (job, refl, e)
+-- a job was read
+pub job_there : (o : Option Job) (raw : RawJob) → Some raw ≡ raw_of o → (job : Job) × (o ≡ some job) × (raw ≡ raw_value job)
+job_there none raw e = cc
+job_there (some job) raw e = (job, refl, cc)
 
-  -- the verdict on it
-  pub job_decided : (job : Job) → raw ≡ raw_of (some job) → (d : Decision) → Decides raw d
-      → ◌≡◌ {A = ReadJob} record { verdict = d.verdict; job = raw.job; looked = d.looked } (answer_to (some job))
-  unfolding raw_of answer_to Decides
-  job_decided job e d by = ap₂ (λ (r : RawJob) (x : Decision). record { verdict = x.verdict; job = r.job; looked = x.looked }) e (by job e)
+-- the verdict on a job that was read
+pub job_decided : (raw : RawJob) (job : Job) → raw ≡ raw_value job → (d : Decision) → Decides raw d
+    → ◌≡◌ {A = ReadJob} record { verdict = d.verdict; job = raw.job; looked = d.looked } (answer_to (some job))
+unfolding raw_value answer_to Decides
+job_decided raw job e d by = ap₂ (λ (r : RawJob) (x : Decision). record { verdict = x.verdict; job = r.job; looked = x.looked }) e (by job e)

@@ -1,5 +1,5 @@
 // The stock test: refusal 8, and how many records it looks at (#105, "Enough is enough").
-ghost use Rattle.std.specs.Prelude.{◌≡◌, ◌≤◌};
+ghost use Rattle.std.specs.Prelude.{◌≡◌, ◌≤◌, IfSome};
 ghost use Rattle.rules.specs.Refusals.{short_of_stock};
 ghost use Rattle.rules.specs.Looked.{looked};
 ghost use Rattle.values.specs.Values.{job_of};
@@ -17,10 +17,11 @@ pub struct StockTest {
 
 // The stock test. The adding up for a line stops as soon as the sum reaches the line's quantity, and the whole test as soon as one
 // line is found short. Records of shut aisles hold nothing (#106), and are looked at as the others.
+// Both loops count by hand: the inner one runs by the sum, and the first short line leaves both by a label, as document 01 names it.
 pub fn stock_test(job: JobValue) -> StockTest
     requires stock_ready { StockReady job }
     requires list_ready { ListReady job }
-    requires count_bound { job.hours.count ≤ 64 }
+    requires count_bound { IfSome job.hours (λ clock. clock.count ≤ 64) }
     ensures short_value { result.short ≡ short_of_stock (job_of job) }
     ensures looked_value { result.looked ≡ looked (job_of job) }
 {

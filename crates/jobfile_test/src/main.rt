@@ -11,83 +11,39 @@
 // the third line of the L section, its word spelt otherwise or missing, other counts, and the posts' numbers before it.
 #![tactic(auto)]
 
-ghost use Rattle.std.specs.Prelude.{◌≡◌, ◌≤◌, length};
-ghost use Rattle.rules.specs.Refusals.{number_of};
-
-use jobfile::Verdict;
-use rules::Refusal;
 use std::io::{Result, Write};
 
-// The number of a refusal.
-fn number_of(refusal: Refusal) -> u64
-    ensures { result ≡ number_of refusal }
-{
-    match refusal {
-        Refusal::WorkArea => 10,
-        Refusal::NotAJobFile => 1,
-        Refusal::LayoutBounds => 2,
-        Refusal::StockBounds => 3,
-        Refusal::CellTwice => 4,
-        Refusal::HoursBounds => 12,
-        Refusal::ListBounds => 5,
-        Refusal::ArticleTwice => 6,
-        Refusal::TooHeavy => 7,
-        Refusal::ShortOfStock => 8,
-        Refusal::SheetSpace => 9,
-        Refusal::PageSpace => 11,
-    }
-}
+// What stands behind each job.
+const BEHIND: u8 = 30;
 
 // Prints the number of the verdict on some bytes.
 fn print_verdict(rt: &HostRuntime, bytes: &[u8]) -> Result<()> {
-    let answer = jobfile::read_job(bytes);
-    let verdict = answer.verdict;
-    match verdict {
-        Verdict::Admitted => print!(rt; "0"),
-        Verdict::Refused(refusal) => {
-            let number = number_of(refusal);
-            print!(rt; "{number}")
-        }
-    }
+    let number = match jobfile::read_job(bytes).verdict {
+        Ok(()) => 0,
+        Err(cause) => u32::from(cause),
+    };
+    print!(rt; "{number}")
 }
 
 // Prints the verdicts on a job cut off behind each of its bytes, none to all.
 fn print_truncations(rt: &HostRuntime, bytes: &[u8]) -> Result<()> {
-    let mut k = 0;
-    while k <= bytes.len() {
-        print_verdict(rt, &bytes[..k])?;
-        k += 1;
+    for end in 0..=bytes.len() {
+        print_verdict(rt, &bytes[..end])?;
     }
     Ok(())
 }
 
-// The place of the first such byte from a place on, or the end where there is none.
-fn find(bytes: &[u8], from: usize, byte: u8) -> usize
-    requires { from ≤ length bytes.now }
-    ensures { (from ≤ result) × (result ≤ length bytes.now) }
-{
-    let mut at = from;
-    while at < bytes.len() {
-        if bytes[at] == byte {
-            return at;
-        }
-        at += 1;
-    }
-    at
-}
-
-// Prints a line: the name of a job and the verdict on it, or on its parts.
+// Prints a line: the name of a job and the verdict on it, or on its parts. An entry with no line is passed by.
 fn show(rt: &HostRuntime, entry: &[u8]) -> Result<()> {
-    let line = find(entry, 0, 10);
-    if line < entry.len() {
+    if let Some(line) = entry.iter().position(|byte| *byte == b'\n') {
         if 2 <= line {
-            let first = line + 1;
+            let job = &entry[line + 1..];
             std::io::writer(rt).write_all(&entry[2..line])?;
             print!(rt; ": ")?;
-            if entry[0] == 84 {
-                print_truncations(rt, &entry[first..])?;
+            if entry[0] == b'T' {
+                print_truncations(rt, job)?;
             } else {
-                print_verdict(rt, &entry[first..])?;
+                print_verdict(rt, job)?;
             }
             println!(rt; "")?;
         }
@@ -97,11 +53,8 @@ fn show(rt: &HostRuntime, entry: &[u8]) -> Result<()> {
 
 // Shows the jobs one by one.
 fn show_all(rt: &HostRuntime, jobs: &[u8]) -> Result<()> {
-    let mut at = 0;
-    while at < jobs.len() {
-        let end = find(jobs, at, 30);
-        show(rt, &jobs[at..end])?;
-        at = end + 1;
+    for entry in jobs.split(|byte| *byte == BEHIND) {
+        show(rt, entry)?;
     }
     Ok(())
 }

@@ -1,4 +1,3 @@
 -- Laws of texts and their writers.
 pub mod Writing
-pub mod LineTexts
 pub mod Sizes

@@ -1,19 +1,21 @@
--- The numbers of states and policies, and the steps by kind, are the machine's.
-use Prim.Native.Nat.{◌≤◌, ◌<◌}
+-- The numbers of states, and the steps by kind, are the machine's.
+use Prim.Native.Nat.{◌≤◌}
 use native.Mathlib.Omega.{arith}
 use mathlib.Core.Path.{◌≡◌, refl}
 use mathlib.Core.Bool.{Bool, cond, ◌&&◌, ◌||◌}
 use Rattle.rules.specs.declared.Side.TheVariants.{FrontSide}
+use Rattle.rules.specs.declared.End.{End}
 use Rattle.rules.specs.declared.Policy.{Policy}
 use Rattle.rules.specs.declared.Policy.TheVariants.{Exact, Return, Traversal, Midpoint, Composite, Largest}
 use Rattle.rules.specs.declared.Action.{Action}
 use Rattle.rules.specs.declared.Action.TheVariants.{Void, Bottom, Top, Gap, Once, Twice}
-use Rattle.rules.specs.Policies.{action_named, End, leftmost, rightmost}
+use Rattle.rules.specs.Plans.{kind_of}
+use Rattle.rules.specs.Policies.{action_named}
 use Rattle.rules.specs.Machine.{State, nothing, closed, at_front, at_back, odd, joined, split, ending, dead, policy_step, is_void}
 use Rattle.machine.specs.States.{state_code, state_of}
-use Rattle.machine.specs.Steps.{policy_of, policy_code, kind_code, sample_action, step_of, step_by}
+use Rattle.machine.specs.Steps.{sample_action, step_of}
 
--- the numbers of states and policies stand for them
+-- the numbers of states stand for them
 pub state_of_code : (s : State) → state_of (state_code s) ≡ s
 state_of_code nothing = refl
 state_of_code closed = refl
@@ -25,39 +27,9 @@ state_of_code split = refl
 state_of_code ending = refl
 state_of_code dead = refl
 
-pub policy_of_code : (policy : Policy) (end : End) → policy_of (policy_code policy end) ≡ policy
-policy_of_code Exact end = refl
-policy_of_code Return end = refl
-policy_of_code Traversal leftmost = refl
-policy_of_code Traversal rightmost = refl
-policy_of_code Midpoint end = refl
-policy_of_code Composite end = refl
-policy_of_code Largest end = refl
-
-pub policy_code_below : (policy : Policy) (end : End) → policy_code policy end < 7
-policy_code_below Exact end = omega arith
-policy_code_below Return end = omega arith
-policy_code_below Traversal leftmost = omega arith
-policy_code_below Traversal rightmost = omega arith
-policy_code_below Midpoint end = omega arith
-policy_code_below Composite end = omega arith
-policy_code_below Largest end = omega arith
-
--- so a step by the number is the policy's: only TRAVERSAL looks at the end
-pub step_of_code : (policy : Policy) (end : End) (a : Action) (may between : Bool) (s : State)
-    → step_by (policy_code policy end) a may between s ≡ step_of policy end a may between s
-unfolding step_of
-step_of_code Exact end a may between s = refl
-step_of_code Return end a may between s = refl
-step_of_code Traversal leftmost a may between s = refl
-step_of_code Traversal rightmost a may between s = refl
-step_of_code Midpoint end a may between s = refl
-step_of_code Composite end a may between s = refl
-step_of_code Largest end a may between s = refl
-
 -- the machine looks at the kind of an action and at the answers of the two tests
 pub by_kind : (policy : Policy) (end : End) (between : Action → Bool) (a : Action) (may : Bool) (s : State)
-    → step_of policy end (sample_action (kind_code a)) may (between a) s
+    → step_of policy end (sample_action (kind_of a)) may (between a) s
     ≡ cond (action_named FrontSide policy a && (is_void a || may)) (policy_step policy end between a s) dead
 unfolding step_of
 by_kind policy end between Void may s = refl

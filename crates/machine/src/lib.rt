@@ -1,28 +1,23 @@
 // The state machine as data: what an action and a passage do to the state under a policy.
 //
-// States: 0 nothing, 1 closed, 2 at_front, 3 at_back, 4 odd, 5 joined, 6 split, 7 ending, 8 dead.
-// Policies: 0 EXACT, 1 RETURN, 2 TRAVERSAL that walks back at the right end, 3 MIDPOINT, 4 COMPOSITE, 5 LARGEST,
-// 6 TRAVERSAL that walks back at the left end.
-// Automata: 0 lawful (EXACT, RETURN, COMPOSITE), 1 TRAVERSAL that walks back at the right end, 2 MIDPOINT and LARGEST,
-// 3 TRAVERSAL that walks back at the left end.
-// Kinds of actions: 0 VOID, 1 BOTTOM, 2 TOP, 3 GAP, 4 ONCE, 5 TWICE.
-// Passages: 0 00, 1 02, 2 11, 3 20, 4 22.
-// Sides, of the aisle before a passage: 0 left of the depot, 1 at it, 2 right of it.
+// States: 0 nothing, 1 closed, 2 at_front, 3 at_back, 4 odd, 5 joined, 6 split, 7 ending, 8 dead. They are numbers and no enum: a state is
+// read out of a digit of the tables here, looped over, and added to a place in rows of eight, `demand * 8 + state`. An enum would be
+// turned into its number at each place, and, since Rust has no way back from a number, by a match at each digit and at each loop.
 //
 // The tables are those of a depot at the front. With the depot at the back they are asked by the kind and by the passage as they are seen
 // from there (`seen_kind`, `seen_passage`).
 #![tactic(auto)]
 
-ghost use Rattle.std.specs.Prelude.{◌≡◌, false, ◌&&◌, ◌||◌, ◌+◌, ◌*◌, ◌≤◌, ◌<◌, eqb};
+ghost use Rattle.std.specs.Prelude.{◌≡◌, false, ◌&&◌, ◌||◌, ◌+◌, ◌*◌, ◌≤◌, ◌<◌};
 ghost use Rattle.rules.specs.declared.Side.TheVariants.{FrontSide};
 ghost use Rattle.rules.specs.Turned.{passage_from};
 ghost use Rattle.rules.specs.Policies.{action_named, passage_named};
 ghost use Rattle.rules.specs.Machine.{may_enter, is_void};
 ghost use Rattle.machine.specs.States.{state_code, state_of};
-ghost use Rattle.machine.specs.Steps.{policy_of, walk_back_end_of, sample_action, kind_from, passage_of, bit, step_by, cross_of};
-ghost use Rattle.machine.specs.Tables.{asks_gap, automaton_of, automaton_by, policy_mark, action_mark, passage_mark, decided};
+ghost use Rattle.machine.specs.Steps.{place_number, sample_action, kind_from, step_of, cross_of};
+ghost use Rattle.machine.specs.Tables.{asks_between, asks_gap, automaton_by, automaton_of, row_of, policy_mark, action_mark, passage_mark, decided};
 
-use rules::Side;
+use rules::{End, Kind, Passage, Policy, Side};
 
 // The states that `decide` and the steps name.
 const ODD: usize = 4;
@@ -59,7 +54,7 @@ const ACTIONS: [u8; 240] = *b"\
     484454488 484858888 484878888 484878848 \
     585545588 888888888 888888888 888888888 ";
 
-// A row for each passage, with a part for each side: the next state of each state.
+// A row for each passage, with a part for each place of the aisle before it: the next state of each state.
 const PASSAGES: [u8; 150] = *b"\
     018888888 811881818 011181818 \
     282882878 282882878 282882878 \
@@ -67,28 +62,139 @@ const PASSAGES: [u8; 150] = *b"\
     388383888 888883888 388383888 \
     686685688 686685688 686685688 ";
 
-// What stands in a column of a policy's row.
-fn policy_mark(policy: usize, column: usize) -> u8
-    requires { (policy < 7) × (column < 18) }
-    ensures { result ≡ policy_mark (policy_of policy) (walk_back_end_of policy) column }
-{
-    POLICIES[policy * 18 + column]
+// Where the aisle before a passage lies: left of the depot, at it or right of it.
+#[derive(Clone, Copy, PartialEq, Eq)]
+pub enum Place {
+    Left,
+    At,
+    Right,
+}
+
+// The automata, in the order of the parts of a row of ACTIONS, whose digits stand in POLICIES: the lawful one (EXACT, RETURN and
+// COMPOSITE), TRAVERSAL's that walks back at the right end, that of MIDPOINT and LARGEST, TRAVERSAL's that walks back at the left end.
+#[derive(Clone, Copy, PartialEq, Eq)]
+enum Automaton {
+    Lawful,
+    TraversalRight,
+    Midpoint,
+    TraversalLeft,
+}
+
+// A policy, and the end at which TRAVERSAL walks an aisle back.
+#[derive(Clone, Copy, PartialEq, Eq)]
+pub struct Method {
+    pub policy: Policy,
+    pub end: End,
+}
+
+impl Method {
+    // The row of a method in POLICIES.
+    fn row(self) -> usize
+        ensures { (result ≡ row_of self.policy self.end) × (result < 7) }
+    {
+        match (self.policy, self.end) {
+            (Policy::Exact, _) => 0,
+            (Policy::Return, _) => 1,
+            (Policy::Traversal, End::Rightmost) => 2,
+            (Policy::Midpoint, _) => 3,
+            (Policy::Composite, _) => 4,
+            (Policy::Largest, _) => 5,
+            (Policy::Traversal, End::Leftmost) => 6,
+        }
+    }
+
+    // What stands in a column of that row.
+    fn mark(self, column: usize) -> u8
+        requires { column < 18 }
+        ensures { result ≡ policy_mark self.policy self.end column }
+    {
+        POLICIES[self.row() * 18 + column]
+    }
+
+    // The automaton of a method.
+    fn automaton(self) -> Automaton
+        ensures { result ≡ automaton_of self.policy self.end }
+    {
+        match self.mark(AUTOMATON) {
+            b'0' => Automaton::Lawful,
+            b'1' => Automaton::TraversalRight,
+            b'2' => Automaton::Midpoint,
+            _ => Automaton::TraversalLeft,
+        }
+    }
+
+    // The policy has the action, and the action enters no aisle that may not be entered.
+    fn possible(self, kind: Kind, may: bool) -> bool
+        ensures { result ≡ (action_named FrontSide self.policy (sample_action kind) && (is_void (sample_action kind) || may)) }
+    {
+        self.mark(kind as usize) != b'-' && (kind == Kind::Void || may)
+    }
+
+    // The policy has the passage.
+    fn passable(self, passage: Passage) -> bool
+        ensures { result ≡ passage_named FrontSide self.policy passage }
+    {
+        self.mark(FIRST_PASSAGE + passage as usize) != b'-'
+    }
+
+    // Whether the policy lets any open aisle be entered, also one that holds no listed article.
+    pub fn enters_any(self) -> bool
+        ensures { result ≡ may_enter self.policy false }
+    {
+        self.mark(ANYWHERE) == b'+'
+    }
+
+    // Whether the policy asks the test for aisles between.
+    pub fn asks_between(self) -> bool
+        ensures { result ≡ asks_between self.policy }
+    {
+        self.automaton() == Automaton::Midpoint
+    }
+
+    // Whether the policy's test for aisles between is the largest gap.
+    pub fn asks_gap(self) -> bool
+        ensures { result ≡ asks_gap self.policy }
+    {
+        self.mark(TEST) == b'g'
+    }
+
+    // The state after an action; whether the aisle may be entered, and whether the action passes the test for aisles between.
+    pub fn action_step(self, kind: Kind, may: bool, between: bool, state: usize) -> usize
+        requires { state < 9 }
+        ensures { result ≡ state_code (step_of self.policy self.end (sample_action kind) may between (state_of state)) }
+    {
+        if !self.possible(kind, may) {
+            return DEAD;
+        }
+        next_state(self.automaton(), kind, between, state)
+    }
+
+    // The state after a passage.
+    pub fn passage_step(self, passage: Passage, place: Place, state: usize) -> usize
+        requires { state < 9 }
+        ensures { result ≡ state_code (cross_of self.policy passage place (state_of state)) }
+    {
+        if !self.passable(passage) {
+            return DEAD;
+        }
+        number(passage_digit(passage, place, state))
+    }
 }
 
 // The digit of a state in an automaton's part of a kind's row.
-fn action_digit(kind: usize, automaton: usize, state: usize) -> u8
-    requires { (kind < 6) × (automaton < 4) × (state < 9) }
+fn action_digit(kind: Kind, automaton: Automaton, state: usize) -> u8
+    requires { state < 9 }
     ensures { result ≡ 48 + action_mark kind automaton state }
 {
-    ACTIONS[kind * 40 + automaton * 10 + state]
+    ACTIONS[kind as usize * 40 + automaton as usize * 10 + state]
 }
 
-// The digit of a state in a side's part of a passage's row.
-fn passage_digit(passage: usize, side: usize, state: usize) -> u8
-    requires { (passage < 5) × (side < 3) × (state < 9) }
-    ensures { result ≡ 48 + passage_mark passage side state }
+// The digit of a state in a place's part of a passage's row.
+fn passage_digit(passage: Passage, place: Place, state: usize) -> u8
+    requires { state < 9 }
+    ensures { result ≡ 48 + passage_mark passage (place_number place) state }
 {
-    PASSAGES[passage * 30 + side * 10 + state]
+    PASSAGES[passage as usize * 30 + place as usize * 10 + state]
 }
 
 // The number of a digit.
@@ -96,119 +202,48 @@ fn number(digit: u8) -> usize
     requires { 48 ≤ digit }
     ensures { result + 48 ≡ digit }
 {
-    (digit - b'0') as usize
-}
-
-// The policy has the action, and the action enters no aisle that may not be entered.
-fn possible(policy: usize, kind: usize, may: usize) -> bool
-    requires { (policy < 7) × (kind < 6) × (may < 2) }
-    ensures { result ≡ (action_named FrontSide (policy_of policy) (sample_action kind) && (is_void (sample_action kind) || bit may)) }
-{
-    let named = policy_mark(policy, kind) != b'-';
-    named & ((kind == 0) | (may == 1))
-}
-
-// Whether the policy lets any open aisle be entered, also one that holds no listed article.
-pub fn enters_any(policy: usize) -> bool
-    requires { policy < 7 }
-    ensures { result ≡ may_enter (policy_of policy) false }
-{
-    policy_mark(policy, ANYWHERE) == b'+'
-}
-
-// The policy has the passage.
-fn passable(policy: usize, passage: usize) -> bool
-    requires { (policy < 7) × (passage < 5) }
-    ensures { result ≡ passage_named FrontSide (policy_of policy) (passage_of passage) }
-{
-    policy_mark(policy, FIRST_PASSAGE + passage) != b'-'
-}
-
-// Whether the policy's automaton asks the test for aisles between.
-pub fn asks_between(policy: usize) -> bool
-    requires { policy < 7 }
-    ensures { result ≡ eqb (automaton_of (policy_of policy) (walk_back_end_of policy)) 2 }
-{
-    policy_mark(policy, AUTOMATON) == b'2'
-}
-
-// Whether the policy's test for aisles between is the largest gap.
-pub fn asks_gap(policy: usize) -> bool
-    requires { policy < 7 }
-    ensures { result ≡ asks_gap (policy_of policy) }
-{
-    policy_mark(policy, TEST) == b'g'
+    usize::from(digit - b'0')
 }
 
 // The state that a mark of ACTIONS stands for: 9 is odd or dead.
-fn decide(mark: usize, between: usize) -> usize
-    requires { between < 2 }
-    ensures { result ≡ decided mark (bit between) }
+fn decide(mark: usize, between: bool) -> usize
+    ensures { result ≡ decided mark between }
 {
     if mark < 9 {
-        return mark;
+        mark
+    } else if between {
+        ODD
+    } else {
+        DEAD
     }
-    if between == 1 { ODD } else { DEAD }
 }
 
 // The state after an action, by the rows of an automaton.
-fn next_state(automaton: usize, kind: usize, between: usize, state: usize) -> usize
-    requires { (automaton < 4) × (kind < 6) × (between < 2) × (state < 9) }
-    ensures { result ≡ state_code (automaton_by automaton (bit between) (sample_action kind) (state_of state)) }
+fn next_state(automaton: Automaton, kind: Kind, between: bool, state: usize) -> usize
+    requires { state < 9 }
+    ensures { result ≡ state_code (automaton_by automaton between (sample_action kind) (state_of state)) }
 {
-    let mark = number(action_digit(kind, automaton, state));
-    decide(mark, between)
-}
-
-// The state after an action; whether the aisle may be entered, and whether the action passes the test for aisles between.
-pub fn action_step(policy: usize, kind: usize, may: usize, between: usize, state: usize) -> usize
-    requires { (policy < 7) × (kind < 6) × (may < 2) × (between < 2) × (state < 9) }
-    ensures { result ≡ state_code (step_by policy (sample_action kind) (bit may) (bit between) (state_of state)) }
-{
-    if possible(policy, kind, may) {
-        let automaton = number(policy_mark(policy, AUTOMATON));
-        return next_state(automaton, kind, between, state);
-    }
-    DEAD
-}
-
-// The state after a passage.
-pub fn passage_step(policy: usize, passage: usize, side: usize, state: usize) -> usize
-    requires { (policy < 7) × (passage < 5) × (side < 3) × (state < 9) }
-    ensures { result ≡ state_code (cross_of (policy_of policy) (passage_of passage) side (state_of state)) }
-{
-    if passable(policy, passage) {
-        return number(passage_digit(passage, side, state));
-    }
-    DEAD
+    decide(number(action_digit(kind, automaton, state)), between)
 }
 
 // The kind of an action as it is seen from a side: from the back TOP for BOTTOM and BOTTOM for TOP.
-pub fn seen_kind(side: Side, kind: usize) -> usize
-    requires { kind < 6 }
-    ensures { (result ≡ kind_from side kind) × (result < 6) }
+pub fn seen_kind(side: Side, kind: Kind) -> Kind
+    ensures { result ≡ kind_from side kind }
 {
-    match side {
-        Side::FrontSide => kind,
-        Side::BackSide => match kind {
-            1 => 2,
-            2 => 1,
-            _ => kind,
-        },
+    match (side, kind) {
+        (Side::BackSide, Kind::Bottom) => Kind::Top,
+        (Side::BackSide, Kind::Top) => Kind::Bottom,
+        _ => kind,
     }
 }
 
 // A passage as it is seen from a side: from the back 20 for 02 and 02 for 20.
-pub fn seen_passage(side: Side, passage: usize) -> usize
-    requires { passage < 5 }
-    ensures { (passage_of result ≡ passage_from side (passage_of passage)) × (result < 5) }
+pub fn seen_passage(side: Side, passage: Passage) -> Passage
+    ensures { result ≡ passage_from side passage }
 {
-    match side {
-        Side::FrontSide => passage,
-        Side::BackSide => match passage {
-            1 => 3,
-            3 => 1,
-            _ => passage,
-        },
+    match (side, passage) {
+        (Side::BackSide, Passage::P02) => Passage::P20,
+        (Side::BackSide, Passage::P20) => Passage::P02,
+        _ => passage,
     }
 }

@@ -11,6 +11,7 @@ use lib.Pow.{pow_pos, pow-lt, pow-add, shl_exact, shl-shr}
 use lib.ListN.{length, get_or, set, replicate, length-set, length-replicate}
 use lib.Seq.{get_or-set_same, get_or-set_other}
 use borrow.Author.Tests.{leb-true, le-leb, ltb-true, ltb-false, eq-eqb, ne_eqb, eqb-true, eqb-false}
+use Rattle.std.specs.Bool.{OnTrue}
 use Rattle.rules.specs.declared.StockRecord.{StockRecord}
 use Rattle.rules.specs.Lists.{all_of, any_of, any_two, select}
 use Rattle.rules.specs.Store.{within, layout_in_bounds}
@@ -126,6 +127,11 @@ in_marks r e =
       aisle = (leb-true 1 r.aisle a.0, leb-true r.aisle 16 a.1);
       cell = (leb-true 1 r.cell c.0, leb-true r.cell 24 c.1);
     }
+
+-- the bounds of a record with a bit, where the test says so
+pub on_bit : (r : StockRecord) (b : Bool) → b ≡ has_bit r → OnTrue b ((1 ≤ r.aisle) × (r.aisle ≤ 16) × (1 ≤ r.cell) × (r.cell ≤ 24))
+on_bit r true e = let i = in_marks r (sym e) in (i.aisle.0, i.aisle.1, i.cell.0, i.cell.1)
+on_bit r false e = tt
 
 module _ (seen : List ℕ) (size : length seen ≡ 16) (x : StockRecord) (inside : InMarks x) where
   -- after a record's bit was set, its cell is seen and those before are

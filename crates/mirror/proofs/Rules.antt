@@ -10,7 +10,9 @@ use Rattle.rules.specs.declared.Side.{Side}
 use Rattle.rules.specs.declared.Side.TheVariants.{FrontSide, BackSide}
 use Rattle.rules.specs.Turned.{turned_height, turned_action, turned_plan, seen_from, passage_from, plan_from}
 use Rattle.rules.specs.Plans.{Plan, Fits, WellFormed, action_at, passage_at, entered}
-use Rattle.rules.specs.Policies.{Entered, entered_aisles, First, Last, End, leftmost, rightmost, EnteredAt, WalkedBack, walk_back_end, IsBottom, IsTop, WalkedFrom, TraversalRule, MidpointRule}
+use Rattle.rules.specs.declared.End.{End}
+use Rattle.rules.specs.declared.End.TheVariants.{Leftmost, Rightmost}
+use Rattle.rules.specs.Policies.{Entered, entered_aisles, First, Last, EnteredAt, WalkedBack, walk_back_end, IsBottom, IsTop, WalkedFrom, TraversalRule, MidpointRule}
 use Rattle.rules.proofs.Lists.{sum_map, sum_agree}
 use Rattle.mirror.specs.Turned.{other_side}
 use Rattle.mirror.proofs.Plans.{action_twice, turned_action_at, turned_passage_at, turned_well_formed}
@@ -58,8 +60,8 @@ module _ {p q : Plan} (same : Alike p q) where
   last j (e, none) = (enters j e, λ i l g. none i l (enters_back i g))
 
   at_end_lem : (end : End) (j : ℕ) → EnteredAt end q j → EnteredAt end p j
-  at_end_lem leftmost j e = first j e
-  at_end_lem rightmost j e = last j e
+  at_end_lem Leftmost j e = first j e
+  at_end_lem Rightmost j e = last j e
 
 -- a rule carried from one plan to another that enters the same aisles
 pub carry_midpoint : {p q : Plan} {s t : Side} {B D : ℕ → Action → Type 0} → Alike p q

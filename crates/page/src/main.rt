@@ -6,12 +6,11 @@ mod text;
 use std::io::Write;
 
 // Reads one byte more than a job file may have, so that a longer job is refused, not cut: `page_output_start` of promises.
+// What a program reads and writes no contract tells, so `main` is these five lines and nothing else, in each of the programs.
 fn main(rt: HostRuntime) -> std::io::Result<()> {
     let mut job = [0u8; 16385];
     let mut reader = rt.reader();
     let n = input::read_full(&mut reader, &mut job)?;
     let text = text::text_of(&job[..n]);
-    let bytes = text.bytes;
-    let count = text.count;
-    std::io::writer(&rt).write_all(&bytes[..count])
+    std::io::writer(&rt).write_all(text.as_slice())
 }

@@ -1,3 +1,2 @@
 -- Laws of the page's lines and their writers.
 pub mod PageLines
-pub mod Filled

@@ -39,7 +39,8 @@ line_size x a c q t =
     omega (arith, line_length x)
 
 -- so so many lines have 25 times as many bytes
-pub page_size : (xs : List Pick) → ((x : Pick) → Memᴰ x xs → (x.aisle < 100) × (x.cell < 100) × (x.quantity < 1000) × (x.article < 100000)) → length (concat_of page_line xs) ≡ 25 * length xs
+pub page_size : (xs : List Pick) → ((x : Pick) → Memᴰ x xs → (x.aisle < 100) × (x.cell < 100) × (x.quantity < 1000) × (x.article < 100000))
+    → length (concat_of page_line xs) ≡ 25 * length xs
 page_size [] h = refl
 page_size (x ∷ xs) h =
     let fits = h x (Memᴰ.head refl) in

@@ -1,10 +1,20 @@
 // The line of a pick: numbers right-aligned in their columns.
-ghost use Rattle.std.specs.Prelude.{◌≤◌, length};
+ghost use Rattle.std.specs.Prelude.{◌≤◌, length, replicate};
+ghost use Rattle.rules.specs.JobFile.{space};
 ghost use Rattle.rules.specs.Page.{aligned, column, page_line};
 ghost use Rattle.lines.specs.Written.{Written};
 
 use lines::text::{number_size, write_number, write_word};
 use rules::Pick;
+
+// Writes spaces.
+fn write_spaces(page: &mut [u8], count: usize) -> usize
+    requires { count ≤ length page.old }
+    ensures { Written (replicate count space) page.old page.new result }
+{
+    page[..count].fill(b' ');
+    count
+}
 
 // Writes a number right-aligned in so many bytes, with spaces in front.
 fn write_aligned(page: &mut [u8], width: usize, n: usize) -> usize
@@ -12,11 +22,7 @@ fn write_aligned(page: &mut [u8], width: usize, n: usize) -> usize
     ensures { Written (aligned width n) page.old page.new result }
 {
     let size = number_size(n);
-    let mut at = 0;
-    while at + size < width {
-        page[at] = 32;
-        at += 1;
-    }
+    let at = write_spaces(page, width.saturating_sub(size));
     at + write_number(&mut page[at..], n)
 }
 
@@ -30,9 +36,9 @@ fn write_column(page: &mut [u8], width: usize, n: usize, behind: &[u8]) -> usize
 }
 
 // Writes the line of a pick: aisle, hyphen, cell, space, quantity, ten full stops, article, line feed.
-pub fn write_line(page: &mut [u8], pick: Pick) -> usize
-    requires { length (page_line pick) ≤ length page.old }
-    ensures { Written (page_line pick) page.old page.new result }
+pub fn write_line(page: &mut [u8], pick: &Pick) -> usize
+    requires { length (page_line pick.now) ≤ length page.old }
+    ensures { Written (page_line pick.now) page.old page.new result }
 {
     let mut at = write_column(page, 2, pick.aisle, b"-");
     at += write_column(&mut page[at..], 2, pick.cell, b" ");

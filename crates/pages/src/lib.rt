@@ -6,7 +6,6 @@ mod columns;
 ghost use Rattle.std.specs.Prelude.{◌≡◌, ◌*◌, ◌≤◌, length};
 ghost use Rattle.rules.specs.Lists.{concat_of};
 ghost use Rattle.rules.specs.Page.{page_line};
-ghost use Rattle.values.specs.Values.{picks_of_value};
 ghost use Rattle.lines.specs.Written.{Written};
 
 use crate::columns::write_line;
@@ -16,26 +15,20 @@ use values::PickList;
 const LINE: usize = 25;
 
 // The byte count of the page of these picks. (That each line has 25 bytes where its numbers fit is proved: proofs/PageLines)
-pub fn page_size(list: PickList) -> usize
-    requires { list.count ≤ 384 }
-    ensures { result ≡ 25 * length (picks_of_value list) }
+pub fn page_size(picks: &PickList) -> usize
+    ensures { result ≡ 25 * length picks.now.items }
 {
-    LINE * list.count
+    LINE * picks.len()
 }
 
-// Writes the lines of the picks, in their order.
-pub fn write_page(page: &mut [u8], list: PickList) -> usize
-    requires { (list.count ≤ 384) × (length (concat_of page_line (picks_of_value list)) ≤ length page.old) }
-    ensures { Written (concat_of page_line (picks_of_value list)) page.old page.new result }
+// Writes the lines of the picks, in their order. (A pick's line here is not its line in the P section, which is its `Line`.)
+pub fn write_page(page: &mut [u8], picks: &PickList) -> usize
+    requires { length (concat_of page_line picks.now.items) ≤ length page.old }
+    ensures { Written (concat_of page_line picks.now.items) page.old page.new result }
 {
-    let count = list.count;
-    let picks = list.picks;
     let mut at = 0;
-    let mut i = 0;
-    while i < count {
-        let pick = picks[i];
+    for pick in picks.as_slice() {
         at += write_line(&mut page[at..], pick);
-        i += 1;
     }
     at
 }

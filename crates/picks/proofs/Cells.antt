@@ -4,24 +4,25 @@ use native.Mathlib.Omega.{arith}
 use native.Mathlib.Nat.{sub-zero}
 use mathlib.Core.Path.{◌≡◌, refl, sym, ap, ◌∙◌}
 use mathlib.Core.List.{List, [], ◌∷◌, ◌++◌, map}
-use mathlib.Core.Bool.{Bool, true, false, cond, ◌&&◌}
+use mathlib.Core.Bool.{Bool, true, false, cond}
 use mathlib.Core.Option.{Option, none, some}
-use lib.Dec.{eqb}
 use lib.ListN.{length, get_or, set, drop, length-append, length-map, get_or-append, get_or-map}
 use lib.Seq.{drop-cons, drop_at, drop-nil}
-use borrow.Author.Tests.{eqb-true, lt-ltb}
+use borrow.Author.Tests.{lt-ltb}
 use Rattle.rules.specs.declared.Layout.{Layout}
 use Rattle.rules.specs.declared.StockRecord.{StockRecord}
 use Rattle.rules.specs.declared.OrderLine.{OrderLine}
-use Rattle.rules.specs.Lists.{from, concat_of, first_of}
+use Rattle.rules.specs.Lists.{from, concat_of}
 use Rattle.rules.specs.Store.{Point}
 use Rattle.rules.specs.Jobs.{Job, open_stock}
 use Rattle.rules.specs.Picks.{cells_of, record_at, found, picks_from}
-use Rattle.rules.proofs.Numbers.{both_true}
+use Rattle.rules.proofs.Lists.{length_from}
+use Rattle.rules.proofs.Taken.{record_there}
+use Rattle.std.specs.Prelude.{Some}
 use Rattle.values.specs.Shelves.{line_of, quantity_of}
 use Rattle.values.specs.Values.{no_line}
 use Rattle.picks.specs.Picking.{taken_of, less_line, pick_of}
-use Rattle.picks.proofs.Lines.{Lacking, OnLine, less_zero, on_line, taken_by_number}
+use Rattle.picks.proofs.Lines.{Lacking, OnLine, not_none, less_zero, on_line, taken_by_number}
 
 -- the cell c of aisle j
 abbrev pub cell_at : ℕ → ℕ → Point
@@ -35,10 +36,6 @@ row_of z j = map (cell_at j) (from 1 z.cells)
 unfoldable pub cells_from : Layout → ℕ → ℕ → List Point
 cells_from z j c = drop c (concat_of (row_of z) (from (suc j) (z.aisles - j)))
 
-from_length : (a n : ℕ) → length (from a n) ≡ n
-from_length a zero = refl
-from_length a (suc n) = ap suc (from_length (suc a) n)
-
 from_at : (a n i k : ℕ) → i < n → a + i ≡ k → get_or (from a n) i 0 ≡ k
 from_at a zero i k l e = absurd (omega arith)
 from_at a (suc n) zero k l e = omega arith
@@ -46,7 +43,7 @@ from_at a (suc n) (suc i) k l e = from_at (suc a) n i k (omega arith) (omega ari
 
 module _ (z : Layout) where
   row_length : (j : ℕ) → length (row_of z j) ≡ z.cells
-  row_length j = length-map (from 1 z.cells) (cell_at j) ∙ from_length 1 z.cells
+  row_length j = length-map (from 1 z.cells) (cell_at j) ∙ length_from 1 z.cells
 
   -- at first they are all
   pub cells_first : cells_of z ≡ cells_from z 0 0
@@ -82,23 +79,6 @@ module _ (z : Layout) where
     unfolding cells_from
     cells_turn c e = rw rows (drop_at (row_of z (suc j)) _ c (row_length (suc j) ∙ sym e))
 
--- what is found passes the test
-first_true : (t : StockRecord → Bool) (xs : List StockRecord) (r : StockRecord) → first_of t xs ≡ some r → t r ≡ true
-first_true t [] r e = let z : ◌≡◌ {A = ℕ} 0 1 = cc in absurd (omega arith)
-first_true t (x ∷ xs) r e = go (t x) refl e (first_true t xs r)
-  where
-    go : (b : Bool) → t x ≡ b → cond b (some x) (first_of t xs) ≡ some r → (first_of t xs ≡ some r → t r ≡ true) → t r ≡ true
-    go true q e rest = let same : x ≡ r = cc in rw (← same) q
-    go false q e rest = rest e
-
--- the record of a cell stands in it
-record_there : (stock : List StockRecord) (j c : ℕ) (r : StockRecord) → record_at stock (cell_at j c) ≡ some r → (r.aisle ≡ j) × (r.cell ≡ c)
-unfolding record_at
-record_there stock j c r e =
-    let here : StockRecord → Bool = λ s. eqb s.aisle j && eqb s.cell c in
-    let (a, b) = both_true (eqb r.aisle j) (eqb r.cell c) (first_true here stock r e) in
-    (eqb-true r.aisle j a, eqb-true r.cell c b)
-
 -- how much is taken from a cell, passed or not, that has a record or none
 abbrev pub taken_at : Job → List OrderLine → Bool → Option StockRecord → ℕ
 taken_at job lacking passed o = cond passed (taken_of lacking (line_of job.lines o) (quantity_of o)) 0
@@ -106,8 +86,8 @@ taken_at job lacking passed o = cond passed (taken_of lacking (line_of job.lines
 -- what a cell gives to lines that lack so much
 module _ {job : Job} {lacking : List OrderLine} (s : Lacking job lacking) where
   -- the line of a cell is the one of an article
-  pub cell_line : (o : Option StockRecord) (k : ℕ) → line_of job.lines o ≡ suc k → (a : ℕ) × OnLine a lacking k
-  cell_line none k e = absurd (omega arith)
+  pub cell_line : (o : Option StockRecord) (k : ℕ) → line_of job.lines o ≡ Some k → (a : ℕ) × OnLine a lacking k
+  cell_line none k e = not_none e
   cell_line (some r) k e = (r.article, on_line s r.article k e)
 
   -- a cell from which nothing is taken
@@ -119,12 +99,12 @@ module _ {job : Job} {lacking : List OrderLine} (s : Lacking job lacking) where
 
   -- a cell from which some is taken for line k
   pub some_taken : (passed : Bool) (o : Option StockRecord) (j c k t : ℕ) (rest : List StockRecord) → record_at (open_stock job) (cell_at j c) ≡ o
-      → line_of job.lines o ≡ suc k → taken_at job lacking passed o ≡ t → 0 < t
+      → line_of job.lines o ≡ Some k → taken_at job lacking passed o ≡ t → 0 < t
       → picks_from lacking (found passed o ++ rest)
       ≡ pick_of j c (get_or lacking k no_line) t ∷ picks_from (set lacking k (less_line t (get_or lacking k no_line))) rest
-  some_taken passed none j c k t rest e n f l = absurd (omega arith)
+  some_taken passed none j c k t rest e n f l = not_none n
   some_taken false (some r) j c k t rest e n f l = absurd (omega arith)
   some_taken true (some r) j c k t rest e n f l =
       let line = on_line s r.article k n in
-      let there = record_there (open_stock job) j c r e in
-      rw (taken_by_number s r ∙ f, lt-ltb 0 t l, line.less t, line.article, there.0, there.1)
+      let there = record_there (open_stock job) (cell_at j c) r e in
+      rw (taken_by_number s r ∙ f, lt-ltb 0 t l, line.less t, line.article, there.1, there.2)

@@ -1,10 +1,10 @@
 -- Order lines with no article twice: the number of a line stands for its article.
-use Prim.Native.Nat.{ℕ, zero, suc, ◌+◌, ◌-◌, ◌≤◌, ◌<◌, min}
+use Prim.Native.Nat.{ℕ, suc, ◌+◌, ◌-◌, ◌<◌, min}
 use native.Mathlib.Omega.{arith}
 use native.Mathlib.Nat.{sub-zero}
 use mathlib.Core.Path.{◌≡◌, refl, sym, ap, ap₂, subst, ◌∙◌}
 use mathlib.Core.List.{List, [], ◌∷◌, Memᴰ}
-use mathlib.Core.Bool.{Bool, true, false, cond}
+use mathlib.Core.Bool.{Bool, true, false, cond, true≢false}
 use lib.Dec.{eqb}
 use lib.ListN.{length, get_or, set, length-map}
 use borrow.Author.Tests.{eqb-true, ne_eqb}
@@ -14,25 +14,21 @@ use Rattle.rules.specs.Lists.{Sorted}
 use Rattle.rules.specs.Jobs.{Job}
 use Rattle.rules.specs.Picks.{lack_of, less_of, taken}
 use Rattle.rules.proofs.Lists.{sorted_map}
+use Rattle.std.specs.Prelude.{Option, Some, None, is_some, unwrap_or}
 use Rattle.values.specs.Shelves.{line_from}
 use Rattle.values.specs.Values.{no_line}
 use Rattle.picks.specs.Picking.{taken_of, less_line}
 
--- what is taken for a line that there is
-pub taken_line : (lacking : List OrderLine) (n stock : ℕ) → (n ≡ 0 → ⊥) → taken_of lacking n stock ≡ min (get_or lacking (n - 1) no_line).quantity stock
-taken_line lacking zero stock h = absurd (h refl)
-taken_line lacking (suc k) stock h =
-    let e : suc k - 1 ≡ k = omega arith in
-    rw e
+-- a line is not none
+pub not_none : {A : Type 0} {k : ℕ} → None ≡ Some k → A
+not_none e = absurd (true≢false (sym (ap is_some e)))
 
--- where some is taken there is a line, and it lacks that much
-pub taken_some : (passed : Bool) (lacking : List OrderLine) (n stock t : ℕ) → t ≡ cond passed (taken_of lacking n stock) 0 → 0 < t
-    → (1 ≤ n) × (t ≤ (get_or lacking (n - 1) no_line).quantity)
-taken_some false lacking n stock t e l = absurd (omega arith)
-taken_some true lacking zero stock t e l = absurd (omega arith)
-taken_some true lacking (suc k) stock t e l =
-    let d : suc k - 1 ≡ k = omega arith in
-    (omega arith, rw d (omega arith))
+-- where some is taken there is a line
+pub line_there : (passed : Bool) (lacking : List OrderLine) (number : Option ℕ) (stock : ℕ) → 0 < cond passed (taken_of lacking number stock) 0
+    → number ≡ Some (unwrap_or number 0)
+line_there false lacking number stock l = absurd (omega arith)
+line_there true lacking None stock l = absurd (omega arith)
+line_there true lacking (Some k) stock l = refl
 
 -- no article on two lines
 abbrev pub Once : List OrderLine → Type 0
@@ -59,10 +55,10 @@ module _ (a : ℕ) where
   less_none n (l ∷ ls) h =
       rw (ne_eqb l.article a (h l (Memᴰ.head refl))) (ap (λ (ks : List OrderLine). l ∷ ks) (less_none n ls (λ k m. h k (Memᴰ.tail m))))
 
--- where an article stands, by the number + 1 of its line counted from i
-data Standing (a : ℕ) (lines : List OrderLine) (i : ℕ) : ℕ → Type 0 where
-  off : lack_of lines a ≡ 0 → Standing a lines i 0
-  on : (k m : ℕ) → i + k ≡ m → OnLine a lines k → Standing a lines i (suc m)
+-- where an article stands, by the number of its line counted from i
+data Standing (a : ℕ) (lines : List OrderLine) (i : ℕ) : Option ℕ → Type 0 where
+  off : lack_of lines a ≡ 0 → Standing a lines i None
+  on : (k m : ℕ) → i + k ≡ m → OnLine a lines k → Standing a lines i (Some m)
 
 standing : (a i : ℕ) (lines : List OrderLine) → Once lines → Standing a lines i (line_from i lines a)
 unfolding lack_of less_of
@@ -80,7 +76,7 @@ standing a i (l ∷ ls) o = go (eqb l.article a) refl (standing a (suc i) ls o.1
           less = λ n. rw (e, less_none a n ls others);
         }
 
-    later : {m : ℕ} → eqb l.article a ≡ false → Standing a ls (suc i) m → Standing a (l ∷ ls) i m
+    later : {m : Option ℕ} → eqb l.article a ≡ false → Standing a ls (suc i) m → Standing a (l ∷ ls) i m
     later e (off z) = off (rw e (omega arith))
     later e (on k m p s) =
         on (suc k) m (omega arith)
@@ -91,7 +87,7 @@ standing a i (l ∷ ls) o = go (eqb l.article a) refl (standing a (suc i) ls o.1
           less = λ n. rw (e, s.less n);
         })
 
-    go : (b : Bool) → eqb l.article a ≡ b → Standing a ls (suc i) (line_from (suc i) ls a) → Standing a (l ∷ ls) i (cond b (suc i) (line_from (suc i) ls a))
+    go : (b : Bool) → eqb l.article a ≡ b → Standing a ls (suc i) (line_from (suc i) ls a) → Standing a (l ∷ ls) i (cond b (Some i) (line_from (suc i) ls a))
     go true e s = on 0 i (omega arith) (first e)
     go false e s = later e s
 
@@ -109,7 +105,7 @@ less_zero a (l ∷ ls) = ap₂ ◌∷◌ (go (eqb l.article a)) (less_zero a ls)
 line_less : (a n b i : ℕ) (lines : List OrderLine) → line_from i (less_of a n lines) b ≡ line_from i lines b
 unfolding less_of
 line_less a n b i [] = refl
-line_less a n b i (l ∷ ls) = ap (cond (eqb l.article b) (suc i)) (line_less a n b (suc i) ls)
+line_less a n b i (l ∷ ls) = ap (cond (eqb l.article b) (Some i)) (line_less a n b (suc i) ls)
 
 -- what a job's lines still lack: the articles are those of its lines, none of them twice
 pub record Lacking (job : Job) (lacking : List OrderLine) : Type 0 where
@@ -128,18 +124,18 @@ module _ {job : Job} {lacking : List OrderLine} (s : Lacking job lacking) where
       }
 
   -- the line with an article's number is its line
-  pub on_line : (a k : ℕ) → line_from 0 job.lines a ≡ suc k → OnLine a lacking k
+  pub on_line : (a k : ℕ) → line_from 0 job.lines a ≡ Some k → OnLine a lacking k
   on_line a k e = go (standing a 0 lacking s.once) (s.numbers a ∙ e)
     where
-      go : {m : ℕ} → Standing a lacking 0 m → m ≡ suc k → OnLine a lacking k
-      go (off z) q = absurd (omega arith)
-      go (on i m p l) q = let same : i ≡ k = omega arith in subst (OnLine a lacking) same l
+      go : {m : Option ℕ} → Standing a lacking 0 m → m ≡ Some k → OnLine a lacking k
+      go (off z) q = not_none q
+      go (on i m p l) q = let same : i ≡ k = omega (arith, ap (λ o. unwrap_or o 0) q) in subst (OnLine a lacking) same l
 
   -- what is taken of a record goes by the number of its line
   pub taken_by_number : (r : StockRecord) → taken lacking r ≡ taken_of lacking (line_from 0 job.lines r.article) r.quantity
   unfolding taken
   taken_by_number r = rw (← s.numbers r.article) (go (standing r.article 0 lacking s.once))
     where
-      go : {m : ℕ} → Standing r.article lacking 0 m → min (lack_of lacking r.article) r.quantity ≡ taken_of lacking m r.quantity
+      go : {m : Option ℕ} → Standing r.article lacking 0 m → min (lack_of lacking r.article) r.quantity ≡ taken_of lacking m r.quantity
       go (off z) = omega arith
       go (on i m p l) = let same : i ≡ m = omega arith in rw (l.lack, same)

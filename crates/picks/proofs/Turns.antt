@@ -1,12 +1,12 @@
 -- The turns of the loop over the cells: what the shelf and the plan say of a cell, and the invariant behind it.
-use Prim.Native.Nat.{ℕ, zero, suc, ◌+◌, ◌*◌, ◌-◌, ◌≤◌, ◌<◌}
+use Prim.Native.Nat.{ℕ, zero, suc, ◌+◌, ◌*◌, ◌≤◌, ◌<◌}
 use native.Mathlib.Omega.{arith}
 use native.Mathlib.Numerals.{add-one}
 use mathlib.Core.Path.{◌≡◌, refl, sym, ap, ◌∙◌}
-use mathlib.Core.List.{List, [], ◌∷◌, map}
-use mathlib.Core.Bool.{cond}
+use mathlib.Core.List.{List, [], ◌∷◌, ◌++◌, map}
 use mathlib.Core.Option.{Option}
-use lib.ListN.{length, get_or, set, take, length-set}
+use Rattle.std.specs.Prelude.{Option as Line, Some, None, IfSome, unwrap_or}
+use lib.ListN.{length, get_or, take, length-append, length-take}
 use lib.Seq.{get_or-take}
 use Rattle.rules.specs.declared.OrderLine.{OrderLine}
 use Rattle.rules.specs.declared.StockRecord.{StockRecord}
@@ -23,9 +23,10 @@ use Rattle.values.specs.declared.Stage.{Stage}
 use Rattle.values.specs.declared.PlanValue.{PlanValue}
 use Rattle.values.specs.declared.Shelf.{Shelf}
 use Rattle.values.specs.Values.{no_line, plan_of}
-use Rattle.values.specs.Shelves.{line_of, quantity_of}
-use Rattle.picks.specs.Picking.{Asked, taken_of, less_line, pick_of}
-use Rattle.picks.proofs.Lines.{Lacking, taken_some}
+use Rattle.values.specs.Shelves.{line_of, quantity_of, cell_number}
+use Rattle.picks.specs.Picking.{Asked, PickedAt, taken_of, given_at, pick_of}
+use Rattle.shelves.proofs.Shelving.{few_below}
+use Rattle.picks.proofs.Lines.{Lacking, line_there}
 use Rattle.picks.proofs.Cells.{cell_at, cell_line, taken_at}
 use Rattle.picks.proofs.Visits.{counted, Visited, visited_first, visited_turn, visited_none, visited_some}
 
@@ -43,30 +44,24 @@ take_counted (suc n) [] = refl
 take_counted (suc n) (x ∷ xs) = ap (λ ys. x ∷ ys) (take_counted n xs)
 
 -- the lines that do not count change nothing
-taken_counted : (lacking : List OrderLine) (n number stock : ℕ) → number ≤ n → taken_of (take n lacking) number stock ≡ taken_of lacking number stock
-taken_counted lacking n zero stock l = refl
-taken_counted lacking n (suc k) stock l = rw (get_or-take n lacking k no_line l)
+taken_counted : (lacking : List OrderLine) (n : ℕ) (number : Line ℕ) (stock : ℕ) → IfSome number (λ k. k < n) → taken_of (take n lacking) number stock ≡ taken_of lacking number stock
+taken_counted lacking n None stock l = refl
+taken_counted lacking n (Some k) stock l = rw (get_or-take n lacking k no_line l)
 
 -- a stage that is not there
-abbrev no_stage : Stage
+abbrev pub no_stage : Stage
 no_stage = record { action = Void; passage = P00 }
 
--- the line and the stock of the cell behind j aisles and c cells, as the shelf has them, and what is taken from it
-abbrev pub line_here : Shelf → ℕ → ℕ → ℕ
-line_here shelf j c = get_or shelf.line (j * 24 + c) 0
+-- a place among the first n elements
+pub in_front : {A : Type 0} (xs : List A) (n : ℕ) {ys : List A} {j : ℕ} → ys ≡ take n xs → j < length ys → j < n
+in_front xs n e l = omega (arith, ap length e, length-take n xs)
 
-abbrev stock_here : Shelf → ℕ → ℕ → ℕ
-stock_here shelf j c = get_or shelf.quantity (j * 24 + c) 0
+-- the line of the cell behind j aisles and c cells, as the shelf has it, and what the cell gives by the plan
+abbrev pub line_here : Shelf → ℕ → ℕ → Line ℕ
+line_here shelf j c = get_or shelf.line (cell_number (j + 1) (c + 1)) None
 
-abbrev pub taken_here : Shelf → PlanValue → List OrderLine → ℕ → ℕ → ℕ
-taken_here shelf plan lacking j c =
-    cond (passes_cell (get_or plan.stages j no_stage).action (c + 1)) (taken_of lacking (line_here shelf j c) (stock_here shelf j c)) 0
-
--- where some is taken there is a line, and it lacks as much
-pub line_there : (shelf : Shelf) (plan : PlanValue) (lacking : List OrderLine) (j c t : ℕ) → t ≡ taken_here shelf plan lacking j c → 0 < t
-    → (1 ≤ line_here shelf j c) × (t ≤ (get_or lacking (line_here shelf j c - 1) no_line).quantity)
-line_there shelf plan lacking j c =
-    taken_some (passes_cell (get_or plan.stages j no_stage).action (c + 1)) lacking (line_here shelf j c) (stock_here shelf j c)
+abbrev pub given_here : Shelf → PlanValue → List OrderLine → ℕ → ℕ → ℕ
+given_here shelf plan lacking j c = given_at shelf (get_or plan.stages j no_stage).action (j + 1) (c + 1) lacking
 
 -- of a job that is asked
 module _ {job : Job} {lines : List OrderLine} {cells : ℕ} {shelf : Shelf} {plan : PlanValue} (a : Asked job lines cells shelf plan) where
@@ -79,96 +74,87 @@ module _ {job : Job} {lines : List OrderLine} {cells : ℕ} {shelf : Shelf} {pla
   asked_lacking : Lacking job job.lines
   asked_lacking = record { once = (articles_once job).0 a.admitted.articles_once; count = refl; numbers = λ n. refl }
 
-  pub asked_first : (list : List Pick) → Visited job (plan_of plan) lines list 0 0 0
-  asked_first list =
+  pub asked_first : Visited job (plan_of plan) lines [] 0 0
+  asked_first =
       let (n, e) = a.its_lines in
-      visited_first job (plan_of plan) lines list asked_lacking (e ∙ take_counted n lines ∙ rw e)
+      visited_first job (plan_of plan) lines asked_lacking (e ∙ take_counted n lines ∙ rw e)
 
   module _ (j c : ℕ) (l : j < plan.aisles) (m : c < cells) where
     abbrev record_here : Option StockRecord
     record_here = record_at (open_stock job) (cell_at (suc j) (suc c))
 
-    place : (suc j - 1) * 24 + (suc c - 1) ≡ j * 24 + c
-    place = omega arith
-
     -- the shelf tells the cell's line and its stock
     line_here_lem : line_here shelf j c ≡ line_of job.lines record_here
     line_here_lem =
-        rw place at (a.its_shelf.line_at_lem (suc j) (suc c) (omega arith) (omega (arith, asked_bounds)) (omega arith) (omega (arith, asked_bounds)))
+        rw (add-one, add-one) (a.its_shelf.line_at_lem (suc j) (suc c) (omega arith) (omega (arith, asked_bounds)) (omega arith) (omega (arith, asked_bounds)))
 
-    stock_here_lem : stock_here shelf j c ≡ quantity_of record_here
+    stock_here_lem : get_or shelf.quantity (cell_number (j + 1) (c + 1)) 0 ≡ quantity_of record_here
     stock_here_lem =
-        rw place at (a.its_shelf.quantity_at (suc j) (suc c) (omega arith) (omega (arith, asked_bounds)) (omega arith) (omega (arith, asked_bounds)))
+        rw (add-one, add-one) (a.its_shelf.quantity_at (suc j) (suc c) (omega arith) (omega (arith, asked_bounds)) (omega arith) (omega (arith, asked_bounds)))
 
-    line_counts : line_here shelf j c ≤ length job.lines
+    line_counts : IfSome (line_here shelf j c) (λ k. k < length job.lines)
     line_counts = rw line_here_lem (go (line_of job.lines record_here) refl)
       where
-        go : (n : ℕ) → line_of job.lines record_here ≡ n → n ≤ length job.lines
-        go zero e = omega arith
-        go (suc k) e = (cell_line asked_lacking record_here k e).1.within
+        go : (number : Line ℕ) → line_of job.lines record_here ≡ number → IfSome number (λ k. k < length job.lines)
+        go None e = tt
+        go (Some k) e = (cell_line asked_lacking record_here k e).1.within
 
-    pub line_below : line_here shelf j c ≤ 8
-    line_below = omega (arith, line_counts, ((list_within job).0 a.admitted.list).count)
+    pub line_below : IfSome (line_here shelf j c) (λ k. k < 8)
+    line_below = few_below ((list_within job).0 a.admitted.list).count (line_here shelf j c) line_counts
 
     -- the stage tells whether the plan passes the cell
     stage_passes : plan_passes (plan_of plan) (suc j) (suc c) ≡ passes_cell (get_or plan.stages j no_stage).action (c + 1)
     unfolding plan_passes action_at plan_of
     stage_passes = rw add-one (ap (λ (x : Action). passes_cell x (suc c)) (nth_map (λ (s : Stage). s.action) plan.stages plan.aisles j no_stage l))
 
-    -- so both tell what is taken
-    taken_here_lem : (lacking : List OrderLine) → taken_at job (counted job lacking) (plan_passes (plan_of plan) (suc j) (suc c)) record_here ≡ taken_here shelf plan lacking j c
-    taken_here_lem lacking =
-        rw (stage_passes, ← line_here_lem, ← stock_here_lem, taken_counted lacking (length job.lines) (line_here shelf j c) (stock_here shelf j c) line_counts)
+    -- so both tell what the cell gives
+    given_here_lem : (lacking : List OrderLine) → taken_at job (counted job lacking) (plan_passes (plan_of plan) (suc j) (suc c)) record_here ≡ given_here shelf plan lacking j c
+    given_here_lem lacking =
+        rw (stage_passes, ← line_here_lem, ← stock_here_lem, taken_counted lacking (length job.lines) (line_here shelf j c) (get_or shelf.quantity (cell_number (j + 1) (c + 1)) 0) line_counts)
 
--- the loop's invariant: j aisles and c cells of the next are visited, for every job that is asked; at most one pick for each cell
-pub record Walked (lines : List OrderLine) (cells : ℕ) (shelf : Shelf) (plan : PlanValue) (list : List Pick) (count : ℕ) (lacking : List OrderLine) (j c : ℕ) : Type 0 where
-  pub small : (plan.aisles ≤ 16) × (cells ≤ 24)
-  pub size : length list ≡ 384
-  pub room : count ≤ j * 24 + c
-  pub most : count ≤ 384
-  pub visited : (job : Job) → Asked job lines cells shelf plan → Visited job (plan_of plan) lacking list count j c
+-- the loops' invariant: j aisles and c cells of the next are visited, for every job that is asked; at most one pick for each cell
+pub record Walked (lines : List OrderLine) (cells : ℕ) (shelf : Shelf) (plan : PlanValue) (picks : List Pick) (lacking : List OrderLine) (j c : ℕ) : Type 0 where
+  pub small : cells ≤ 24
+  pub room : length picks ≤ j * 24 + c
+  pub visited : (job : Job) → Asked job lines cells shelf plan → Visited job (plan_of plan) lacking picks j c
 
-module _ {lines : List OrderLine} {cells : ℕ} {shelf : Shelf} {plan : PlanValue} {list : List Pick} {count : ℕ} {lacking : List OrderLine} {j c : ℕ}
-    (w : Walked lines cells shelf plan list count lacking j c) (l : j < plan.aisles) where
+module _ {lines : List OrderLine} {cells : ℕ} {shelf : Shelf} {plan : PlanValue} {picks : List Pick} {lacking : List OrderLine} {j c : ℕ}
+    (w : Walked lines cells shelf plan picks lacking j c) (l : j < plan.aisles) where
   -- behind the last cell of an aisle comes the next aisle
-  pub walked_turn : c ≡ cells → Walked lines cells shelf plan list count lacking (j + 1) 0
+  pub walked_turn : c ≡ cells → Walked lines cells shelf plan picks lacking (j + 1) 0
   walked_turn e =
       record {
         small = w.small;
-        size = w.size;
         room = omega (arith, w.room, w.small);
-        most = w.most;
         visited = λ job a. rw add-one (visited_turn (w.visited job a) (omega (arith, a.its_aisles)) (e ∙ sym a.its_cells));
       }
 
-  module _ (m : c < cells) (t : ℕ) (e : t ≡ taken_here shelf plan lacking j c) where
-    -- nothing is taken from the next cell
-    pub walked_none : t ≤ 0 → Walked lines cells shelf plan list count lacking j (c + 1)
-    walked_none z =
-        record {
+  module _ (m : c < cells) where
+    -- nothing is picked at the next cell
+    pub walked_none : {left : List OrderLine} → PickedAt shelf (get_or plan.stages j no_stage).action (j + 1) (c + 1) lacking left None
+        → Walked lines cells shelf plan picks left j (c + 1)
+    walked_none p =
+        rw p.1
+        (record {
           small = w.small;
-          size = w.size;
           room = omega (arith, w.room);
-          most = w.most;
           visited =
               λ job a.
-              rw add-one (visited_none (w.visited job a) (omega (arith, a.its_aisles)) (omega (arith, a.its_cells)) (taken_here_lem a j c l m lacking ∙ sym e ∙ omega arith));
-        }
+              rw add-one (visited_none (w.visited job a) (omega (arith, a.its_aisles)) (omega (arith, a.its_cells)) (given_here_lem a j c l m lacking ∙ p.0));
+        })
 
-    -- some is taken from it
-    pub walked_some : 0 < t → let k = line_here shelf j c - 1 in let line = get_or lacking k no_line in
-        Walked lines cells shelf plan (set list count (pick_of (j + 1) (c + 1) line t)) (count + 1) (set lacking k (less_line t line)) j (c + 1)
-    walked_some g =
-        let k = line_here shelf j c - 1 in
-        let there : 1 ≤ line_here shelf j c = (line_there shelf plan lacking j c t e g).0 in
-        let full : count < 384 = omega (arith, w.room, w.small) in
-        record {
+    -- a pick is made there
+    pub walked_some : {left : List OrderLine} {pick : Pick} → PickedAt shelf (get_or plan.stages j no_stage).action (j + 1) (c + 1) lacking left (Some pick)
+        → Walked lines cells shelf plan (picks ++ (pick ∷ [])) left j (c + 1)
+    walked_some p =
+        let k = unwrap_or (line_here shelf j c) 0 in
+        rw (p.1, p.2)
+        (record {
           small = w.small;
-          size = length-set list count _ ∙ w.size;
-          room = omega (arith, w.room);
-          most = omega arith;
+          room = omega (arith, length-append picks (pick_of (j + 1) (c + 1) (get_or lacking k no_line) (given_here shelf plan lacking j c) ∷ []), w.room);
           visited =
               λ job a.
-              let is-line : line_of job.lines (record_at (open_stock job) (cell_at (suc j) (suc c))) ≡ suc k = omega (arith, line_here_lem a j c l m) in
-              simp add-one (visited_some (w.visited job a) (omega (arith, a.its_aisles)) (omega (arith, a.its_cells)) k t is-line (taken_here_lem a j c l m lacking ∙ sym e) g (omega (arith, w.size)));
-        }
+              let there : line_here shelf j c ≡ Some k = line_there (passes_cell (get_or plan.stages j no_stage).action (c + 1)) lacking (line_here shelf j c) _ p.0 in
+              let is-line : line_of job.lines (record_at (open_stock job) (cell_at (suc j) (suc c))) ≡ Some k = sym (line_here_lem a j c l m) ∙ there in
+              visited_some (w.visited job a) (omega (arith, a.its_aisles)) (omega (arith, a.its_cells)) k (given_here shelf plan lacking j c) is-line (given_here_lem a j c l m lacking) p.0;
+        })

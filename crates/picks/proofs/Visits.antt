@@ -1,12 +1,13 @@
 -- The loop over the cells: what is picked, and what the lines lack, after so many of them.
-use Prim.Native.Nat.{ℕ, suc, ◌≤◌, ◌<◌}
+use Prim.Native.Nat.{ℕ, suc, ◌+◌, ◌≤◌, ◌<◌}
+use native.Mathlib.Numerals.{add-one}
 use native.Mathlib.Omega.{arith}
 use mathlib.Core.Path.{◌≡◌, refl, sym, subst, ◌∙◌}
-use mathlib.Core.List.{List, ◌++◌, append-nil, append_assoc}
+use mathlib.Core.List.{List, [], ◌∷◌, ◌++◌, append-nil, append_assoc}
 use mathlib.Core.Bool.{Bool}
 use mathlib.Core.Option.{Option}
 use lib.ListN.{length, get_or, set, take}
-use lib.Seq.{take-suc-set, take-set-lt, get_or-take}
+use lib.Seq.{take-set-lt, get_or-take}
 use Rattle.rules.specs.declared.OrderLine.{OrderLine}
 use Rattle.rules.specs.declared.StockRecord.{StockRecord}
 use Rattle.rules.specs.declared.Pick.{Pick}
@@ -15,6 +16,7 @@ use Rattle.rules.specs.Store.{Point}
 use Rattle.rules.specs.Jobs.{Job, open_stock}
 use Rattle.rules.specs.Plans.{Plan, plan_passes}
 use Rattle.rules.specs.Picks.{record_at, found, picks_from, passed_records, picks_of}
+use Rattle.std.specs.Prelude.{Some}
 use Rattle.values.specs.Shelves.{line_of}
 use Rattle.values.specs.Values.{no_line}
 use Rattle.picks.specs.Picking.{less_line, pick_of}
@@ -30,28 +32,28 @@ abbrev pub counted : Job → List OrderLine → List OrderLine
 counted job lines = take (length job.lines) lines
 
 -- j aisles and c cells of the next are visited: the picks listed, with those from the cells left, are all
-pub record Visited (job : Job) (plan : Plan) (lacking : List OrderLine) (list : List Pick) (count j c : ℕ) : Type 0 where
+pub record Visited (job : Job) (plan : Plan) (lacking : List OrderLine) (picks : List Pick) (j c : ℕ) : Type 0 where
   pub left : Lacking job (counted job lacking)
-  pub picks : take count list ++ picks_from (counted job lacking) (concat_of (given_by job plan) (cells_from job.layout j c)) ≡ picks_of job plan
+  pub all : picks ++ picks_from (counted job lacking) (concat_of (given_by job plan) (cells_from job.layout j c)) ≡ picks_of job plan
 
 -- at first
-pub visited_first : (job : Job) (plan : Plan) (lines : List OrderLine) (list : List Pick) → Lacking job job.lines → job.lines ≡ counted job lines → Visited job plan lines list 0 0 0
+pub visited_first : (job : Job) (plan : Plan) (lines : List OrderLine) → Lacking job job.lines → job.lines ≡ counted job lines → Visited job plan lines [] 0 0
 unfolding picks_of passed_records
-visited_first job plan lines list ok e =
+visited_first job plan lines ok e =
     record {
       left = subst (Lacking job) e ok;
-      picks = rw (← e, ← cells_first job.layout);
+      all = rw (← e, ← cells_first job.layout);
     }
 
-module _ {job : Job} {plan : Plan} {lacking : List OrderLine} {list : List Pick} {count j c : ℕ} (v : Visited job plan lacking list count j c) where
+module _ {job : Job} {plan : Plan} {lacking : List OrderLine} {picks : List Pick} {j c : ℕ} (v : Visited job plan lacking picks j c) where
   -- in the end
-  pub visited_all : job.layout.aisles ≤ j → take count list ≡ picks_of job plan
-  visited_all l = sym (append-nil (take count list)) ∙ rw (cells_end job.layout j c l) at v.picks
+  pub visited_all : job.layout.aisles ≤ j → picks ≡ picks_of job plan
+  visited_all l = sym (append-nil (picks)) ∙ rw (cells_end job.layout j c l) at v.all
 
   module _ (l : j < job.layout.aisles) where
     -- from aisle to aisle
-    pub visited_turn : c ≡ job.layout.cells → Visited job plan lacking list count (suc j) 0
-    visited_turn e = record { left = v.left; picks = rw (← cells_turn job.layout j l c e) v.picks }
+    pub visited_turn : c ≡ job.layout.cells → Visited job plan lacking picks (suc j) 0
+    visited_turn e = record { left = v.left; all = rw (← cells_turn job.layout j l c e) v.all }
 
     module _ (m : c < job.layout.cells) where
       -- the record of the cell, and what it has
@@ -64,20 +66,20 @@ module _ {job : Job} {plan : Plan} {lacking : List OrderLine} {list : List Pick}
       rest : List StockRecord
       rest = concat_of (given_by job plan) (cells_from job.layout j (suc c))
 
-      next : take count list ++ picks_from (counted job lacking) (found passed here ++ rest) ≡ picks_of job plan
+      next : picks ++ picks_from (counted job lacking) (found passed here ++ rest) ≡ picks_of job plan
       unfolding rest
-      next = rw (cells_next job.layout j l c m) at v.picks
+      next = rw (cells_next job.layout j l c m) at v.all
 
       -- a cell from which nothing is taken
-      pub visited_none : taken_at job (counted job lacking) passed here ≡ 0 → Visited job plan lacking list count j (suc c)
+      pub visited_none : taken_at job (counted job lacking) passed here ≡ 0 → Visited job plan lacking picks j (suc c)
       unfolding rest
-      visited_none e = record { left = v.left; picks = rw (← nothing_taken v.left passed here rest e) next }
+      visited_none e = record { left = v.left; all = rw (← nothing_taken v.left passed here rest e) next }
 
       -- a cell from which t is taken for line k
-      pub visited_some : (k t : ℕ) → line_of job.lines here ≡ suc k → taken_at job (counted job lacking) passed here ≡ t → 0 < t → count < length list
-          → Visited job plan (set lacking k (less_line t (get_or lacking k no_line))) (set list count (pick_of (suc j) (suc c) (get_or lacking k no_line) t)) (suc count) j (suc c)
+      pub visited_some : (k t : ℕ) → line_of job.lines here ≡ Some k → taken_at job (counted job lacking) passed here ≡ t → 0 < t
+          → Visited job plan (set lacking k (less_line t (get_or lacking k no_line))) (picks ++ (pick_of (j + 1) (c + 1) (get_or lacking k no_line) t ∷ [])) j (c + 1)
       unfolding rest
-      visited_some k t e f g h =
+      visited_some k t e f g =
           let n = length job.lines in
           let (a, line) = cell_line v.left here k e in
           let k-counts : k < n = omega (arith, line.within, v.left.count) in
@@ -85,7 +87,8 @@ module _ {job : Job} {plan : Plan} {lacking : List OrderLine} {list : List Pick}
           let fewer : set (counted job lacking) k (less_line t (get_or (counted job lacking) k no_line)) ≡ counted job (set lacking k (less_line t (get_or lacking k no_line))) =
           rw same (sym (take-set-lt n lacking k (less_line t (get_or lacking k no_line)) k-counts))
           in
-          record {
+          simp add-one
+          (record {
             left = subst (Lacking job) (line.less t ∙ fewer) (lacking_less v.left a t);
-            picks = rw (take-suc-set list count _ h, append_assoc, ← fewer, ← same, ← some_taken v.left passed here (suc j) (suc c) k t rest refl e f g) next;
-          }
+            all = rw (append_assoc, ← fewer, ← same, ← some_taken v.left passed here (suc j) (suc c) k t rest refl e f g) next;
+          })

@@ -8,20 +8,20 @@ use lib.Dec.{ltb}
 use lib.ListN.{length}
 use borrow.Author.Tests.{ltb-true, ltb-false}
 use Rattle.rules.specs.declared.Refusal.{Refusal}
-use Rattle.rules.specs.declared.Refusal.TheVariants.{WorkArea, NotAJobFile, LayoutBounds, StockBounds, CellTwice, HoursBounds, ListBounds, ArticleTwice, TooHeavy, ShortOfStock, SheetSpace, PageSpace}
-use Rattle.rules.specs.declared.Reply.{Reply}
-use Rattle.rules.specs.declared.Reply.TheVariants.{Served, Refused}
+use Rattle.rules.specs.declared.Refusal.TheVariants.{WorkArea, SheetSpace, PageSpace}
+use Rattle.rules.specs.Answers.{Reply}
+use Rattle.std.specs.declared.result.Result.TheVariants.{Ok, Err}
 use Rattle.rules.specs.Jobs.{Job}
-use Rattle.rules.specs.Refusals.{Admitted, Checked, good, bad, check_bytes, work_limit, number_of}
+use Rattle.rules.specs.Refusals.{Admitted, Checked, good, bad, check_bytes, work_limit}
 use Rattle.rules.specs.Sheet.{sheet_text}
 use Rattle.rules.specs.Page.{page_text}
 use Rattle.rules.specs.Answers.{reply_length, sheet_limit, refused, served, host_number}
 use Rattle.rules.specs.PageAnswers.{PageAnswer, page_refused, page_served, page_limit, page_answer, host_page_number}
-use Rattle.rules.proofs.Answering.{answer_area, answer_bad}
+use Rattle.rules.proofs.Answering.{number_small, answer_area, answer_bad}
 use Rattle.rules.proofs.PageAnswering.{page_refused_lem}
-use Rattle.planner.specs.Paged.{page_written}
+use Rattle.finishing.specs.Paged.{page_written}
 use Rattle.planner.proofs.Space.{sheet_suffices, checked_admitted}
-use Rattle.planner.proofs.PageLaws.{page_suffices}
+use Rattle.finishing.proofs.PageLaws.{page_suffices}
 use Rattle.planner.proofs.PageReplies.{answer_written}
 
 pub record CountsWithin (a : PageAnswer) : Type 0 where
@@ -59,25 +59,10 @@ counts_within bytes sheet page work = go (ltb (length work) work_limit) refl
     go true t = rw (page_refused_lem bytes sheet page work WorkArea (answer_area bytes sheet work (ltb-true (length work) work_limit t))) (refused_within sheet page work WorkArea)
     go false t = checked (ltb-false (length work) work_limit t) (check_bytes bytes) refl
 
--- a refusal's number is at most 12
-number_small : (r : Refusal) → number_of r ≤ 12
-number_small WorkArea = omega arith
-number_small NotAJobFile = omega arith
-number_small LayoutBounds = omega arith
-number_small StockBounds = omega arith
-number_small CellTwice = omega arith
-number_small HoursBounds = omega arith
-number_small ListBounds = omega arith
-number_small ArticleTwice = omega arith
-number_small TooHeavy = omega arith
-number_small ShortOfStock = omega arith
-number_small SheetSpace = omega arith
-number_small PageSpace = omega arith
-
 -- a host's number fits 32 bits, where byte counts are at most 16,384
 number_fits : (q : Reply) → reply_length q ≤ sheet_limit → host_number q < 4294967296
-number_fits (Served n) h = omega arith
-number_fits (Refused r) h = omega (arith, number_small r)
+number_fits (Ok n) h = omega arith
+number_fits (Err r) h = omega (arith, number_small r)
 
 -- so a page call's number has the reply's in its low half, and the page's byte count in its high half
 pub halves : (a : PageAnswer) → CountsWithin a → (host_page_number a % 4294967296 ≡ host_number a.call.reply) × (host_page_number a / 4294967296 ≡ a.count)

@@ -9,7 +9,7 @@ use lib.Seq.{take-append_seam}
 use Rattle.rules.specs.declared.Pick.{Pick}
 use Rattle.rules.specs.declared.Refusal.{Refusal}
 use Rattle.rules.specs.declared.Refusal.TheVariants.{SheetSpace, PageSpace}
-use Rattle.rules.specs.declared.Reply.TheVariants.{Served, Refused}
+use Rattle.std.specs.declared.result.Result.TheVariants.{Ok, Err}
 use Rattle.rules.specs.Lists.{concat_of}
 use Rattle.rules.specs.Jobs.{Job}
 use Rattle.rules.specs.BestPlan.{best_plan}
@@ -21,7 +21,7 @@ use Rattle.rules.specs.Page.{page_line, along_walk, page_of, page_text}
 use Rattle.rules.specs.Answers.{answer, served}
 use Rattle.rules.specs.PageAnswers.{page_limit, page_served, page_answer}
 use Rattle.rules.proofs.WalkOrder.{perm_member, along_ordered, along_only}
-use Rattle.planner.proofs.PageLaws.{pick_reached, picks_apart, page_rearranged, line_length, page_length, page_suffices}
+use Rattle.finishing.proofs.PageLaws.{pick_reached, picks_apart, page_rearranged, line_length, page_length, page_suffices}
 use Rattle.promises.specs.Causes.{OfJob, Cause, table_row}
 use Rattle.promises.specs.Contents.{Content, content_of}
 use Rattle.promises.specs.Calls.{Shows}
@@ -62,7 +62,7 @@ counted job a = page_length job a
 
 module _ (bytes sheet page work : List ℕ) where
   -- a served page call shows the sheet and the page of its job
-  pub page_shown : (n : ℕ) → (page_answer bytes sheet page work).call.reply ≡ Served n → (job : Job) × (c : Content) × (picks : List Pick) × ShowsPage bytes sheet page work job c picks
+  pub page_shown : (n : ℕ) → (page_answer bytes sheet page work).call.reply ≡ Ok n → (job : Job) × (c : Content) × (picks : List Pick) × ShowsPage bytes sheet page work job c picks
   unfolding page_served served
   page_shown n e =
       let (job, read, a, l, t) = served_page bytes sheet page work n e in
@@ -92,7 +92,7 @@ module _ (bytes sheet page work : List ℕ) where
       only_along job a picks (subst (λ d. AlongTheWalk job d picks) (sym e) t) ∙ sym (only_along job a others (subst (λ d. AlongTheWalk job d others) (sym e) u))
 
   -- 6,375 bytes of page space suffice
-  pub page_space : page_limit ≤ length page → (page_answer bytes sheet page work).call.reply ≡ Refused PageSpace → ⊥
+  pub page_space : page_limit ≤ length page → (page_answer bytes sheet page work).call.reply ≡ Err PageSpace → ⊥
   unfolding PageCause
   page_space h e =
       let f = (refused_page bytes sheet page work PageSpace).0 e in

@@ -25,7 +25,7 @@ use Rattle.rules.specs.declared.OrderLine.{OrderLine}
 use Rattle.rules.specs.declared.Pick.{Pick}
 use Rattle.rules.specs.declared.Refusal.{Refusal}
 use Rattle.rules.specs.declared.Refusal.TheVariants.{WorkArea, ListBounds, ShortOfStock, SheetSpace, PageSpace}
-use Rattle.rules.specs.declared.Reply.TheVariants.{Served, Refused}
+use Rattle.std.specs.declared.result.Result.TheVariants.{Ok, Err}
 use Rattle.rules.specs.Store.{WithoutPosts, side_of, aisle_length, position, Edge, InStore, layout_in_bounds}
 use Rattle.rules.specs.Hours.{Hours, NoHours}
 use Rattle.rules.specs.Jobs.{Job, job_with_posts, job_under, job_with_hours}
@@ -82,11 +82,11 @@ use Rattle.promises.proofs.Program
 
 pub record Demand1 (bytes sheet work : List ℕ) : Type 0 where
   -- a call is refused with a refusal exactly if that is the first of the table that applies
-  pub refusal : (r : Refusal) → ((answer bytes sheet work).reply ≡ Refused r) ↔ FirstCause r bytes sheet work
-  pub refused : (r : Refusal) → (answer bytes sheet work).reply ≡ Refused r → RefusedCall r sheet work (answer bytes sheet work)
+  pub refusal : (r : Refusal) → ((answer bytes sheet work).reply ≡ Err r) ↔ FirstCause r bytes sheet work
+  pub refused : (r : Refusal) → (answer bytes sheet work).reply ≡ Err r → RefusedCall r sheet work (answer bytes sheet work)
   -- a call is served exactly if none of the table applies
-  pub serving : ((n : ℕ) × ((answer bytes sheet work).reply ≡ Served n)) ↔ ((r : Refusal) → Cause r bytes sheet work → ⊥)
-  pub served : (n : ℕ) → (answer bytes sheet work).reply ≡ Served n → OfJob bytes (λ job. ServedCall job sheet work (answer bytes sheet work))
+  pub serving : ((n : ℕ) × ((answer bytes sheet work).reply ≡ Ok n)) ↔ ((r : Refusal) → Cause r bytes sheet work → ⊥)
+  pub served : (n : ℕ) → (answer bytes sheet work).reply ≡ Ok n → OfJob bytes (λ job. ServedCall job sheet work (answer bytes sheet work))
 
 -- "If a job is malformed, out of range, too heavy or short of stock, or lent space is too small, the call ends with the refusal
 -- of the table, the first that applies, and the sheet space is untouched. Every other job gets a sheet, and every call ends."
@@ -101,7 +101,7 @@ demand_1 bytes sheet work =
 
 pub record Demand2 (bytes sheet work : List ℕ) : Type 0 where
   -- the sheet of a served call says something of the job, and only one thing
-  pub shows : (n : ℕ) → (answer bytes sheet work).reply ≡ Served n → (job : Job) × (c : Content) × Shows bytes sheet work job c
+  pub shows : (n : ℕ) → (answer bytes sheet work).reply ≡ Ok n → (job : Job) × (c : Content) × Shows bytes sheet work job c
   pub shows_one : (job other : Job) (c d : Content) → Shows bytes sheet work job c → Shows bytes sheet work other d → (job ≡ other) × (c ≡ d)
   -- what it says obeys the policy, and length, picks and walk are the plan's
   pub obeys : (job : Job) (c : Content) → Shows bytes sheet work job c → Obeys job c
@@ -147,7 +147,7 @@ no_hours_no_shut = plain_keeps
 pub record Demand3 (bytes sheet work : List ℕ) : Type 0 where
   pub shortest : (job : Job) (c : Content) → Shows bytes sheet work job c → Shortest job c
   -- refused for stock: no row above applies, and some line exceeds all the stock of its article in open aisles
-  pub stock : ((answer bytes sheet work).reply ≡ Refused ShortOfStock)
+  pub stock : ((answer bytes sheet work).reply ≡ Err ShortOfStock)
       ↔ (((q : Refusal) → table_row q < table_row ShortOfStock → Cause q bytes sheet work → ⊥) × OfJob bytes LineOutOfStock)
 
 -- "For every job served, the plan on our sheet is one that the job's policy allows, passes enough stock for every line and has by 01
@@ -167,11 +167,11 @@ demand_3 bytes sheet work =
     }
 
 -- "one fixed sheet for all jobs": no text is the sheet of every served call
-pub no_fixed_sheet : (text : List ℕ) → ((bytes sheet work : List ℕ) (n : ℕ) → (answer bytes sheet work).reply ≡ Served n → take n (answer bytes sheet work).sheet ≡ text) → ⊥
+pub no_fixed_sheet : (text : List ℕ) → ((bytes sheet work : List ℕ) (n : ℕ) → (answer bytes sheet work).reply ≡ Ok n → take n (answer bytes sheet work).sheet ≡ text) → ⊥
 no_fixed_sheet = Varied.sheets_vary
 
 -- "16,384 bytes of sheet space always suffice." Refusal 9 does not occur
-pub sheet_space_suffices : (bytes sheet work : List ℕ) → sheet_limit ≤ length sheet → (answer bytes sheet work).reply ≡ Refused SheetSpace → ⊥
+pub sheet_space_suffices : (bytes sheet work : List ℕ) → sheet_limit ≤ length sheet → (answer bytes sheet work).reply ≡ Err SheetSpace → ⊥
 sheet_space_suffices = Host.space_suffices
 
 -- "A planning host in C calls an entry that takes only byte buffers and numbers and brings its own work area."
@@ -180,10 +180,10 @@ pub host_call : (bytes sheet : List ℕ) → host_answer bytes sheet ≡ answer 
 unfolding host_answer
 host_call bytes sheet = refl
 
-pub host_has_space : (bytes sheet : List ℕ) → (host_answer bytes sheet).reply ≡ Refused WorkArea → ⊥
+pub host_has_space : (bytes sheet : List ℕ) → (host_answer bytes sheet).reply ≡ Err WorkArea → ⊥
 host_has_space = Host.host_has_space
 
-pub host_sheet_suffices : (bytes sheet : List ℕ) → sheet_limit ≤ length sheet → (host_answer bytes sheet).reply ≡ Refused SheetSpace → ⊥
+pub host_sheet_suffices : (bytes sheet : List ℕ) → sheet_limit ≤ length sheet → (host_answer bytes sheet).reply ≡ Err SheetSpace → ⊥
 host_sheet_suffices = Host.host_sheet_suffices
 
 -- "It gets one number: the sheet's byte count for a served job, otherwise 65,536 plus the refusal number."
@@ -225,7 +225,7 @@ entering_pinned = (entering_serves, entering_exact, entering_others)
 -- under every policy." For every job with no lines to which no other refusal applies: the whole answer
 pub empty_list_lem : (bytes sheet work : List ℕ) (job : Job) → NothingToFetch bytes sheet work job
     → answer bytes sheet work
-    ≡ record { reply = Served (length (empty_sheet job)); sheet = empty_sheet job ++ drop (length (empty_sheet job)) sheet; work = cleared work }
+    ≡ record { reply = Ok (length (empty_sheet job)); sheet = empty_sheet job ++ drop (length (empty_sheet job)) sheet; work = cleared work }
 empty_list_lem = EmptyLists.empty_served
 
 -- there are such calls: case 14, under every policy
@@ -304,11 +304,11 @@ ceiling = Uprights.below_ceiling
 
 pub record PageDemand1 (bytes sheet page work : List ℕ) : Type 0 where
   -- a page call is refused with a refusal exactly if that is the first of the table, row 11 included, that applies
-  pub refusal : (r : Refusal) → ((page_answer bytes sheet page work).call.reply ≡ Refused r) ↔ FirstPageCause r bytes sheet page work
-  pub refused : (r : Refusal) → (page_answer bytes sheet page work).call.reply ≡ Refused r → RefusedPageCall r sheet page work (page_answer bytes sheet page work)
+  pub refusal : (r : Refusal) → ((page_answer bytes sheet page work).call.reply ≡ Err r) ↔ FirstPageCause r bytes sheet page work
+  pub refused : (r : Refusal) → (page_answer bytes sheet page work).call.reply ≡ Err r → RefusedPageCall r sheet page work (page_answer bytes sheet page work)
   -- it is served exactly if none applies
-  pub serving : ((n : ℕ) × ((page_answer bytes sheet page work).call.reply ≡ Served n)) ↔ ((r : Refusal) → PageCause r bytes sheet page work → ⊥)
-  pub served : (n : ℕ) → (page_answer bytes sheet page work).call.reply ≡ Served n → OfJob bytes (λ job. ServedPageCall job sheet page work (page_answer bytes sheet page work))
+  pub serving : ((n : ℕ) × ((page_answer bytes sheet page work).call.reply ≡ Ok n)) ↔ ((r : Refusal) → PageCause r bytes sheet page work → ⊥)
+  pub served : (n : ℕ) → (page_answer bytes sheet page work).call.reply ≡ Ok n → OfJob bytes (λ job. ServedPageCall job sheet page work (page_answer bytes sheet page work))
 
 -- Request #103: "Answers: 11, with length 0, where the page is longer than its space, tried after all of document 01's; page and sheet
 -- stay unchanged and the work area is all zero. A page call also returns the page's byte count; every refusal returns 0 for it and
@@ -323,12 +323,12 @@ page_demand_1 bytes sheet page work =
     }
 
 -- without refusal 11 the reply, the sheet and the work area are those of the call without a page: demands 2 and 3 speak of them
-pub page_call_as_plan : (bytes sheet page work : List ℕ) → ((page_answer bytes sheet page work).call.reply ≡ Refused PageSpace → ⊥)
+pub page_call_as_plan : (bytes sheet page work : List ℕ) → ((page_answer bytes sheet page work).call.reply ≡ Err PageSpace → ⊥)
     → (page_answer bytes sheet page work).call ≡ answer bytes sheet work
 page_call_as_plan = PageCalls.as_without_page
 
 -- "Lines follow the walk, each pick at the first step that reaches its cell. The page's lines are exactly the picks of the sheet, rearranged."
-pub page_is_picks : (bytes sheet page work : List ℕ) (n : ℕ) → (page_answer bytes sheet page work).call.reply ≡ Served n
+pub page_is_picks : (bytes sheet page work : List ℕ) (n : ℕ) → (page_answer bytes sheet page work).call.reply ≡ Ok n
     → (job : Job) × (c : Content) × (order : List Pick) × ShowsPage bytes sheet page work job c order
 page_is_picks = Clipboard.page_shown
 
@@ -338,7 +338,7 @@ pub page_determined : (bytes sheet work : List ℕ) (job : Job) (c : Content) �
 page_determined bytes sheet work = Clipboard.page_determined bytes sheet [] work
 
 -- "Each pick is one line of 24 bytes and a line feed": 255 picks at most, so 6,375 bytes of page space always suffice
-pub page_suffices : (bytes sheet page work : List ℕ) → page_limit ≤ length page → (page_answer bytes sheet page work).call.reply ≡ Refused PageSpace → ⊥
+pub page_suffices : (bytes sheet page work : List ℕ) → page_limit ≤ length page → (page_answer bytes sheet page work).call.reply ≡ Err PageSpace → ⊥
 page_suffices = Clipboard.page_space
 
 -- the planning host's page call, which is the library's: the page's byte count times 2^32, plus the number of `plan_sheet`

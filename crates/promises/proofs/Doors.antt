@@ -22,7 +22,9 @@ use Rattle.rules.specs.JobFile.{numeral, field, header, layout_text, layout_sect
 use Rattle.rules.specs.JobFile.{is_digit, is_number, read_field, read_header, read_policy_as, read_policy, read_layout, read_posts}
 use Rattle.rules.specs.JobFile.{read_record, read_line, read_section, read_layout_section, read_sections, read_job}
 use Rattle.rules.specs.Plans.{Plan, WellFormed, Fits, action_at, passage_at, multiplicity, plan_passes, length_of, plan_length}
-use Rattle.rules.specs.Policies.{entered_aisles, Entered, First, Last, WalkedFrom, End, leftmost, rightmost, EnteredAt, walk_back_end, WalkedBack}
+use Rattle.rules.specs.declared.End.{End}
+use Rattle.rules.specs.declared.End.TheVariants.{Leftmost, Rightmost}
+use Rattle.rules.specs.Policies.{entered_aisles, Entered, First, Last, WalkedFrom, EnteredAt, walk_back_end, WalkedBack}
 use Rattle.rules.specs.Policies.{TraversalRule, OwnRule, PolicyRules, AllowedBy, Follows, Allowed}
 use Rattle.rules.specs.Machine.{action_possible, action_step, passage_step, accepts}
 use Rattle.rules.specs.Serving.{supply, serves, PlanServes}
@@ -41,12 +43,12 @@ use Rattle.promises.specs.Doors.{RuleBefore, AllowedBefore}
 use Rattle.promises.proofs.Shown.{best, best_obeys, shown_best, job_shown}
 
 -- where 2·d exceeds m + 1, the left end is the one
-at_left : (z : Layout) → z.aisles + 1 < 2 * z.depot → walk_back_end z ≡ leftmost
-at_left z high = ap (λ b. cond b leftmost rightmost) (lt-ltb (z.aisles + 1) (2 * z.depot) high)
+at_left : (z : Layout) → z.aisles + 1 < 2 * z.depot → walk_back_end z ≡ Leftmost
+at_left z high = ap (λ b. cond b Leftmost Rightmost) (lt-ltb (z.aisles + 1) (2 * z.depot) high)
 
 -- where it is at most m + 1, the right end
-at_right : (z : Layout) → 2 * z.depot ≤ z.aisles + 1 → walk_back_end z ≡ rightmost
-at_right z low = ap (λ b. cond b leftmost rightmost) (le-ltb (z.aisles + 1) (2 * z.depot) low)
+at_right : (z : Layout) → 2 * z.depot ≤ z.aisles + 1 → walk_back_end z ≡ Rightmost
+at_right z low = ap (λ b. cond b Leftmost Rightmost) (le-ltb (z.aisles + 1) (2 * z.depot) low)
 
 -- the aisle walked back is the entered one at that end
 at_the_end : (z : Layout) {end : End} → walk_back_end z ≡ end → (plan : Plan) (j : ℕ) → WalkedBack z plan j ↔ EnteredAt end plan j

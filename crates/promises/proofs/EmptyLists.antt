@@ -15,7 +15,7 @@ use Rattle.rules.specs.declared.Policy.{Policy}
 use Rattle.rules.specs.declared.Policy.TheVariants.{Exact, Return, Traversal, Midpoint, Composite, Largest}
 use Rattle.rules.specs.declared.Refusal.{Refusal}
 use Rattle.rules.specs.declared.Refusal.TheVariants.{WorkArea, NotAJobFile, LayoutBounds, StockBounds, CellTwice, HoursBounds, ListBounds, ArticleTwice, TooHeavy, ShortOfStock, SheetSpace, PageSpace}
-use Rattle.rules.specs.declared.Reply.TheVariants.{Served}
+use Rattle.std.specs.declared.result.Result.TheVariants.{Ok}
 use Rattle.rules.specs.Store.{layout_in_bounds}
 use Rattle.rules.specs.Jobs.{Job}
 use Rattle.rules.specs.JobFile.{numeral, field, header, layout_text, layout_section_text, record_text, line_text, section_text, job_text}
@@ -133,14 +133,14 @@ module _ (bytes sheet work : List ℕ) (job : Job) (f : NothingToFetch bytes she
 
   -- and the call is served with that sheet
   pub empty_served : answer bytes sheet work
-      ≡ record { reply = Served (length (empty_sheet job)); sheet = empty_sheet job ++ drop (length (empty_sheet job)) sheet; work = cleared work }
+      ≡ record { reply = Ok (length (empty_sheet job)); sheet = empty_sheet job ++ drop (length (empty_sheet job)) sheet; work = cleared work }
   empty_served =
       let (other, read, t) = served_for bytes sheet work none_applies in
       let own = (job_file_read bytes job).1 f.file in
       let same : other ≡ job = cc in
       let bounds = (served_admitted bytes sheet work none_applies job own).0.layout in
       let text = ap sheet_text same ∙ empty_sheet_lem job bounds f.no_line in
-      t ∙ ap (λ bytes. record { reply = Served (length bytes); sheet = bytes ++ drop (length bytes) sheet; work = cleared work }) text
+      t ∙ ap (λ bytes. record { reply = Ok (length bytes); sheet = bytes ++ drop (length bytes) sheet; work = cleared work }) text
 
 -- the job of case 14: it is read, and no refusal applies to it in space enough
 abbrev none_of_alpha : Policy → Job

@@ -12,8 +12,8 @@ use lib.ListN.{length, drop, length-append, length-drop}
 use lib.Seq.{take-append_seam, drop-append_seam}
 use Rattle.rules.specs.declared.Refusal.{Refusal}
 use Rattle.rules.specs.declared.Refusal.TheVariants.{PageSpace}
-use Rattle.rules.specs.declared.Reply.{Reply}
-use Rattle.rules.specs.declared.Reply.TheVariants.{Served, Refused}
+use Rattle.rules.specs.Answers.{Reply}
+use Rattle.std.specs.declared.result.Result.TheVariants.{Ok, Err}
 use Rattle.rules.specs.Jobs.{Job}
 use Rattle.rules.specs.JobFile.{read_job}
 use Rattle.rules.specs.Refusals.{work_after}
@@ -43,12 +43,12 @@ module _ (bytes sheet page work : List ℕ) where
   page_gives = go (answer bytes sheet work).reply refl
     where
       go : (q : Reply) → (answer bytes sheet work).reply ≡ q → PageGives
-      go (Refused r) e =
+      go (Err r) e =
           let f = refused_by bytes sheet work r e in
           by_table r f (page_refused_lem bytes sheet page work r (refused_for bytes sheet work r f))
-      go (Served n) e = let (job, read, a) = served_for bytes sheet work (none n e) in by job read (none n e) a (ltb (length page) (length (page_text job))) refl
+      go (Ok n) e = let (job, read, a) = served_for bytes sheet work (none n e) in by job read (none n e) a (ltb (length page) (length (page_text job))) refl
         where
-          none : (n : ℕ) → (answer bytes sheet work).reply ≡ Served n → NoCause bytes sheet work
+          none : (n : ℕ) → (answer bytes sheet work).reply ≡ Ok n → NoCause bytes sheet work
           none n e = served_by bytes sheet work n e
 
           by : (job : Job) → read_job bytes ≡ some job → NoCause bytes sheet work → answer bytes sheet work ≡ served job sheet work
@@ -83,18 +83,18 @@ module _ (bytes sheet page work : List ℕ) where
   one_first q r f g = same_row q r (same_number (table_row q) (table_row r) (λ l. g.none_above q l f.applies) (λ l. f.none_above r l g.applies))
 
   -- the first cause refuses the call, and a refused call has it
-  pub refused_page : (r : Refusal) → ((page_answer bytes sheet page work).call.reply ≡ Refused r) ↔ FirstPageCause r bytes sheet page work
+  pub refused_page : (r : Refusal) → ((page_answer bytes sheet page work).call.reply ≡ Err r) ↔ FirstPageCause r bytes sheet page work
   unfolding page_refused page_served refused served
   refused_page r = go page_gives
     where
-      go : PageGives → ((page_answer bytes sheet page work).call.reply ≡ Refused r) ↔ FirstPageCause r bytes sheet page work
+      go : PageGives → ((page_answer bytes sheet page work).call.reply ≡ Err r) ↔ FirstPageCause r bytes sheet page work
       go (by_table q f e) = (
         λ h. (let k = ap (λ a. a.call.reply) e in let same : q ≡ r = cc in subst (λ x. FirstPageCause x bytes sheet page work) same (table_first q f)),
-        λ g. ap (λ a. a.call.reply) e ∙ ap Refused (one_first q r (table_first q f) g),
+        λ g. ap (λ a. a.call.reply) e ∙ ap Err (one_first q r (table_first q f) g),
       )
       go (by_page job read none l e) = (
         λ h. (let k = ap (λ a. a.call.reply) e in let same : PageSpace ≡ r = cc in subst (λ x. FirstPageCause x bytes sheet page work) same (page_first job read none l)),
-        λ g. ap (λ a. a.call.reply) e ∙ ap Refused (one_first PageSpace r (page_first job read none l) g),
+        λ g. ap (λ a. a.call.reply) e ∙ ap Err (one_first PageSpace r (page_first job read none l) g),
       )
       go (by_serving job read none l a e) = (
         λ h. (let k = ap (λ x. x.call.reply) e in let z : ◌≡◌ {A = ℕ} 0 1 = cc in absurd (omega arith)),
@@ -102,11 +102,11 @@ module _ (bytes sheet page work : List ℕ) where
       )
 
   -- a call is served exactly if no cause applies
-  pub serving_page : ((n : ℕ) × ((page_answer bytes sheet page work).call.reply ≡ Served n)) ↔ ((r : Refusal) → PageCause r bytes sheet page work → ⊥)
+  pub serving_page : ((n : ℕ) × ((page_answer bytes sheet page work).call.reply ≡ Ok n)) ↔ ((r : Refusal) → PageCause r bytes sheet page work → ⊥)
   unfolding page_refused page_served refused served
   serving_page = go page_gives
     where
-      go : PageGives → ((n : ℕ) × ((page_answer bytes sheet page work).call.reply ≡ Served n)) ↔ ((r : Refusal) → PageCause r bytes sheet page work → ⊥)
+      go : PageGives → ((n : ℕ) × ((page_answer bytes sheet page work).call.reply ≡ Ok n)) ↔ ((r : Refusal) → PageCause r bytes sheet page work → ⊥)
       go (by_table q f e) = (
         λ h. (let k = ap (λ a. a.call.reply) e in let s = h.1 in let z : ◌≡◌ {A = ℕ} 0 1 = cc in absurd (omega arith)),
         λ none. absurd (none q (table_first q f).applies),
@@ -118,7 +118,7 @@ module _ (bytes sheet page work : List ℕ) where
       go (by_serving job read none l a e) = (λ h. none_first job read none l, λ n. (length (sheet_text job), ap (λ x. x.call.reply) e))
 
   -- a refused call gives what the table says
-  pub refused_page_call : (r : Refusal) → (page_answer bytes sheet page work).call.reply ≡ Refused r → RefusedPageCall r sheet page work (page_answer bytes sheet page work)
+  pub refused_page_call : (r : Refusal) → (page_answer bytes sheet page work).call.reply ≡ Err r → RefusedPageCall r sheet page work (page_answer bytes sheet page work)
   unfolding page_refused page_served refused served
   refused_page_call r h = go page_gives
     where
@@ -142,7 +142,7 @@ module _ (bytes sheet page work : List ℕ) where
       go (by_serving job read none l a e) = let k = ap (λ x. x.call.reply) e in let z : ◌≡◌ {A = ℕ} 0 1 = cc in absurd (omega arith)
 
   -- what a served call answers: its job has the page space, and all else is as without a page
-  pub served_page : (n : ℕ) → (page_answer bytes sheet page work).call.reply ≡ Served n
+  pub served_page : (n : ℕ) → (page_answer bytes sheet page work).call.reply ≡ Ok n
       → (job : Job) × (read_job bytes ≡ some job) × (answer bytes sheet work ≡ served job sheet work) × (length (page_text job) ≤ length page)
       × (page_answer bytes sheet page work ≡ page_served job sheet page work)
   unfolding page_refused refused
@@ -155,7 +155,7 @@ module _ (bytes sheet page work : List ℕ) where
       go (by_serving job read none l a e) = (job, read, a, l, e)
 
   -- a served call gives the sheet and the page of its job
-  pub served_page_call : (n : ℕ) → (page_answer bytes sheet page work).call.reply ≡ Served n → OfJob bytes (λ job. ServedPageCall job sheet page work (page_answer bytes sheet page work))
+  pub served_page_call : (n : ℕ) → (page_answer bytes sheet page work).call.reply ≡ Ok n → OfJob bytes (λ job. ServedPageCall job sheet page work (page_answer bytes sheet page work))
   unfolding page_served served
   served_page_call n h =
       let (job, read, a, l, e) = served_page n h in
@@ -175,7 +175,7 @@ module _ (bytes sheet page work : List ℕ) where
       )
 
   -- without refusal 11, reply, sheet and work area are those of the call without a page
-  pub as_without_page : ((page_answer bytes sheet page work).call.reply ≡ Refused PageSpace → ⊥) → (page_answer bytes sheet page work).call ≡ answer bytes sheet work
+  pub as_without_page : ((page_answer bytes sheet page work).call.reply ≡ Err PageSpace → ⊥) → (page_answer bytes sheet page work).call ≡ answer bytes sheet work
   unfolding page_refused page_served refused served
   as_without_page n = go page_gives
     where

@@ -7,7 +7,7 @@ use mathlib.Core.List.{List}
 use lib.ListN.{length, take, drop, length-replicate}
 use lib.Seq.{take-append_seam}
 use Rattle.rules.specs.declared.Refusal.{Refusal}
-use Rattle.rules.specs.declared.Reply.TheVariants.{Refused}
+use Rattle.std.specs.declared.result.Result.TheVariants.{Err}
 use Rattle.rules.specs.Jobs.{Job}
 use Rattle.rules.specs.Refusals.{work_limit, page_table, first_row}
 use Rattle.rules.specs.Page.{page_text}
@@ -52,8 +52,8 @@ page_prints_lem bytes = go (page_gives bytes program_sheet program_page host_wor
           record {
             first = table_first bytes program_sheet program_page host_work r f;
             text = printed_answer bytes (page_refused r program_sheet program_page host_work) e;
-            sheet_suffices = λ h. space_suffices bytes program_sheet host_work (omega (arith, length-replicate {A = ℕ} sheet_limit 0)) (ap (λ a. a.reply) reply ∙ ap Refused h);
-            work_suffices = λ h. work_suffices bytes program_sheet host_work (omega (arith, length-replicate {A = ℕ} work_limit 0)) (ap (λ a. a.reply) reply ∙ ap Refused h);
+            sheet_suffices = λ h. space_suffices bytes program_sheet host_work (omega (arith, length-replicate {A = ℕ} sheet_limit 0)) (ap (λ a. a.reply) reply ∙ ap Err h);
+            work_suffices = λ h. work_suffices bytes program_sheet host_work (omega (arith, length-replicate {A = ℕ} work_limit 0)) (ap (λ a. a.reply) reply ∙ ap Err h);
             page_suffices = λ h. subst (λ q. Cause q bytes program_sheet host_work) h f.applies;
           },
         )

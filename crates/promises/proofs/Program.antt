@@ -13,8 +13,8 @@ use lib.ListN.{length, take, length-take, length-replicate}
 use lib.Seq.{take_all}
 use Rattle.rules.specs.declared.Refusal.{Refusal}
 use Rattle.rules.specs.declared.Refusal.TheVariants.{NotAJobFile}
-use Rattle.rules.specs.declared.Reply.{Reply}
-use Rattle.rules.specs.declared.Reply.TheVariants.{Served, Refused}
+use Rattle.rules.specs.Answers.{Reply}
+use Rattle.std.specs.declared.result.Result.TheVariants.{Ok, Err}
 use Rattle.rules.specs.Jobs.{Job}
 use Rattle.rules.specs.JobFile.{line_feed, header, field, job_file_limit, read_job}
 use Rattle.rules.specs.Refusals.{work_limit, table, first_row}
@@ -34,19 +34,19 @@ pub prints : (bytes : List ℕ) → ((job : Job) × PrintsSheet bytes job) ⊎ (
 prints bytes = go (answer bytes program_sheet host_work).reply refl
   where
     go : (q : Reply) → (answer bytes program_sheet host_work).reply ≡ q → ((job : Job) × PrintsSheet bytes job) ⊎ ((r : Refusal) × PrintsRefusal bytes r)
-    go (Served n) e =
+    go (Ok n) e =
         let (job, file, s) = served_call bytes program_sheet host_work n e in
         let count = sym (ap reply_length e) ∙ s.count in
-        let text = printed_answer bytes (Served n) e ∙ ap (λ k. take k (answer bytes program_sheet host_work).sheet) count ∙ s.text in
+        let text = printed_answer bytes (Ok n) e ∙ ap (λ k. take k (answer bytes program_sheet host_work).sheet) count ∙ s.text in
         inl (job, record { file = file; none_applies = served_by bytes program_sheet host_work n e; text = text })
-    go (Refused r) e =
+    go (Err r) e =
         inr (
           r,
           record {
             first = refused_by bytes program_sheet host_work r e;
-            text = printed_answer bytes (Refused r) e;
-            sheet_suffices = λ h. space_suffices bytes program_sheet host_work (omega (arith, length-replicate {A = ℕ} sheet_limit 0)) (e ∙ ap Refused h);
-            work_suffices = λ h. work_suffices bytes program_sheet host_work (omega (arith, length-replicate {A = ℕ} work_limit 0)) (e ∙ ap Refused h);
+            text = printed_answer bytes (Err r) e;
+            sheet_suffices = λ h. space_suffices bytes program_sheet host_work (omega (arith, length-replicate {A = ℕ} sheet_limit 0)) (e ∙ ap Err h);
+            work_suffices = λ h. work_suffices bytes program_sheet host_work (omega (arith, length-replicate {A = ℕ} work_limit 0)) (e ∙ ap Err h);
           },
         )
 
@@ -56,12 +56,12 @@ unfolding read_job
 read_longer bytes h = rw (lt-leb (length bytes) job_file_limit h, read_job) refl
 
 -- so every call with a work area that suffices refuses them with 1
-longer_answer : (bytes sheet work : List ℕ) → job_file_limit < length bytes → work_limit ≤ length work → (answer bytes sheet work).reply ≡ Refused NotAJobFile
+longer_answer : (bytes sheet work : List ℕ) → job_file_limit < length bytes → work_limit ≤ length work → (answer bytes sheet work).reply ≡ Err NotAJobFile
 unfolding answer refused
 longer_answer bytes sheet work l h = rw (read_longer bytes l, le-ltb (length work) work_limit h) refl
 
 pub longer_printed : (bytes : List ℕ) → job_file_limit < length bytes → output bytes ≡ header letter_r 1 ++ field line_feed 1
-longer_printed bytes l = printed_answer bytes (Refused NotAJobFile) (longer_answer bytes program_sheet host_work l (omega (arith, length-replicate {A = ℕ} work_limit 0)))
+longer_printed bytes l = printed_answer bytes (Err NotAJobFile) (longer_answer bytes program_sheet host_work l (omega (arith, length-replicate {A = ℕ} work_limit 0)))
 
 -- and it does not matter what follows the first 16,385
 pub read_start : (bytes : List ℕ) → read_job (take 16385 bytes) ≡ read_job bytes

@@ -8,7 +8,7 @@ use lib.ListN.{length, take, drop, length-append, length-drop}
 use lib.Seq.{take_at, take-append_seam, drop-append_seam}
 use Rattle.rules.specs.declared.Refusal.{Refusal}
 use Rattle.rules.specs.declared.Refusal.TheVariants.{WorkArea, NotAJobFile, LayoutBounds, StockBounds, CellTwice, HoursBounds, ListBounds, ArticleTwice, TooHeavy, ShortOfStock, SheetSpace, PageSpace}
-use Rattle.rules.specs.declared.Reply.TheVariants.{Served, Refused}
+use Rattle.std.specs.declared.result.Result.TheVariants.{Ok, Err}
 use Rattle.rules.specs.Jobs.{Job}
 use Rattle.rules.specs.JobFile.{job_text, read_job}
 use Rattle.rules.specs.Plans.{plan_length}
@@ -85,7 +85,7 @@ kept PageSpace work n k = absurd (k refl)
 
 module _ (bytes sheet work : List ℕ) where
   -- a refused call gives what the table says
-  pub refused_call : (r : Refusal) → (answer bytes sheet work).reply ≡ Refused r → RefusedCall r sheet work (answer bytes sheet work)
+  pub refused_call : (r : Refusal) → (answer bytes sheet work).reply ≡ Err r → RefusedCall r sheet work (answer bytes sheet work)
   refused_call r e =
       let f = refused_by bytes sheet work r e in
       let t = refused_for bytes sheet work r f in
@@ -93,7 +93,7 @@ module _ (bytes sheet work : List ℕ) where
       rw t (record { number = refl; count = refl; sheet_kept = refl; work_left = λ n. kept r work n no-page; work_cleared = λ e. ap (λ q. work_after q work) e })
 
   -- a served call gives the sheet of its job
-  pub served_call : (n : ℕ) → (answer bytes sheet work).reply ≡ Served n → OfJob bytes (λ job. ServedCall job sheet work (answer bytes sheet work))
+  pub served_call : (n : ℕ) → (answer bytes sheet work).reply ≡ Ok n → OfJob bytes (λ job. ServedCall job sheet work (answer bytes sheet work))
   served_call n e =
       let none_applies = served_by bytes sheet work n e in
       let (job, read, t) = served_for bytes sheet work none_applies in
@@ -112,14 +112,14 @@ module _ (bytes sheet work : List ℕ) where
       )
 
   abbrev Writes : Job → Type 0
-  Writes job = answer bytes sheet work ≡ record { reply = Served (length (content_text (best job))); sheet = content_text (best job) ++ drop (length (content_text (best job))) sheet; work = cleared work }
+  Writes job = answer bytes sheet work ≡ record { reply = Ok (length (content_text (best job))); sheet = content_text (best job) ++ drop (length (content_text (best job))) sheet; work = cleared work }
 
   written : NoCause bytes sheet work → (job : Job) × (read_job bytes ≡ some job) × Writes job
   unfolding sheet_text sheet_of content_text content_of
   written = served_for bytes sheet work
 
   -- a served call shows the sheet of its job
-  pub shown : (n : ℕ) → (answer bytes sheet work).reply ≡ Served n → (job : Job) × Shows bytes sheet work job (best job)
+  pub shown : (n : ℕ) → (answer bytes sheet work).reply ≡ Ok n → (job : Job) × Shows bytes sheet work job (best job)
   shown n e =
       let (job, read, t) = written (served_by bytes sheet work n e) in (
         job,

@@ -12,7 +12,7 @@ use lib.Dec.{ltb}
 use lib.ListN.{length, drop}
 use Rattle.rules.specs.declared.Refusal.{Refusal}
 use Rattle.rules.specs.declared.Refusal.TheVariants.{WorkArea, NotAJobFile, LayoutBounds, StockBounds, CellTwice, HoursBounds, ListBounds, ArticleTwice, TooHeavy, ShortOfStock, SheetSpace, PageSpace}
-use Rattle.rules.specs.declared.Reply.TheVariants.{Served, Refused}
+use Rattle.std.specs.declared.result.Result.TheVariants.{Ok, Err}
 use Rattle.rules.specs.Lists.{any_of, any_two, nth, Sorted}
 use Rattle.rules.specs.Store.{layout_in_bounds}
 use Rattle.rules.specs.Hours.{hours_in_bounds}
@@ -190,8 +190,8 @@ module _ (sheet work : List ℕ) where
   abbrev AnswersFor : Option Job → Option Refusal → Answer → Type 0
   AnswersFor o none a =
       (job : Job) × (o ≡ some job)
-      × (a ≡ record { reply = Served (length (sheet_text job)); sheet = sheet_text job ++ drop (length (sheet_text job)) sheet; work = cleared work })
-  AnswersFor o (some r) a = a ≡ record { reply = Refused r; sheet = sheet; work = work_after r work }
+      × (a ≡ record { reply = Ok (length (sheet_text job)); sheet = sheet_text job ++ drop (length (sheet_text job)) sheet; work = cleared work })
+  AnswersFor o (some r) a = a ≡ record { reply = Err r; sheet = sheet; work = work_after r work }
 
 module _ (bytes sheet work : List ℕ) where
   -- the first cause that applies, or none
@@ -240,15 +240,15 @@ module _ (bytes sheet work : List ℕ) where
   NoCause = (r : Refusal) → Cause r bytes sheet work → ⊥
 
   -- the first cause refuses the call
-  pub refused_for : (r : Refusal) → FirstCause r bytes sheet work → answer bytes sheet work ≡ record { reply = Refused r; sheet = sheet; work = work_after r work }
+  pub refused_for : (r : Refusal) → FirstCause r bytes sheet work → answer bytes sheet work ≡ record { reply = Err r; sheet = sheet; work = work_after r work }
   refused_for r f = go first_cause answers_for caused_by
     where
-      go : (o : Option Refusal) → AnswersFor sheet work (read_job bytes) o (answer bytes sheet work) → CausedBy o → answer bytes sheet work ≡ record { reply = Refused r; sheet = sheet; work = work_after r work }
+      go : (o : Option Refusal) → AnswersFor sheet work (read_job bytes) o (answer bytes sheet work) → CausedBy o → answer bytes sheet work ≡ record { reply = Err r; sheet = sheet; work = work_after r work }
       go none a c = absurd (c r f.applies)
-      go (some q) a c = a ∙ ap (λ p. record { reply = Refused p; sheet = sheet; work = work_after p work }) (one_first_cause q r c f)
+      go (some q) a c = a ∙ ap (λ p. record { reply = Err p; sheet = sheet; work = work_after p work }) (one_first_cause q r c f)
 
   -- and a refused call has it
-  pub refused_by : (r : Refusal) → (answer bytes sheet work).reply ≡ Refused r → FirstCause r bytes sheet work
+  pub refused_by : (r : Refusal) → (answer bytes sheet work).reply ≡ Err r → FirstCause r bytes sheet work
   refused_by r e = go first_cause answers_for caused_by
     where
       go : (o : Option Refusal) → AnswersFor sheet work (read_job bytes) o (answer bytes sheet work) → CausedBy o → FirstCause r bytes sheet work
@@ -259,7 +259,7 @@ module _ (bytes sheet work : List ℕ) where
           subst (λ p. FirstCause p bytes sheet work) same c
 
   -- a call that no cause applies to writes the sheet of its job
-  pub served_for : NoCause → (job : Job) × (read_job bytes ≡ some job) × (answer bytes sheet work ≡ record { reply = Served (length (sheet_text job)); sheet = sheet_text job ++ drop (length (sheet_text job)) sheet; work = cleared work })
+  pub served_for : NoCause → (job : Job) × (read_job bytes ≡ some job) × (answer bytes sheet work ≡ record { reply = Ok (length (sheet_text job)); sheet = sheet_text job ++ drop (length (sheet_text job)) sheet; work = cleared work })
   served_for n = go first_cause answers_for caused_by
     where
       go : (o : Option Refusal) → AnswersFor sheet work (read_job bytes) o (answer bytes sheet work) → CausedBy o → AnswersFor sheet work (read_job bytes) none (answer bytes sheet work)
@@ -267,7 +267,7 @@ module _ (bytes sheet work : List ℕ) where
       go (some q) a c = absurd (n q c.applies)
 
   -- and no cause applies to a served call
-  pub served_by : (n : ℕ) → (answer bytes sheet work).reply ≡ Served n → NoCause
+  pub served_by : (n : ℕ) → (answer bytes sheet work).reply ≡ Ok n → NoCause
   served_by n e = go first_cause answers_for caused_by
     where
       go : (o : Option Refusal) → AnswersFor sheet work (read_job bytes) o (answer bytes sheet work) → CausedBy o → NoCause

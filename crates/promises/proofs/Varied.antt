@@ -7,7 +7,7 @@ use mathlib.Core.Option.{none, some}
 use lib.ListN.{length, take, replicate, length-replicate}
 use Rattle.rules.specs.declared.Policy.{Policy}
 use Rattle.rules.specs.declared.Policy.TheVariants.{Exact, Traversal}
-use Rattle.rules.specs.declared.Reply.TheVariants.{Served}
+use Rattle.std.specs.declared.result.Result.TheVariants.{Ok}
 use Rattle.rules.specs.Jobs.{Job}
 use Rattle.rules.specs.JobFile.{numeral, field, header, layout_text, layout_section_text, record_text, line_text, section_text, job_text}
 use Rattle.rules.specs.JobFile.{is_digit, is_number, read_field, read_header, read_policy_as, read_policy, read_layout, read_posts, read_record, read_line, read_section, read_layout_section, read_sections, read_job}
@@ -28,7 +28,7 @@ two_sevens = alpha ((7 ⨯ 2) ∷ [])
 
 -- every served call shows one text
 abbrev OneSheet : List ℕ → Type 0
-OneSheet text = (bytes sheet work : List ℕ) (n : ℕ) → (answer bytes sheet work).reply ≡ Served n → take n (answer bytes sheet work).sheet ≡ text
+OneSheet text = (bytes sheet work : List ℕ) (n : ℕ) → (answer bytes sheet work).reply ≡ Ok n → take n (answer bytes sheet work).sheet ≡ text
 
 -- the text is then that of every job that is read and admitted
 the_sheet : (text : List ℕ) → OneSheet text → (job : Job) → read_job (job_text job) ≡ some job → job_refusal job ≡ none → content_text (best job) ≡ text

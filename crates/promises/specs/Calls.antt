@@ -8,7 +8,7 @@ use Rattle.rules.specs.declared.Pick.{Pick}
 use Rattle.rules.specs.declared.Policy.TheVariants.{Exact}
 use Rattle.rules.specs.declared.Refusal.{Refusal}
 use Rattle.rules.specs.declared.Refusal.TheVariants.{WorkArea, SheetSpace}
-use Rattle.rules.specs.declared.Reply.TheVariants.{Served}
+use Rattle.std.specs.declared.result.Result.TheVariants.{Ok}
 use Rattle.rules.specs.Store.{Edge, InStore}
 use Rattle.rules.specs.Jobs.{Job, open_stock}
 use Rattle.rules.specs.JobFile.{line_feed, header, field}
@@ -48,7 +48,7 @@ pub record ServedCall (job : Job) (sheet work : List ℕ) (a : Answer) : Type 0 
 -- the sheet of a served call says c of the job: the bytes are the job's file, and the bytes of the sheet are the text of c
 pub record Shows (bytes sheet work : List ℕ) (job : Job) (c : Content) : Type 0 where
   pub file : JobFileOf bytes job
-  pub served : (answer bytes sheet work).reply ≡ Served (length (content_text c))
+  pub served : (answer bytes sheet work).reply ≡ Ok (length (content_text c))
   pub text : take (length (content_text c)) (answer bytes sheet work).sheet ≡ content_text c
 
 -- the policy is the job's and allows the plan; the length is the sum over the edges; the picks add up to each line's quantity,

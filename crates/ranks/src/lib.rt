@@ -17,6 +17,15 @@ const COUNTS: [usize; 25] = [
     278, 302, 327,
 ];
 
+// The passages by rank: in the order in which they are tried.
+pub const PASSAGES: [Passage; 5] = [
+    Passage::P00,
+    Passage::P02,
+    Passage::P11,
+    Passage::P20,
+    Passage::P22,
+];
+
 // The number of actions of an aisle.
 pub fn action_count(cells: usize) -> usize
     requires { cells ≤ 24 }
@@ -30,14 +39,12 @@ fn gap_at(cells: usize, g: usize) -> Action
     requires { (cells ≤ 24) × (g < length (gaps_from cells 1 cells)) }
     ensures { result ≡ get_or (gaps_from cells 1 cells) g Void }
 {
-    let mut h = 1;
     let mut rest = g;
-    while h <= cells {
+    for h in 1..cells + 1 {
         if rest < cells - h {
             return Action::Gap(h, h + 1 + rest);
         }
         rest -= cells - h;
-        h += 1;
     }
     if rest == 0 {
         Action::Once
@@ -64,15 +71,10 @@ pub fn action_at(cells: usize, rank: usize) -> Action
 }
 
 // The passage of a rank.
+#[tactic(auto, unfolding(rules::specs::BestPlan::passages_in_order))]
 pub fn passage_at(rank: usize) -> Passage
     requires { rank < 5 }
     ensures { result ≡ get_or passages_in_order rank P00 }
 {
-    match rank {
-        0 => Passage::P00,
-        1 => Passage::P02,
-        2 => Passage::P11,
-        3 => Passage::P20,
-        _ => Passage::P22,
-    }
+    PASSAGES[rank]
 }

@@ -1,6 +1,4 @@
-pub mod Bytes
-pub mod Told
-pub mod Behind
+pub mod Digits
+pub mod Words
 pub mod Storing
 pub mod Whole
-pub mod Clock

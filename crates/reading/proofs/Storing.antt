@@ -1,78 +1,74 @@
--- Sections: lines that are read one by one into an array with room for the first of them.
-use Prim.Native.Nat.{ℕ, suc, ◌+◌, ◌-◌, ◌≤◌, ◌<◌}
-use mathlib.Core.Path.{◌≡◌, refl, sym, ◌∙◌, subst}
-use mathlib.Core.List.{List, [], ◌∷◌, ◌++◌, append-nil, append_assoc}
-use mathlib.Core.Bool.{Bool, true}
-use mathlib.Core.Option.{none, some}
-use native.Mathlib.Omega.{arith}
-use lib.ListN.{length, take, drop, set, replicate, length-append}
+-- Sections: lines that are read one by one, the first of them into places.
+use Rattle.std.proofs.Common.{ap, ℕ, suc, ◌+◌, ◌-◌, ◌≤◌, ◌<◌, ◌≡◌, List, [], ◌∷◌, ◌++◌, length, get_or, take, drop, set, replicate, refl, sym, ◌∙◌, arith, length-append, append_assoc, append-nil, drop-cons}
+use lib.ListN.{drop_of_length-le}
 use lib.Seq.{take-nil, take_all, take-append-le, take-append_seam, set-append_seam}
-use Rattle.rules.specs.declared.StockRecord.{StockRecord}
-use Rattle.rules.specs.declared.Window.{Window}
-use Rattle.rules.specs.declared.OrderLine.{OrderLine}
-use Rattle.rules.specs.JobFile.{Reading, read_lines}
-use Rattle.reading.specs.declared.cursor.Cursor.{Cursor}
-use Rattle.reading.specs.declared.sections.StockRead.{StockRead}
-use Rattle.reading.specs.declared.sections.ListRead.{ListRead}
-use Rattle.reading.specs.declared.hours.WindowsRead.{WindowsRead}
-use Rattle.marks.specs.Marking.{cell_twice}
-use Rattle.values.specs.Values.{no_line, no_window}
-use Rattle.reading.specs.Kept.{no_record, padded, stock_read, windows_read, list_read, Answers}
-use Rattle.reading.proofs.Behind.{behind, behind_nothing, behind_one}
+use Rattle.std.proofs.lemmas.List.{drop-replicate, length-replicate}
+use Rattle.std.proofs.Math.Option.{none, some}
+use Rattle.rules.specs.JobFile.{Reading, ◌>>=◌, read_lines}
+use Rattle.reading.specs.Kept.{filled, padded, noted}
 
-module _ {A : Type 0} (room : ℕ) (blank : A) where
-  -- an array of blanks holds nothing
-  pub padded_none : replicate room blank ≡ padded room blank []
-  unfolding padded
-  padded_none = let e : room - 0 ≡ room = omega arith in rw (padded, take-nil {A = A} room, e)
+module _ {A : Type 0} where
+  -- what is read behind xs, with xs in front
+  abbrev pub behind : List A → Reading (List A) → Reading (List A)
+  behind xs reading = reading >>= λ r. some (xs ++ r.0, r.1)
 
-  module _ (xs : List A) (x : A) where
-    -- one element more is stored behind the others
-    padded_stored : length xs < room → set (padded room blank xs) (length xs) x ≡ padded room blank (xs ++ (x ∷ []))
-    unfolding padded
-    padded_stored h =
-        let e : room - length xs ≡ suc (room - (length xs + 1)) = omega arith in
-        rw (take_all room xs (omega arith), e, set-append_seam xs blank (replicate (room - (length xs + 1)) blank) x)
-        (rw (take_all room (xs ++ (x ∷ [])) (simp length-append (omega arith)), length-append xs (x ∷ []), append_assoc))
+  -- nothing in front
+  behind_nothing : (reading : Reading (List A)) → behind [] reading ≡ reading
+  behind_nothing none = refl
+  behind_nothing (some r) = refl
 
-    -- there is no room for one more
-    padded_passed : room ≤ length xs → padded room blank xs ≡ padded room blank (xs ++ (x ∷ []))
-    unfolding padded
-    padded_passed h =
-        let e : room - length xs ≡ 0 = omega arith in
-        let f : room - length (xs ++ (x ∷ [])) ≡ 0 = simp length-append (omega arith) in
-        rw (e, f, take-append-le room xs (x ∷ []) h)
+  -- one element more in front
+  behind_one : (xs : List A) (x : A) (reading : Reading (List A)) → behind xs (reading >>= λ r. some (x ∷ r.0, r.1)) ≡ behind (xs ++ (x ∷ [])) reading
+  behind_one xs x none = refl
+  behind_one xs x (some r) = rw append_assoc refl
 
-  -- all elements stand in an array with room for them
-  pub padded_all : (xs : List A) → length xs ≤ room → take (length xs) (padded room blank xs) ≡ xs
-  unfolding padded
-  padded_all xs h = rw (padded, take_all room xs h) (take-append_seam xs (replicate (room - length xs) blank))
+  -- no line stands in the places
+  filled_none : (places : List A) → filled places [] ≡ places
+  unfolding filled
+  filled_none places = rw (filled, take-nil {A = A} (length places)) refl
 
--- of n lines these i have been read, up to at, and the first of them stand in the array
-pub record LinesTo {A : Type 0} (read : List ℕ → Reading A) (room : ℕ) (blank : A) (n start : ℕ) (s : List ℕ) (at i : ℕ) (array lines : List A) : Type 0 where
+  module _ (places xs : List A) (x : A) where
+    -- one line more goes into its place
+    filled_more : length xs < length places → set (filled places xs) (length xs) x ≡ filled places (xs ++ (x ∷ []))
+    unfolding filled
+    filled_more h =
+        let f : length (xs ++ (x ∷ [])) ≡ suc (length xs) = simp length-append (omega arith) in
+        rw (take_all (length places) xs (omega arith), drop-cons places (length xs) x h, set-append_seam xs (get_or places (length xs) x) (drop (suc (length xs)) places) x)
+        (rw (take_all (length places) (xs ++ (x ∷ [])) (simp length-append (omega arith)), f, append_assoc) refl)
+
+    -- there is no place for one more
+    filled_past : length places ≤ length xs → filled places xs ≡ filled places (xs ++ (x ∷ []))
+    unfolding filled
+    filled_past h =
+        let longer : length places ≤ length (xs ++ (x ∷ [])) = simp length-append (omega arith) in
+        rw (drop_of_length-le places h, take-append-le (length places) xs (x ∷ []) h, drop_of_length-le places longer) refl
+
+-- what is noted of one element more
+noted_more : {A N : Type 0} (noting : N → A → N) (notes : N) (xs : List A) (x : A) → noted noting notes (xs ++ (x ∷ [])) ≡ noting (noted noting notes xs) x
+noted_more noting notes [] x = refl
+noted_more noting notes (y ∷ xs) x = noted_more noting (noting notes y) xs x
+
+-- of n lines these i have been read and noted, and the first of them stand in the places
+pub record LinesTo {A N : Type 0} (read : List ℕ → Reading A) (noting : N → A → N) (n : ℕ) (s : List ℕ) (before : List A) (first : N) (i : ℕ) (rest : List ℕ) (places : List A) (notes : N) (lines : List A) : Type 0 where
   pub many : length lines ≡ i
-  pub limit : i ≤ n
-  pub stored : array ≡ padded room blank lines
-  pub so_far : read_lines read n (drop start s) ≡ behind lines (read_lines read (n - i) (drop at s))
+  pub told : notes ≡ noted noting first lines
+  pub stored : places ≡ filled before lines
+  pub so_far : read_lines read n s ≡ behind lines (read_lines read (n - i) rest)
 
-module _ {A : Type 0} (read : List ℕ → Reading A) (room : ℕ) (blank : A) (n start : ℕ) (s : List ℕ) where
+module _ {A N : Type 0} (read : List ℕ → Reading A) (noting : N → A → N) (n : ℕ) (s : List ℕ) (before : List A) (first : N) where
   -- no line has been read
-  pub lines_none : (array : List A) → array ≡ replicate room blank → LinesTo read room blank n start s start 0 array []
-  lines_none array e = record {
+  pub lines_none : LinesTo read noting n s before first 0 s before first []
+  lines_none = record {
     many = refl;
-    limit = omega arith;
-    stored = e ∙ padded_none room blank;
-    so_far = let z : n - 0 ≡ n = omega arith in rw z (sym (behind_nothing (read_lines read n (drop start s))));
+    told = refl;
+    stored = sym (filled_none before);
+    so_far = let z : n - 0 ≡ n = omega arith in rw z (sym (behind_nothing (read_lines read n s)));
   }
 
-  module _ (at i : ℕ) (array lines : List A) (r : LinesTo read room blank n start s at i array lines) where
-    -- there is room for a line
-    pub lines_stored : (x : A) → i < room → set array i x ≡ padded room blank (lines ++ (x ∷ []))
-    lines_stored x l = rw (r.stored, ← r.many) (padded_stored room blank lines x (omega (arith, r.many)))
-
-    -- there is none
-    pub lines_passed : (x : A) → room ≤ i → array ≡ padded room blank (lines ++ (x ∷ []))
-    lines_passed x l = r.stored ∙ padded_passed room blank lines x (omega (arith, r.many))
+  module _ (i : ℕ) (rest : List ℕ) (places : List A) (notes : N) (lines : List A) (r : LinesTo read noting n s before first i rest places notes lines) where
+    -- all lines have been read
+    pub lines_read : n ≤ i → read_lines read n s ≡ some (lines, rest)
+    lines_read h = let e : n - i ≡ 0 = omega arith in rw (r.so_far, e, read_lines, append-nil lines) refl
 
     module _ (h : i < n) where
       -- what is left is a line and the others
@@ -80,52 +76,37 @@ module _ {A : Type 0} (read : List ℕ → Reading A) (room : ℕ) (blank : A) (
       left = omega arith
 
       -- the line cannot be read
-      pub lines_fail : read (drop at s) ≡ none → read_lines read n (drop start s) ≡ none
-      lines_fail e = rw (r.so_far, left, read_lines, e)
+      pub lines_fail : read rest ≡ none → read_lines read n s ≡ none
+      lines_fail e = rw (r.so_far, left, read_lines, e) refl
 
-      -- one line more has been read
-      pub lines_more : (x : A) (next : ℕ) → read (drop at s) ≡ some (x, drop next s) → {after : List A} → after ≡ padded room blank (lines ++ (x ∷ []))
-          → LinesTo read room blank n start s next (i + 1) after (lines ++ (x ∷ []))
-      lines_more x next e kept = record {
-        many = simp length-append (omega (arith, r.many));
-        limit = omega arith;
-        stored = kept;
-        so_far = r.so_far ∙ rw (left, read_lines, e) (behind_one lines x (read_lines read (n - (i + 1)) (drop next s)));
-      }
+      -- one line more has been read, and stands in its place if it has one
+      module _ (x : A) (next : List ℕ) (e : read rest ≡ some (x, next)) where
+        one_more : (after : List A) → after ≡ filled before (lines ++ (x ∷ [])) → LinesTo read noting n s before first (i + 1) next after (noting notes x) (lines ++ (x ∷ []))
+        one_more after kept = record {
+          many = simp length-append (omega (arith, r.many));
+          told = ap (λ t. noting t x) r.told ∙ sym (noted_more noting first lines x);
+          stored = kept;
+          so_far = r.so_far ∙ rw (left, read_lines, e) (behind_one lines x (read_lines read (n - (i + 1)) next));
+        }
 
-    -- all lines have been read
-    pub lines_read : n ≤ i → read_lines read n (drop start s) ≡ some (lines, drop at s)
-    lines_read h = let e : n - i ≡ 0 = omega arith in rw (r.so_far, e, read_lines, append-nil lines)
+        pub lines_stored : i < length before → LinesTo read noting n s before first (i + 1) next (set places i x) (noting notes x) (lines ++ (x ∷ []))
+        lines_stored l = one_more (set places i x) (rw (r.stored, ← r.many) (filled_more before lines x (omega (arith, r.many))))
 
-    pub lines_counted : n ≤ i → n ≡ length lines
-    lines_counted h = omega (arith, r.many, r.limit)
+        pub lines_passed : length before ≤ i → LinesTo read noting n s before first (i + 1) next places (noting notes x) (lines ++ (x ∷ []))
+        lines_passed l = one_more places (r.stored ∙ filled_past before lines x (omega (arith, r.many)))
 
-module _ {A R : Type 0} (s : List ℕ) (blank : R) (held : Cursor → A → R) (reading : Reading A) (r : R) where
-  -- the answer where nothing could be read
-  pub answer_none : reading ≡ none → r ≡ blank → Answers s blank held reading r
-  answer_none e q = subst (λ (v : Reading A). Answers s blank held v r) (sym e) q
+-- blanks in all places are padded lines, once these are filled in
+pub filled_blanks : {A : Type 0} (room : ℕ) (blank : A) (xs : List A) → filled (replicate room blank) xs ≡ padded room blank xs
+unfolding filled padded
+filled_blanks room blank xs = rw (length-replicate room blank, drop-replicate (length xs) room blank) refl
 
-  -- the answer where x was read
-  pub answer_some : (x : A) (next : Cursor) → reading ≡ some (x, drop next.at s) → r ≡ held next x → Answers s blank held reading r
-  answer_some x next e q = subst (λ (v : Reading A). Answers s blank held v r) (sym e) (next, q, refl)
+module _ {A : Type 0} (room : ℕ) (blank : A) where
+  -- an array of blanks holds nothing
+  pub padded_none : replicate room blank ≡ padded room blank []
+  unfolding padded
+  padded_none = let e : room - 0 ≡ room = omega arith in rw (padded, take-nil {A = A} room, e) refl
 
--- the answer that holds stock records
-pub stock_held : (next : Cursor) (count : ℕ) (stock xs : List StockRecord) (twice : Bool)
-    → count ≡ length xs → stock ≡ padded 384 no_record xs → twice ≡ cell_twice xs
-    → ◌≡◌ {A = StockRead} record { ok = true; next = next; count = count; stock = stock; twice = twice } (stock_read next xs)
-unfolding stock_read
-stock_held next count stock xs twice p q t = rw (p, q, t)
-
--- the answer that holds windows
-pub windows_held : (next : Cursor) (count : ℕ) (windows xs : List Window)
-    → count ≡ length xs → windows ≡ padded 64 no_window xs
-    → ◌≡◌ {A = WindowsRead} record { ok = true; next = next; count = count; windows = windows } (windows_read next xs)
-unfolding windows_read
-windows_held next count windows xs p q = rw (p, q)
-
--- the answer that holds order lines
-pub list_held : (next : Cursor) (count : ℕ) (lines xs : List OrderLine)
-    → count ≡ length xs → lines ≡ padded 8 no_line xs
-    → ◌≡◌ {A = ListRead} record { ok = true; next = next; count = count; lines = lines } (list_read next xs)
-unfolding list_read
-list_held next count lines xs p q = rw (p, q)
+  -- all elements stand in an array with room for them
+  pub padded_all : (xs : List A) → length xs ≤ room → take (length xs) (padded room blank xs) ≡ xs
+  unfolding padded
+  padded_all xs h = rw (padded, take_all room xs h) (take-append_seam xs (replicate (room - length xs) blank))

@@ -1,130 +1,85 @@
-// The job cursor: a place in the job's bytes. Its methods read what stands there and hand back the value and the next cursor.
-ghost use Rattle.std.specs.Prelude.{◌≡◌, drop};
-ghost use Rattle.rules.specs.JobFile.{read_byte, read_field, read_header, read_word};
-ghost use Rattle.reading.specs.Places.{digits_at, step_of, field_of};
+// The job cursor: what is left of the job's bytes. Its methods read what stands there, and hand back the value and the next cursor.
+ghost use Rattle.std.specs.Prelude.{◌≡◌, ◌≤◌, ℕ, ◌<◌, length, slice_index, EachIndex, drop, IfSome};
+ghost use Rattle.rules.specs.JobFile.{leading_digits, bad_start, read_byte, read_field, read_header, read_word};
+ghost use Rattle.reading.specs.Places.{seen, passed, number_in};
 
-// A place in the job's bytes.
+// What is left of the job's bytes.
 #[derive(Clone, Copy)]
-pub struct Cursor {
-    pub at: usize,
+pub struct Cursor<'a> {
+    pub rest: &'a [u8],
 }
 
-// What reading fixed bytes finds: the place behind them, or other bytes.
-#[derive(Clone, Copy)]
-pub enum Step {
-    Next(Cursor),
-    Bad,
-}
-
-// What reading a number finds.
-#[derive(Clone, Copy)]
-pub enum Field {
-    Number(usize, Cursor),
-    Bad,
-}
-
-// A run of digits: its value, 65,536 where it is larger, and where it ends.
-#[derive(Clone, Copy)]
-pub struct Digits {
-    pub value: usize,
-    pub end: usize,
-}
-
-// The digits that start at a place.
-pub fn digits_from(s: &[u8], start: usize) -> Digits
-    ensures { result ≡ digits_at s.now start }
+// The digits that stand here, and the bytes behind them.
+fn digits(s: &[u8]) -> (&[u8], &[u8])
+    ensures digits { result.0.now ≡ leading_digits s.now }
+    ensures rest { result.1.now ≡ drop (length (leading_digits s.now)) s.now }
 {
-    let mut at = start;
-    let mut value: usize = 0;
-    while at < s.len() {
-        let b = s[at] as usize;
-        if b < 48 {
-            return Digits { value, end: at };
-        }
-        if 57 < b {
-            return Digits { value, end: at };
-        }
-        value = value * 10 + (b - 48);
-        if 65536 < value {
-            value = 65536;
-        }
-        at += 1;
-    }
-    Digits { value, end: at }
+    let count = s.iter().take_while(|b| b.is_ascii_digit()).count();
+    s.split_at(count)
 }
 
-impl Cursor {
-    // The byte b.
-    pub fn byte(self, s: &[u8], b: u8) -> Step
-        ensures { step_of b s.now result ≡ read_byte b (drop self.at s.now) }
-    {
-        let at = self.at;
-        if at < s.len() {
-            if s[at] == b {
-                return Step::Next(Cursor { at: at + 1 });
-            }
+// Whether a number cannot start so: there are no digits, or a zero stands in front of others.
+fn bad_start(digits: &[u8]) -> bool
+    ensures { result ≡ bad_start digits.now }
+{
+    matches!(digits, [] | [b'0', _, ..])
+}
+
+// The number that digits say: 1 to 5 of them, with no zero in front of others, and the value at most 65,535.
+fn number(digits: &[u8]) -> Option<usize>
+    requires { EachIndex digits.now (λ k. 48 ≤ slice_index digits.now k) }
+    ensures { result ≡ number_in digits.now }
+{
+    if bad_start(digits) || 5 < digits.len() {
+        return None;
+    }
+    let mut value: usize = 0;
+    for digit in digits {
+        value = value * 10 + usize::from(digit - b'0');
+        if 65535 < value {
+            return None;
         }
-        Step::Bad
+    }
+    Some(value)
+}
+
+impl<'a> Cursor<'a> {
+    // The byte b.
+    pub fn byte(self, b: u8) -> Option<Cursor<'a>>
+        ensures { passed b result ≡ read_byte b self.entry.rest.now }
+    {
+        match self.rest {
+            [first, rest @ ..] if *first == b => Some(Cursor { rest }),
+            _ => None,
+        }
     }
 
     // A number that starts here and ends at its separator.
-    pub fn field(self, s: &[u8], sep: u8) -> Field
-        ensures { field_of s.now result ≡ read_field sep (drop self.at s.now) }
+    pub fn field(self, separator: u8) -> Option<(usize, Cursor<'a>)>
+        ensures value { seen result ≡ read_field separator self.entry.rest.now }
+        ensures small { IfSome result (λ r. r.0 ≤ 65535) }
     {
-        let start = self.at;
-        let run = digits_from(s, start);
-        let value = run.value;
-        let end = run.end;
-        if end == start {
-            return Field::Bad;
-        }
-        if 5 < end - start {
-            return Field::Bad;
-        }
-        if 65535 < value {
-            return Field::Bad;
-        }
-        if 1 < end - start {
-            if s[start] == 48 {
-                return Field::Bad;
-            }
-        }
-        let last = Cursor { at: end };
-        match last.byte(s, sep) {
-            Step::Next(next) => Field::Number(value, next),
-            Step::Bad => Field::Bad,
-        }
+        let (digits, rest) = digits(self.rest);
+        let value = number(digits)?;
+        let next = Cursor { rest }.byte(separator)?;
+        Some((value, next))
     }
 
     // A section's first line: its letter, a space, its count and a line feed.
-    pub fn header(self, s: &[u8], letter: u8) -> Field
-        ensures { field_of s.now result ≡ read_header letter (drop self.at s.now) }
+    #[tactic(auto, unfolding(rules::specs::JobFile::read_header))]
+    pub fn header(self, letter: u8) -> Option<(usize, Cursor<'a>)>
+        ensures { seen result ≡ read_header letter self.entry.rest.now }
     {
-        let Step::Next(first) = self.byte(s, letter) else {
-            return Field::Bad;
-        };
-        let Step::Next(count) = first.byte(s, 32) else {
-            return Field::Bad;
-        };
-        count.field(s, 10)
+        let next = self.byte(letter)?;
+        let next = next.byte(b' ')?;
+        next.field(b'\n')
     }
 
-    // The word w, byte for byte.
-    pub fn word(self, s: &[u8], w: &[u8]) -> Step
-        ensures { step_of w.now s.now result ≡ read_word w.now (drop self.at s.now) }
+    // The word, byte for byte.
+    pub fn word(self, word: &[u8]) -> Option<Cursor<'a>>
+        ensures { passed word.now result ≡ read_word word.now self.entry.rest.now }
     {
-        let mut at = self.at;
-        let mut i = 0;
-        while i < w.len() {
-            if s.len() <= at {
-                return Step::Bad;
-            }
-            if s[at] != w[i] {
-                return Step::Bad;
-            }
-            at += 1;
-            i += 1;
-        }
-        Step::Next(Cursor { at })
+        let rest = self.rest.strip_prefix(word)?;
+        Some(Cursor { rest })
     }
 }

@@ -37,9 +37,9 @@ abbrev nothing_done : Stage
 nothing_done = record { action = Void; passage = P00 }
 
 -- sixteen of them are the plan that treads nothing, in a store of at most sixteen aisles
-pub stages_empty : (z : Layout) → z.aisles ≤ 16 → plan_of (record { aisles = z.aisles; stages = replicate 16 nothing_done }) ≡ empty_plan z
+pub stages_empty : (z : Layout) → z.aisles ≤ 16 → (fits : z.aisles ≤ 16) → plan_of (record { aisles = z.aisles; stages = replicate 16 nothing_done; fits = fits }) ≡ empty_plan z
 unfolding plan_of empty_plan
-stages_empty z h =
+stages_empty z h fits =
     ap₂ (λ xs ps. record { actions = xs; passages = ps })
     (first_alike (λ (s : Stage). s.action) z.aisles 16 nothing_done h)
     (first_alike (λ (s : Stage). s.passage) (z.aisles - 1) 16 nothing_done (omega arith))

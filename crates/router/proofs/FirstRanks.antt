@@ -1,23 +1,19 @@
 -- The first rank that passes a test is that of the first element found.
-use Prim.Native.Nat.{ℕ, zero, suc, ◌≤◌, ◌<◌}
+use Prim.Native.Nat.{ℕ, zero, suc, ◌<◌}
 use native.Mathlib.Omega.{arith}
 use native.Mathlib.Nat.{eq-or-lt_of_le}
 use mathlib.Core.Logic.{⊎_elim}
-use mathlib.Core.Path.{◌≡◌, refl, ap₂}
+use mathlib.Core.Path.{◌≡◌, refl, sym, ◌∙◌, ap₂}
 use mathlib.Core.List.{List, [], ◌∷◌, Memᴰ}
-use mathlib.Core.Bool.{Bool, true, false, cond}
+use mathlib.Core.Bool.{Bool, true, false, cond, true≢false}
 use mathlib.Core.Option.{none, some}
 use lib.ListN.{length, get_or}
 use Rattle.rules.specs.Lists.{first_of}
-use Rattle.router.specs.Choosing.{FirstRank, Attained}
+use Rattle.router.specs.Choosing.{FirstPass, FirstRank, Attained}
 
 -- no element before rank k passes the test
 abbrev NoneBefore : {A : Type 0} → (A → Bool) → List A → A → ℕ → Type 0
 NoneBefore test xs d k = (i : ℕ) → i < k → test (get_or xs i d) ≡ true → ⊥
-
--- no element from rank a on and before rank k does
-abbrev pub NoneFrom : {A : Type 0} → (A → Bool) → List A → A → ℕ → ℕ → Type 0
-NoneFrom test xs d a k = (i : ℕ) → i < k → a ≤ i → test (get_or xs i d) ≡ true → ⊥
 
 -- what is not so is false
 is_false : (b : Bool) → (b ≡ true → ⊥) → b ≡ false
@@ -25,13 +21,15 @@ is_false true h = absurd (h refl)
 is_false false h = refl
 
 -- a search from the first rank on: it ends where the test is passed, or behind the last
-module _ {A : Type 0} (test : A → Bool) (d : A) (xs : List A) (k : ℕ) (none_yet : NoneFrom test xs d 0 k) where
-  pub rank_found : k < length xs → test (get_or xs k d) ≡ true → FirstRank test xs d k
-  rank_found h e = record { within = omega arith; before = λ i l. none_yet i l (omega arith); attained = λ l. e }
-
-  pub rank_none : (n : ℕ) → n ≡ length xs → n ≤ k → FirstRank test xs d n
-  rank_none n e h =
-      record { within = omega arith; before = λ i l. none_yet i (omega arith) (omega arith); attained = λ l. absurd (omega arith) }
+-- the first number that passes is the first rank, where what is answered is what the test says of the element
+pub rank_passed : {A : Type 0} (test : A → Bool) (d : A) (xs : List A) (answers : ℕ → Bool → Type 0) (count r : ℕ)
+    → count ≡ length xs → ((k : ℕ) (b : Bool) → k < count → answers k b → b ≡ test (get_or xs k d))
+    → FirstPass answers count r → FirstRank test xs d r
+rank_passed test d xs answers count r size said first = record {
+  within = omega (arith, first.within);
+  before = λ k l e. true≢false (sym e ∙ sym (said k false (omega (arith, first.within, l)) (first.before k l)));
+  attained = λ l. sym (said r true (omega arith) (first.passed (omega arith)));
+}
 
 module _ {A : Type 0} (test : A → Bool) (d : A) where
   -- a rank that passes the test is that of the first element found

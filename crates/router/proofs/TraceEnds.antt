@@ -147,9 +147,9 @@ second x = x.1
 
 -- the plan of the stages is the best plan
 stages_plan : (job : Job) → Admitted job → (t : Trace) → Traced job job.layout.aisles t
-    → plan_of (record { aisles = job.layout.aisles; stages = t.stages }) ≡ best_plan job
+    → (fits : job.layout.aisles ≤ 16) → plan_of (record { aisles = job.layout.aisles; stages = t.stages; fits = fits }) ≡ best_plan job
 unfolding plan_of stages_rest rest_of
-stages_plan job ok t traced =
+stages_plan job ok t traced fits =
     let m = job.layout.aisles in
     let stages = t.stages in
     let best = best_plan job in
@@ -171,6 +171,6 @@ stages_plan job ok t traced =
     ap₂ (λ x y. record { actions = x; passages = y }) actions passages
 
 pub trace_end : (job : Job) → Admitted job → (n : ℕ) (t : Trace) → n ≡ job.layout.aisles → Traced job n t
-    → plan_of (record { aisles = n; stages = t.stages }) ≡ best_plan job
+    → (fits : n ≤ 16) → plan_of (record { aisles = n; stages = t.stages; fits = fits }) ≡ best_plan job
 trace_end job ok n t all =
-    subst (λ k. Traced job k t → plan_of (record { aisles = k; stages = t.stages }) ≡ best_plan job) (sym all) (stages_plan job ok t)
+    subst (λ k. Traced job k t → (fits : k ≤ 16) → plan_of (record { aisles = k; stages = t.stages; fits = fits }) ≡ best_plan job) (sym all) (stages_plan job ok t)

@@ -14,7 +14,7 @@ use Rattle.rules.specs.declared.Passage.{Passage}
 use Rattle.rules.specs.Lists.{first_of}
 use Rattle.rules.specs.Jobs.{Job}
 use Rattle.rules.specs.Refusals.{weight, Admitted}
-use Rattle.rules.specs.Plans.{Fits}
+use Rattle.rules.specs.Plans.{Fits, entered}
 use Rattle.rules.specs.Lengths.{action_length, passage_length}
 use Rattle.rules.specs.BestPlan.{actions_of, passages_in_order}
 use Rattle.rules.specs.Machine.{State, nothing, closed, at_front, at_back, odd, joined, split, ending, dead, action_step, passage_step}
@@ -31,23 +31,23 @@ use Rattle.machine.specs.States.{state_code, state_of}
 use Rattle.machine.proofs.StepLaws.{state_of_code, state_small}
 use Rattle.demand.specs.Maps.{MapsReady}
 use Rattle.aisles.specs.declared.layers.Aisle.{Aisle}
-use Rattle.aisles.specs.Candidates.{candidate_of, candidate_length}
-use Rattle.aisles.specs.Layers.{entered_by}
+use Rattle.entered.specs.Sets.{with_aisle}
+use Rattle.entered.proofs.SetLaws.{ones_with, with_below}
 use Rattle.rows.specs.Pairs.{next_key, Holds}
 use Rattle.table.specs.Crossings.{AfterFilled}
 use Rattle.table.specs.TableHolds.{aisle_of, values, behind, AfterHolds}
-use Rattle.aisles.proofs.Geometry.{within, length_of_candidate}
+use Rattle.aisles.proofs.Geometry.{within}
 use Rattle.table.proofs.StepLaws.{cross_of_lem, step_code_lem}
-use Rattle.table.proofs.TableValues.{entering_kind, tried_passages, value_dead, below_weight, next_holds, after_value, left_code_lem}
+use Rattle.table.proofs.TableValues.{tried_passages, value_dead, below_weight, next_holds, after_value, left_code_lem}
 use Rattle.router.specs.declared.choices.At.{At}
 use Rattle.router.specs.declared.choices.Sought.{Sought}
 use Rattle.router.specs.declared.choices.Taken.{Taken}
 use Rattle.router.specs.declared.choices.Crossed.{Crossed}
 use Rattle.router.specs.declared.trace.Trace.{Trace}
-use Rattle.router.specs.Choosing.{Attained, ActionTaken, PassageTaken, value_at, step_to, cross_to, with_aisle, over_attains, on_attains}
+use Rattle.router.specs.Choosing.{Attained, ActionTaken, PassageTaken, value_at, step_to, cross_to, over_attains, on_attains}
 use Rattle.router.specs.Tracing.{stages_rest, with_stage, state_at, demand_at, value_from, rest_from, Counts, Traced, TraceAsked}
 use Rattle.router.proofs.FirstRanks.{first_member, first_tested}
-use Rattle.router.proofs.Attaining.{ones_with, with_below, key_parts, attained_key}
+use Rattle.router.proofs.Attaining.{key_parts, attained_key}
 
 -- a way on that leads somewhere started from something found
 on_found : {A B : Type 0} (o : Option A) (g : A → Option B) (y : B) → on_from o g ≡ some y → (x : A) × (o ≡ some x) × (g x ≡ some y)
@@ -217,7 +217,8 @@ module _ {job : Job} {n here : ℕ} {t : Trace} {next next-spared after after-sp
   led_here = led job n t.at asked.traced.rest (rw one_left at asked.traced.leads)
 
   -- an action leads to the machine's state, and to the demand that it leaves
-  behind_action_lem : (a : Action) (to : At) → Fits cells a → to ≡ step_to aisle fronts backs t.at (candidate_of cells a) → Behind job n t.at a to
+  behind_action_lem : (a : Action) (to : At) → Fits cells a → to ≡ step_to aisle fronts backs t.at a → Behind job n t.at a to
+  unfolding less_code aisle_of
   behind_action_lem a to fits to_is =
       let s = t.at.state in
       let q = t.at.demand in
@@ -238,17 +239,17 @@ module _ {job : Job} {n here : ℕ} {t : Trace} {next next-spared after after-sp
   key_behind a = behind job (left job n) (suc n) (state_after job n t.at a) (demand_after job n t.at a)
 
   -- the rows hold it where the action leads
-  held_behind : (a : Action) (to : At) → Fits cells a → to ≡ step_to aisle fronts backs t.at (candidate_of cells a)
+  held_behind : (a : Action) (to : At) → Fits cells a → to ≡ step_to aisle fronts backs t.at a
       → Holds (left job n) (value_at after to) (value_at after-spared to) (key_behind a)
   held_behind a to fits to_is =
       let b = behind_action_lem a to fits to_is in
       rw (← b.state_is, ← b.demand_is) (after_holds to.state to.demand b.state_low b.demand_low)
 
   -- an aisle is entered or not
-  at_most_one : (kind : ℕ) → entered_by kind ≤ 1
-  at_most_one kind = go (eqb kind 0)
+  at_most_one : (a : Action) → entering a ≤ 1
+  at_most_one a = go (entered a)
     where
-      go : (b : Bool) → cond b 0 1 ≤ 1
+      go : (b : Bool) → cond b 1 0 ≤ 1
       go true = omega arith
       go false = omega arith
 
@@ -256,13 +257,9 @@ module _ {job : Job} {n here : ℕ} {t : Trace} {next next-spared after after-sp
   over_key : (a : Action) → Fits cells a → over_attains aisle after after-spared fronts backs g a ≡ eqb (over job n t.at a) key
   unfolding aisle_of
   over_key a fits =
-      let c = candidate_of cells a in
-      let x = entered_by c.kind in
-      let entered = with_aisle t.entered n c.kind in
-      let ones-are = ones_with t.entered n c.kind asked.traced.marked in
-      attained_key g (held_behind a _ fits refl) few_left (candidate_length job.layout c) x entered key rest_enters (at_most_one c.kind) key_split.0
+      let ones-are = ones_with t.entered n a asked.traced.marked in
+      attained_key g (held_behind a _ fits refl) few_left (action_length job.layout a) (entering a) (with_aisle t.entered n a) key rest_enters (at_most_one a) key_split.0
       (omega (arith, few_left)) key_below (omega (arith, ones-are, counted_here)) (omega (arith, counted_here))
-      ∙ ap₂ (λ m e. eqb (sum_up_to no_key (17 * m + e) (key_behind a)) key) (length_of_candidate job.layout a) (entering_kind cells a)
 
   -- its action is the first that does
   first_action_lem : first_of (over_attains aisle after after-spared fronts backs g) (actions_of aisle.layout.cells) ≡ some led_here.action
@@ -282,7 +279,7 @@ module _ {job : Job} {n here : ℕ} {t : Trace} {next next-spared after after-sp
     abbrev to : At
     to = r.sought.at
 
-    to_is : to ≡ step_to aisle fronts backs t.at (candidate_of cells r.action)
+    to_is : to ≡ step_to aisle fronts backs t.at r.action
     unfolding aisle_of
     to_is = ap (λ (s : Sought). s.at) taken.leads
 
@@ -290,7 +287,7 @@ module _ {job : Job} {n here : ℕ} {t : Trace} {next next-spared after after-sp
     behind_taken = subst (λ a. Behind job n t.at a to) same_action (behind_action_lem r.action to taken_fits to_is)
 
     -- the rest of what is sought there
-    entered_is : r.sought.entered ≡ with_aisle t.entered n (candidate_of cells r.action).kind
+    entered_is : r.sought.entered ≡ with_aisle t.entered n r.action
     unfolding aisle_of
     entered_is = ap (λ (s : Sought). s.entered) taken.leads
 
@@ -304,11 +301,11 @@ module _ {job : Job} {n here : ℕ} {t : Trace} {next next-spared after after-sp
     ones_past : ones r.sought.entered ≡ ones t.entered + entering led_here.action
     ones_past =
         ap ones entered_is
-        ∙ ones_with t.entered n (candidate_of cells r.action).kind asked.traced.marked
-        ∙ ap (λ k. ones t.entered + k) (entering_kind cells r.action ∙ ap entering same_action)
+        ∙ ones_with t.entered n r.action asked.traced.marked
+        ∙ ap (λ a. ones t.entered + entering a) same_action
 
     enters_one : entering led_here.action ≤ 1
-    enters_one = omega (arith, entering_kind cells led_here.action, at_most_one (candidate_of cells led_here.action).kind)
+    enters_one = at_most_one led_here.action
 
     -- the table's key behind the action, and how many aisles the rest enters there
     abbrev key_past : ℕ
@@ -419,7 +416,7 @@ module _ {job : Job} {n here : ℕ} {t : Trace} {next next-spared after after-sp
       trace_further =
           let more = asked.more in
           let state = ap state_of state_number ∙ state_of_code state_past in
-          let below = with_below t.entered n (candidate_of cells r.action).kind asked.traced.marked in
+          let below = with_below t.entered n r.action asked.traced.marked in
           record {
             sized = length-set t.stages n _ ∙ asked.traced.sized;
             seen = omega arith;

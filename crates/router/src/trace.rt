@@ -3,15 +3,15 @@ ghost use Rattle.std.specs.Prelude.{◌<◌, ◌≤◌, suc, length, ◌≡◌};
 ghost use Rattle.router.specs.Tracing.{TableOf, TraceAsked, Traced, with_stage};
 ghost use Rattle.rules.specs.BestPlan.{best_plan};
 ghost use Rattle.rules.specs.Jobs.{Job};
-ghost use Rattle.rows.specs.Rows.{numbers, work_area};
+ghost use Rattle.rows.specs.Rows.{work_area};
 ghost use Rattle.table.specs.TableHolds.{OrderOf, TableFrom};
 ghost use Rattle.values.specs.Values.{plan_of};
 
-use crate::choices::{At, Crossed, Sought, take_action, take_passage, value_at};
-use demand::maps::{MAP, fill_maps};
-use rows::{NUMBERS, STATES, entered_of};
+use crate::choices::{At, Crossed, Sought, take_action, take_passage};
+use demand::maps::{Maps, fill_maps};
+use rows::{NUMBERS, Rows, STATES, entered_of};
 use rules::{Action, Passage};
-use table::filling::{Order, aisle_of, end_row};
+use table::filling::{Order, aisle_of, rows_behind};
 use table::passages::fill_after;
 use values::{PlanValue, Stage};
 
@@ -26,107 +26,77 @@ pub struct Trace {
 }
 
 // A trace with the stage of the aisle behind the n that are seen.
-fn with_stage(t: Trace, n: usize, p: Crossed) -> Trace
+fn with_stage(trace: Trace, n: usize, crossed: Crossed) -> Trace
     requires { n < 16 }
-    ensures { result ≡ with_stage t n p }
+    ensures { result ≡ with_stage trace n crossed }
 {
-    let stage = p.stage;
-    let at = p.at;
-    let mut stages = t.stages;
-    stages[n] = stage;
+    let mut stages = trace.stages;
+    stages[n] = crossed.stage;
     Trace {
         stages,
-        at,
-        entered: p.entered,
-        fewest: t.fewest,
+        at: crossed.at,
+        entered: crossed.entered,
+        fewest: trace.fewest,
     }
 }
 
 // The trace over one more aisle, the one behind the n that are seen: out of the next rows, and the table's length here.
-fn trace_aisle<'a>(
-    next: &'a [u16],
-    theirs: &'a [u16],
-    o: Order,
-    n: usize,
-    t: Trace,
-    here: usize,
-) -> Trace
-    requires { ((job : Job) × OrderOf job o × TraceAsked job n t next.now theirs.now here) × (numbers ≤ length next.now) × (numbers ≤ length theirs.now) }
-    ensures { (job : Job) → OrderOf job o → TraceAsked job n t next.now theirs.now here → Traced job (suc n) result }
+fn trace_aisle(next: &Rows, order: &Order, n: usize, trace: Trace, here: usize) -> Trace
+    requires { (job : Job) × OrderOf job order.now × TraceAsked job n trace next.now.lengths next.now.ones here }
+    ensures { (job : Job) → OrderOf job order.now → TraceAsked job n trace next.now.lengths next.now.ones here → Traced job (suc n) result }
 {
-    let mut fronts = [0u16; MAP];
-    let mut backs = [0u16; MAP];
-    let mut after = [0u16; NUMBERS];
-    let mut ones = [0u16; NUMBERS];
+    let mut maps = Maps::EMPTY;
+    let mut after = Rows::EMPTY;
     let j = n + 1;
-    fill_maps(
-        &mut fronts,
-        &mut backs,
-        o.shelf,
-        o.digits,
-        o.layout.cells,
-        j,
-    );
-    let x = aisle_of(o, j);
-    fill_after(&mut after, &mut ones, next, theirs, x);
-    let at = t.at;
-    let g = Sought {
-        at,
+    fill_maps(&mut maps, order.shelf, order.digits, order.layout.cells, j);
+    let aisle = aisle_of(order, j);
+    fill_after(&mut after, next, aisle);
+    let sought = Sought {
+        at: trace.at,
         length: here,
-        fewest: t.fewest,
-        entered: t.entered,
+        fewest: trace.fewest,
+        entered: trace.entered,
         aisle: n,
-        left: o.layout.aisles - j,
+        left: order.layout.aisles - j,
     };
-    let a = take_action(&after, &ones, &fronts, &backs, x, g);
-    let p = take_passage(next, theirs, x, a);
-    with_stage(t, n, p)
+    let taken = take_action(&after, &maps, aisle, sought);
+    with_stage(trace, n, take_passage(next, aisle, taken))
 }
 
-// The same out of the table: the row of the aisle has the length here, and behind the last aisle is the end.
-fn trace_on<'a>(work: &'a [u16], spared: &'a [u16], o: Order, n: usize, t: Trace) -> Trace
-    requires { ((job : Job) × OrderOf job o × TableFrom job 1 work.now spared.now × Traced job n t) × (n < o.layout.aisles)
+// The same out of the table: the row of the aisle has the length here.
+fn trace_on(work: &[u16], spared: &[u16], order: &Order, n: usize, trace: Trace) -> Trace
+    requires { ((job : Job) × OrderOf job order.now × TableFrom job 1 work.now spared.now × Traced job n trace) × (n < order.now.layout.aisles)
         × (work_area ≤ length work.now) × (work_area ≤ length spared.now) }
-    ensures { (job : Job) → OrderOf job o → TableFrom job 1 work.now spared.now → Traced job n t → Traced job (suc n) result }
+    ensures { (job : Job) → OrderOf job order.now → TableFrom job 1 work.now spared.now → Traced job n trace → Traced job (suc n) result }
 {
-    let from = n * NUMBERS;
-    let to = from + NUMBERS;
-    let here = value_at(&work[from..to], t.at);
-    if n + 1 < o.layout.aisles {
-        let end = to + NUMBERS;
-        return trace_aisle(&work[to..end], &spared[to..end], o, n, t, here);
-    }
-    let last = end_row();
-    let none = [0u16; NUMBERS];
-    trace_aisle(&last, &none, o, n, t, here)
+    let here = usize::from(work[n * NUMBERS + trace.at.demand * STATES + trace.at.state]);
+    let next = rows_behind(work, spared, order.layout.aisles, n + 1);
+    trace_aisle(&next, order, n, trace, here)
 }
 
 // The best plan, read out of the table.
-pub fn read_plan<'a>(work: &'a [u16], spared: &'a [u16], o: Order) -> PlanValue
-    requires { ((job : Job) × TableOf job o work.now spared.now) × (work_area ≤ length work.now) × (work_area ≤ length spared.now) }
-    ensures { (job : Job) → TableOf job o work.now spared.now → (result.aisles ≡ job.layout.aisles) × (plan_of result ≡ best_plan job) }
+pub fn read_plan(work: &[u16], spared: &[u16], order: &Order) -> PlanValue
+    requires { ((job : Job) × TableOf job order.now work.now spared.now) × (work_area ≤ length work.now) × (work_area ≤ length spared.now) }
+    ensures { (job : Job) → TableOf job order.now work.now spared.now → (result.aisles ≡ job.layout.aisles) × (plan_of result ≡ best_plan job) }
 {
-    let aisles = o.layout.aisles;
-    let whole = o.digits.weight - 1;
-    let fewest = entered_of(aisles, spared[whole * STATES]);
-    let first = Stage {
+    let aisles = order.layout.aisles;
+    let whole = order.digits.weight - 1;
+    let nothing = Stage {
         action: Action::Void,
         passage: Passage::P00,
     };
-    let mut t = Trace {
-        stages: [first; 16],
+    let mut trace = Trace {
+        stages: [nothing; 16],
         at: At {
             state: 0,
             demand: whole,
         },
         entered: 0,
-        fewest,
+        fewest: entered_of(aisles, spared[whole * STATES]),
     };
-    let mut n = 0;
-    while n < aisles {
-        t = trace_on(work, spared, o, n, t);
-        n += 1;
+    for n in 0..aisles {
+        trace = trace_on(work, spared, order, n, trace);
     }
-    let stages = t.stages;
+    let stages = trace.stages;
     PlanValue { aisles, stages }
 }

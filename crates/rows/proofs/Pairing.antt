@@ -1,20 +1,14 @@
--- One more demand of a row of ones, and one more number that has a one more.
+-- One more demand of a row of ones.
 use Prim.Native.Nat.{ℕ, ◌+◌, ◌*◌, ◌<◌}
 use native.Mathlib.Omega.{arith}
-use mathlib.Core.Path.{◌≡◌, refl, ◌∙◌, ap}
+use mathlib.Core.Path.{◌≡◌, refl, ◌∙◌}
 use mathlib.Core.Logic.{inr}
 use mathlib.Core.List.{List}
-use lib.ListN.{length, get_or, set, length-set}
-use lib.Seq.{get_or-set_other}
+use lib.ListN.{get_or}
 use Rattle.optimum.specs.Routing.{sat}
-use Rattle.demand.proofs.Filling.{filled_one}
 use Rattle.rows.specs.Rows.{tab, StoredTo, RelaxedRow}
-use Rattle.rows.specs.Pairs.{ones_of, Fewer, FewerRow, one_more, SparedTo}
+use Rattle.rows.specs.Pairs.{ones_of, Fewer, FewerRow}
 use Rattle.rows.proofs.Relaxing.{demand_one}
-
--- at first no demand is relaxed
-pub fewer_none : (row spared perm perm-spared map : List ℕ) (base cost : ℕ) → FewerRow row spared spared perm perm-spared map base cost 0
-fewer_none row spared perm perm-spared map base cost = record { kept = refl; done = λ s q l h. absurd (omega arith); rest = λ k h. refl }
 
 -- one more demand
 pub fewer_one : (row row' spared spared' spared'' v perm perm-spared map : List ℕ) (base cost q from : ℕ) → RelaxedRow row row' perm map base cost q
@@ -35,17 +29,3 @@ fewer_one row row' spared spared' spared'' v perm perm-spared map base cost q fr
         let row_is = r.rest (q * 8 + s) (omega arith) in
         let ones-are = f.rest (q * 8 + s) (omega arith) in
         u s l ∙ rw (row_is, ones-are, e) refl
-
--- at first no number has a one more
-pub spared_none : (spared : List ℕ) → SparedTo spared spared 0
-spared_none spared = record { kept = refl; done = λ k h. absurd (omega arith); rest = λ k h. refl }
-
--- one more number
-pub spared_one : (spared spared' : List ℕ) (i : ℕ) → i < length spared → SparedTo spared spared' i → SparedTo spared (set spared' i (one_more (get_or spared' i 0))) (i + 1)
-spared_one spared spared' i in_List t =
-    let v = one_more (get_or spared' i 0) in
-    record {
-      kept = length-set spared' i v ∙ t.kept;
-      done = filled_one (λ k. one_more (get_or spared k 0)) spared' i v (omega (arith, t.kept)) t.done (ap one_more (t.rest i (omega arith)));
-      rest = λ k h. get_or-set_other spared' i k v 0 (λ p. omega arith) ∙ t.rest k (omega arith);
-    }

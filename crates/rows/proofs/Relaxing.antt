@@ -1,11 +1,10 @@
--- One more demand of a row, one more state, one more number of eight.
+-- One more demand of a row, one more state.
 use Prim.Native.Nat.{ℕ, ◌+◌, ◌*◌, ◌<◌, min}
 use native.Mathlib.Omega.{arith}
-use mathlib.Core.Path.{◌≡◌, refl, sym, ◌∙◌, ap, subst}
+use mathlib.Core.Path.{◌≡◌, refl, sym, ◌∙◌, subst}
 use mathlib.Core.Logic.{inl, inr, ⊎_elim}
 use mathlib.Core.List.{List}
-use lib.ListN.{length, get_or, set, length-set}
-use lib.Seq.{get_or-set_same, get_or-set_other}
+use lib.ListN.{get_or}
 use Rattle.optimum.specs.Routing.{sat}
 use Rattle.demand.proofs.Filling.{below}
 use Rattle.rows.specs.Rows.{tab, Shorter, StoredTo, RelaxedRow, next_at, StateSet, Permuted}
@@ -39,28 +38,6 @@ row_one row row' row'' v perm map base cost q from r u t e =
     here : (s : ℕ) → s < 8 → get_or v s 0 ≡ shorter s q
     here s l = let row_is = r.rest (q * 8 + s) (omega arith) in u s l ∙ rw (row_is, e) refl
 
--- at first no demand of a state is set
-pub state_none : (perm after : List ℕ) (s to : ℕ) → StateSet perm perm after s to 0
-state_none perm after s to = record { kept = refl; done = λ q h. absurd (omega arith); rest = λ q t l n. refl; past = λ k h. refl }
-
--- one more demand of a state
-pub state_one : (perm perm' after : List ℕ) (s to q v : ℕ) → s < 8 → q * 8 + s < length perm → StateSet perm perm' after s to q
-    → v ≡ next_at after to q → StateSet perm (set perm' (q * 8 + s) v) after s to (q + 1)
-state_one perm perm' after s to q v small in_row r e =
-    record {
-      kept = length-set perm' (q * 8 + s) v ∙ r.kept;
-      done = λ k h. ⊎_elim (λ l. get_or-set_other perm' (q * 8 + s) (k * 8 + s) v 0 (λ p. omega arith) ∙ r.done k l) (here k) (below k q h);
-      rest = λ k t l n. get_or-set_other perm' (q * 8 + s) (k * 8 + t) v 0 (λ p. n (omega arith)) ∙ r.rest k t l n;
-      past = λ k h. get_or-set_other perm' (q * 8 + s) k v 0 (λ p. omega arith) ∙ r.past k (omega arith);
-    }
-  where
-    here : (k : ℕ) → k ≡ q → tab (set perm' (q * 8 + s) v) s k ≡ next_at after to k
-    here k p =
-        ap (λ n. tab (set perm' (q * 8 + s) v) s n) p
-        ∙ get_or-set_same perm' (q * 8 + s) v 0 (omega (arith, r.kept))
-        ∙ e
-        ∙ ap (next_at after to) (sym p)
-
 -- at first no state is set
 pub permuted_none : (perm after steps : List ℕ) (weight : ℕ) → Permuted perm perm after steps weight 0
 permuted_none perm after steps weight = record { kept = refl; done = λ s q l h. absurd (omega arith); past = λ k h. refl }
@@ -77,18 +54,3 @@ permuted_one perm perm' perm'' after steps weight s small r t =
   where
     here : (q : ℕ) → q < weight → (k : ℕ) → k ≡ s → tab perm'' k q ≡ next_at after (get_or steps k 0) q
     here q l k p = subst (λ n. tab perm'' n q ≡ next_at after (get_or steps n 0) q) (sym p) (t.done q l)
-
--- at first no number is stored
-pub stored_none : (work row : List ℕ) (at : ℕ) → StoredTo work work row at 0
-stored_none work row at = record { kept = refl; done = λ k h. absurd (omega arith); rest = λ k h. refl }
-
--- one more number
-pub stored_one : (work work' row : List ℕ) (at i : ℕ) → at + i < length work → StoredTo work work' row at i → StoredTo work (set work' (at + i) (get_or row i 0)) row at (i + 1)
-stored_one work work' row at i in-work t =
-    record {
-      kept = length-set work' (at + i) (get_or row i 0) ∙ t.kept;
-      done = λ k h. ⊎_elim (λ l. get_or-set_other work' (at + i) (at + k) (get_or row i 0) 0 (λ p. omega arith) ∙ t.done k l)
-          (λ p. ap (λ n. get_or (set work' (at + i) (get_or row i 0)) (at + n) 0) p ∙ get_or-set_same work' (at + i) (get_or row i 0) 0
-          (omega (arith, t.kept)) ∙ ap (λ n. get_or row n 0) (sym p)) (below k i h);
-      rest = λ k h. get_or-set_other work' (at + i) k (get_or row i 0) 0 (λ p. ⊎_elim (λ l. omega arith) (λ l. omega arith) h) ∙ t.rest k (⊎_elim (λ l. inl l) (λ l. inr (omega arith)) h);
-    }

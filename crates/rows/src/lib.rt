@@ -6,14 +6,13 @@
 // The states have the numbers of machine/src/lib.rt: 0 nothing to 7 ending; 8, dead, has no place in a row.
 #![tactic(auto)]
 
-ghost use Rattle.std.specs.Prelude.{◌*◌, ◌+◌, ◌-◌, ◌<◌, ◌≤◌, min, length, cond, ◌≡◌};
+ghost use Rattle.std.specs.Prelude.{◌*◌, ◌+◌, ◌-◌, ◌<◌, ◌≤◌, length, cond, ◌≡◌};
 ghost use Rattle.demand.specs.Digits.{demands};
-ghost use Rattle.optimum.specs.Routing.{sat};
 ghost use Rattle.rows.specs.Pairs.{PairShorter, RelaxReady, RelaxedPair, SparedTo, ones_of};
-ghost use Rattle.rows.specs.Rows.{LivesAs, NoneTo, Permuted, StateSet, StoredTo, next_at, states};
+ghost use Rattle.rows.specs.Rows.{LivesAs, NoneTo, Permuted, StateSet, StoredTo, next_at, numbers, states};
 ghost use Rattle.std.specs.Int.Count.{ones};
 
-use demand::digits::{DEMANDS, wide};
+use demand::digits::DEMANDS;
 
 // The states that a row has places for.
 pub const STATES: usize = 8;
@@ -24,22 +23,27 @@ pub const NUMBERS: usize = DEMANDS * STATES;
 // What stands for no tour.
 pub const NONE: u16 = 65535;
 
-// The sum of two lengths, at most 65,535.
-fn plus(cost: u16, rest: u16) -> u16
-    ensures { result ≡ sat cost rest }
-{
-    if rest < NONE - cost {
-        cost + rest
-    } else {
-        NONE
-    }
+// Two rows side by side: the lengths, and the ones beside them.
+#[derive(Clone, Copy)]
+pub struct Rows {
+    pub lengths: [u16; NUMBERS],
+    pub ones: [u16; NUMBERS],
 }
 
-// The lesser of two.
-fn lesser(a: u16, b: u16) -> u16
-    ensures { result ≡ min a b }
-{
-    if b < a { b } else { a }
+impl Rows {
+    // Two rows to be filled.
+    pub const EMPTY: Rows = Rows {
+        lengths: [0; NUMBERS],
+        ones: [0; NUMBERS],
+    };
+}
+
+// The lengths of eight states, and the ones beside them. (With a const parameter in place of two structs, a number would stand in
+// every signature and clause that names a row.)
+#[derive(Clone, Copy)]
+struct Pair {
+    lengths: [u16; STATES],
+    ones: [u16; STATES],
 }
 
 // A number, if a test holds; 0 if not.
@@ -50,87 +54,56 @@ fn if_so(b: bool, v: u16) -> u16
 }
 
 // The ones that go with the lesser of two lengths: its own; of two equal lengths 'or' of both, the larger.
+#[tactic(auto, unfolding(crate::specs::Pairs::ones_of))]
 fn ones_of(here: u16, mine: u16, way: u16, theirs: u16) -> u16
     ensures { result ≡ ones_of here mine way theirs }
 {
-    let least = lesser(here, way);
+    let least = here.min(way);
     if_so(here == least, mine) | if_so(way == least, theirs)
-}
-
-// The lengths of eight states, and the ones beside them.
-#[derive(Clone, Copy)]
-pub struct Pair {
-    pub lengths: [u16; STATES],
-    pub ones: [u16; STATES],
 }
 
 // For each of eight states the shorter of its length and the way of that cost, with the ones that go with it. All are read before
 // any is written: the compiler then takes the eight at once.
-fn shorter<'a>(
-    row: &'a [u16],
-    spared: &'a [u16],
-    at: usize,
-    perm: &'a [u16],
-    theirs: &'a [u16],
-    from: usize,
-    cost: u16,
-) -> Pair
-    requires { (at + states ≤ length row.now) × (at + states ≤ length spared.now)
-        × (from + states ≤ length perm.now) × (from + states ≤ length theirs.now) }
-    ensures { PairShorter row.now spared.now at perm.now theirs.now from cost result }
+fn shorter(rows: &Rows, at: usize, way: &Rows, from: usize, cost: u16) -> Pair
+    requires { (at + states ≤ numbers) × (from + states ≤ numbers) }
+    ensures { PairShorter rows.now.lengths rows.now.ones at way.now.lengths way.now.ones from cost result }
 {
     let mut lengths = [0u16; STATES];
     let mut ones = [0u16; STATES];
-    let mut s = 0;
-    while s < STATES {
-        let here = row[at + s];
-        let mine = spared[at + s];
-        let way = plus(cost, perm[from + s]);
-        let other = theirs[from + s];
-        lengths[s] = lesser(here, way);
-        ones[s] = ones_of(here, mine, way, other);
-        s += 1;
+    for s in 0..STATES {
+        let here = rows.lengths[at + s];
+        let mine = rows.ones[at + s];
+        let there = cost.saturating_add(way.lengths[from + s]);
+        let theirs = way.ones[from + s];
+        lengths[s] = here.min(there);
+        ones[s] = ones_of(here, mine, there, theirs);
     }
     Pair { lengths, ones }
 }
 
-// Eight numbers into a row.
-fn put(row: &mut [u16], at: usize, v: [u16; STATES])
+// Eight numbers into a row. `copy_from_slice` would ask each time whether the two overlap: a row then took twice as long.
+fn put(row: &mut [u16], at: usize, eight: [u16; STATES])
     requires { at + states ≤ length row.old }
-    ensures { StoredTo row.old row.new v at states }
+    ensures { StoredTo row.old row.new eight at states }
 {
-    let mut s = 0;
-    while s < STATES {
-        row[at + s] = v[s];
-        s += 1;
+    for s in 0..STATES {
+        row[at + s] = eight[s];
     }
 }
 
 // For each demand and state the shorter of its length and the way of that cost to the demand that the map leads to, with the ones
 // that go with it.
-pub fn relax_row<'a>(
-    row: &mut [u16],
-    spared: &mut [u16],
-    perm: &'a [u16],
-    theirs: &'a [u16],
-    map: &'a [u16],
-    base: usize,
-    cost: u16,
-    weight: usize,
-)
-    requires { RelaxReady row.old spared.old perm.now theirs.now map.now base weight }
-    ensures { RelaxedPair row.old row.new spared.old spared.new
-        perm.now theirs.now map.now base cost weight }
+pub fn relax_row(rows: &mut Rows, way: &Rows, map: &[u16], base: usize, cost: u16, weight: usize)
+    requires { RelaxReady map.now base weight }
+    ensures { RelaxedPair rows.old.lengths rows.new.lengths rows.old.ones rows.new.ones
+        way.now.lengths way.now.ones map.now base cost weight }
 {
-    let mut q = 0;
-    while q < weight {
-        let from = wide(map[base + q]) * STATES;
-        let v = shorter(row, spared, q * STATES, perm, theirs, from, cost);
-        let lengths = v.lengths;
-        let ones = v.ones;
-        put(row, q * STATES, lengths);
-        put(spared, q * STATES, ones);
-        q += 1;
+    for q in 0..weight {
+        let from = usize::from(map[base + q]) * STATES;
+        let at = q * STATES;
+        let eight = shorter(rows, at, way, from, cost);
+        put(&mut rows.lengths, at, eight.lengths);
+        put(&mut rows.ones, at, eight.ones);
     }
 }
 
@@ -139,22 +112,20 @@ pub fn fill_none(row: &mut [u16], n: usize)
     requires { n ≤ length row.old }
     ensures { NoneTo row.old row.new n }
 {
-    let mut i = 0;
-    while i < n {
-        row[i] = NONE;
-        i += 1;
-    }
+    row[..n].fill(NONE);
 }
 
 // The number of a state in a row; 65,535 of the dead one, 8: as a length it is 'none', as ones it means nothing.
+#[tactic(auto, unfolding(crate::specs::Rows::next_at))]
 pub fn step_value(after: &[u16], to: usize, q: usize) -> u16
     requires { (q < demands) × (q * states + states ≤ length after.now) }
     ensures { result ≡ next_at after.now to q }
 {
     if to < STATES {
-        return after[q * STATES + to];
+        after[q * STATES + to]
+    } else {
+        NONE
     }
-    NONE
 }
 
 // One state of a row: the numbers of the state that a step leads to.
@@ -162,10 +133,8 @@ fn permute_state(perm: &mut [u16], after: &[u16], s: usize, to: usize, weight: u
     requires { (weight ≤ demands) × (s < states) × (weight * states ≤ length perm.old) × (weight * states ≤ length after.now) }
     ensures { StateSet perm.old perm.new after.now s to weight }
 {
-    let mut q = 0;
-    while q < weight {
+    for q in 0..weight {
         perm[q * STATES + s] = step_value(after, to, q);
-        q += 1;
     }
 }
 
@@ -174,10 +143,8 @@ pub fn permute(perm: &mut [u16], after: &[u16], steps: [usize; STATES], weight: 
     requires { (weight ≤ demands) × (weight * states ≤ length perm.old) × (weight * states ≤ length after.now) }
     ensures { Permuted perm.old perm.new after.now steps weight states }
 {
-    let mut s = 0;
-    while s < STATES {
-        permute_state(perm, after, s, steps[s], weight);
-        s += 1;
+    for (s, to) in steps.iter().enumerate() {
+        permute_state(perm, after, s, *to, weight);
     }
 }
 
@@ -185,14 +152,7 @@ pub fn permute(perm: &mut [u16], after: &[u16], steps: [usize; STATES], weight: 
 pub fn lives(steps: [usize; STATES]) -> bool
     ensures { LivesAs steps result }
 {
-    let mut s = 0;
-    while s < STATES {
-        if steps[s] < STATES {
-            return true;
-        }
-        s += 1;
-    }
-    false
+    steps.iter().any(|to| *to < STATES)
 }
 
 // A row of ones with an aisle more that is spared: the first n numbers have a one more each. Sixteen ones stay sixteen.
@@ -200,10 +160,8 @@ pub fn spare_one(spared: &mut [u16], n: usize)
     requires { n ≤ length spared.old }
     ensures { SparedTo spared.old spared.new n }
 {
-    let mut i = 0;
-    while i < n {
-        spared[i] = spared[i] % 32768 * 2 + 1;
-        i += 1;
+    for ones in &mut spared[..n] {
+        *ones = *ones % 32768 * 2 + 1;
     }
 }
 
@@ -211,6 +169,6 @@ pub fn spare_one(spared: &mut [u16], n: usize)
 pub fn entered_of(r: usize, v: u16) -> usize
     ensures { result ≡ r - ones v }
 {
-    let spared = u16::count_ones(v) as usize;
-    if spared < r { r - spared } else { 0 }
+    // A count of ones is a u32, which no `usize::from` takes.
+    r.saturating_sub(u16::count_ones(v) as usize)
 }

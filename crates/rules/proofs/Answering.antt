@@ -9,12 +9,28 @@ use lib.Dec.{ltb}
 use lib.ListN.{length}
 use borrow.Author.Tests.{lt-ltb, le-ltb}
 use Rattle.rules.specs.declared.Refusal.{Refusal}
-use Rattle.rules.specs.declared.Refusal.TheVariants.{WorkArea, NotAJobFile, SheetSpace}
+use Rattle.rules.specs.declared.Refusal.TheVariants.{WorkArea, NotAJobFile, LayoutBounds, StockBounds, CellTwice, HoursBounds}
+use Rattle.rules.specs.declared.Refusal.TheVariants.{ListBounds, ArticleTwice, TooHeavy, ShortOfStock, SheetSpace, PageSpace}
 use Rattle.rules.specs.Jobs.{Job}
 use Rattle.rules.specs.JobFile.{read_job}
 use Rattle.rules.specs.Sheet.{sheet_text}
-use Rattle.rules.specs.Refusals.{work_limit, table, first_row, job_rows, job_refusal, work_after, Checked, good, bad, check_job, check_bytes}
+use Rattle.rules.specs.Refusals.{work_limit, table, number_of, first_row, job_rows, job_refusal, work_after, Checked, good, bad, check_job, check_bytes}
 use Rattle.rules.specs.Answers.{refused, served, decided, answer}
+
+-- a refusal's number is at most 12
+pub number_small : (r : Refusal) → number_of r ≤ 12
+number_small WorkArea = omega arith
+number_small NotAJobFile = omega arith
+number_small LayoutBounds = omega arith
+number_small StockBounds = omega arith
+number_small CellTwice = omega arith
+number_small HoursBounds = omega arith
+number_small ListBounds = omega arith
+number_small ArticleTwice = omega arith
+number_small TooHeavy = omega arith
+number_small ShortOfStock = omega arith
+number_small SheetSpace = omega arith
+number_small PageSpace = omega arith
 
 -- rows in front of other rows
 abbrev pub or_rows : Option Refusal → List (Bool × Refusal) → Option Refusal

@@ -25,7 +25,9 @@ use Rattle.rules.specs.Jobs.{Job}
 use Rattle.rules.specs.Plans.{Plan, WellFormed, Fits, action_at, passage_at, aisle_treads, back_treads, front_treads, multiplicity, length_of, plan_length, entered}
 use Rattle.rules.specs.Lawful.{TreadsNothing}
 use Rattle.rules.specs.Lengths.{action_length, passage_length}
-use Rattle.rules.specs.Policies.{action_named, passage_named, Entered, First, Last, End, leftmost, rightmost, EnteredAt, walk_back_end, TraversalRule, MidpointRule, OwnRule, PolicyRules, Follows}
+use Rattle.rules.specs.declared.End.{End}
+use Rattle.rules.specs.declared.End.TheVariants.{Leftmost, Rightmost}
+use Rattle.rules.specs.Policies.{action_named, passage_named, Entered, First, Last, EnteredAt, walk_back_end, TraversalRule, MidpointRule, OwnRule, PolicyRules, Follows}
 use Rattle.rules.specs.Machine.{is_void, is00, treads_nothing}
 use Rattle.rules.specs.FirstWalk.{first_from, steps_of, first_walk}
 use Rattle.rules.specs.BestPlan.{empty_plan}
@@ -217,8 +219,8 @@ module _ (job : Job) where
   -- none is at an end of those entered
   empty_end : (end : End) (j : ℕ) → EnteredAt end idle j → ⊥
   unfolding First Last
-  empty_end leftmost j f = empty_entered j f.0
-  empty_end rightmost j l = empty_entered j l.0
+  empty_end Leftmost j f = empty_entered j f.0
+  empty_end Rightmost j l = empty_entered j l.0
 
   empty_traversal : TraversalRule (side_of job.layout) job.layout idle
   empty_traversal =

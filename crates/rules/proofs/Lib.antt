@@ -26,3 +26,4 @@ pub mod Jobs
 pub mod Looked
 pub mod OpenAlike
 pub mod OpenHours
+pub mod Chains

@@ -76,6 +76,11 @@ sum_from_append f a b (suc n) k e =
     let one_less : suc n + k ≡ suc (n + k) = omega arith in
     rw one_less (omega (arith, sum_from_append f (suc a) b n k (omega arith)))
 
+-- how many numbers there are from a upwards
+pub length_from : (a n : ℕ) → length (from a n) ≡ n
+length_from a zero = refl
+length_from a (suc n) = ap suc (length_from (suc a) n)
+
 -- the members of the numbers from a upwards
 pub member_from : {k : ℕ} (a n : ℕ) → Memᴰ k (from a n) → (a ≤ k) × (k < a + n)
 member_from a zero m = absurd (Memᴰ.not-nil m)

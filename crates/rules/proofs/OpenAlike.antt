@@ -17,7 +17,7 @@ use Rattle.rules.specs.declared.StockRecord.{StockRecord}
 use Rattle.rules.specs.declared.OrderLine.{OrderLine}
 use Rattle.rules.specs.declared.Refusal.{Refusal}
 use Rattle.rules.specs.declared.Refusal.TheVariants.{PageSpace}
-use Rattle.rules.specs.declared.Reply.TheVariants.{Served}
+use Rattle.std.specs.declared.result.Result.TheVariants.{Ok}
 use Rattle.rules.specs.Turned.{seen}
 use Rattle.rules.specs.Lists.{from, concat_of, sum_of, all_of, any_of, any_two, select, head_or}
 use Rattle.rules.specs.Store.{Point, position, back_height}
@@ -164,7 +164,7 @@ module _ (job : Job) (stock : List StockRecord) (hours : Hours) where
         where
           go : (r : Option Refusal) → decided r (some changed) sheet work ≡ decided r (some job) sheet work
           go (some r) = refl
-          go none = ap (λ text. record { reply = Served (length text); sheet = text ++ drop (length text) sheet; work = cleared work }) same_sheet
+          go none = ap (λ text. record { reply = Ok (length text); sheet = text ++ drop (length text) sheet; work = cleared work }) same_sheet
 
       -- that of a page call too
       pub same_page_answer : (sheet page work : List ℕ)
@@ -178,7 +178,7 @@ module _ (job : Job) (stock : List StockRecord) (hours : Hours) where
           call : List ℕ → List ℕ → PageAnswer
           call text lines =
               record {
-                call = record { reply = Served (length text); sheet = text ++ drop (length text) sheet; work = cleared work };
+                call = record { reply = Ok (length text); sheet = text ++ drop (length text) sheet; work = cleared work };
                 count = length lines;
                 page = lines ++ drop (length lines) page;
               }

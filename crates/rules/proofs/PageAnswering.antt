@@ -10,7 +10,7 @@ use lib.ListN.{length}
 use borrow.Author.Tests.{lt-ltb, le-ltb}
 use Rattle.rules.specs.declared.Refusal.{Refusal}
 use Rattle.rules.specs.declared.Refusal.TheVariants.{WorkArea, NotAJobFile, PageSpace}
-use Rattle.rules.specs.declared.Reply.TheVariants.{Served, Refused}
+use Rattle.std.specs.declared.result.Result.TheVariants.{Ok, Err}
 use Rattle.rules.specs.Jobs.{Job}
 use Rattle.rules.specs.JobFile.{read_job}
 use Rattle.rules.specs.Sheet.{sheet_text}
@@ -40,7 +40,7 @@ module _ (bytes sheet page work : List ℕ) where
   unfolding answer refused served
   page_refused_lem r e = by_rows ∙ go (read_job bytes) (first_row (table (read_job bytes) sheet work)) refl (ap (λ a. a.reply) e)
     where
-      go : (read : Option Job) (q : Option Refusal) → first_row (table read sheet work) ≡ q → (decided q read sheet work).reply ≡ Refused r
+      go : (read : Option Job) (q : Option Refusal) → first_row (table read sheet work) ≡ q → (decided q read sheet work).reply ≡ Err r
           → page_by sheet page work q read ≡ page_refused r sheet page work
       go read (some p) t f = let same : p ≡ r = cc in ap (λ x. page_refused x sheet page work) same
       go (some job) none t f = let z : ◌≡◌ {A = ℕ} 0 1 = cc in absurd (omega arith)
@@ -56,7 +56,7 @@ module _ (bytes sheet page work : List ℕ) where
     unfolding answer refused served
     by_space = by_rows ∙ go (read_job bytes) read (first_row (table (read_job bytes) sheet work)) (ap (λ a. a.reply) e)
       where
-        go : (o : Option Job) → o ≡ some job → (q : Option Refusal) → (decided q o sheet work).reply ≡ Served (length (sheet_text job))
+        go : (o : Option Job) → o ≡ some job → (q : Option Refusal) → (decided q o sheet work).reply ≡ Ok (length (sheet_text job))
             → page_by sheet page work q o ≡ page_decided (first_row (page_row sheet page work (some job))) (some job) sheet page work
         go o f none g = ap (page_by sheet page work none) f
         go o f (some r) g = let z : ◌≡◌ {A = ℕ} 0 1 = cc in absurd (omega arith)

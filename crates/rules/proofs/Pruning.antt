@@ -23,7 +23,9 @@ use Rattle.rules.specs.Lists.{head_or, select, concat_of, sum_of, all_of}
 use Rattle.rules.specs.Lengths.{action_length, passage_length}
 use Rattle.rules.specs.Jobs.{Job, empty_list}
 use Rattle.rules.specs.Plans.{Plan, Fits, WellFormed, plan_length, plan_passes}
-use Rattle.rules.specs.Policies.{passage_named, End, leftmost, rightmost, walk_back_end, entered_aisles}
+use Rattle.rules.specs.declared.End.{End}
+use Rattle.rules.specs.declared.End.TheVariants.{Leftmost, Rightmost}
+use Rattle.rules.specs.Policies.{passage_named, walk_back_end, entered_aisles}
 use Rattle.rules.specs.Machine.{State, nothing, closed, at_front, at_back, odd, joined, split, ending, dead, run_from, is_closed, treads_nothing, accepts}
 use Rattle.rules.specs.Machine.{lawful_step, traversal_once, traversal_step, midpoint_step, policy_step, between_test, action_possible, action_step, cross_step, passage_step}
 use Rattle.rules.specs.Serving.{serves}
@@ -43,8 +45,8 @@ lawful_dead Once = refl
 lawful_dead Twice = refl
 
 through_dead : (end : End) → traversal_once end dead ≡ dead
-through_dead leftmost = refl
-through_dead rightmost = refl
+through_dead Leftmost = refl
+through_dead Rightmost = refl
 
 traversal_dead : (end : End) (a : Action) → traversal_step end a dead ≡ dead
 traversal_dead end Void = refl

@@ -24,7 +24,7 @@ use Rattle.rules.specs.declared.Direction.{Direction}
 use Rattle.rules.specs.declared.Direction.TheVariants.{Back, Front, Left, Right}
 use Rattle.rules.specs.declared.Refusal.{Refusal}
 use Rattle.rules.specs.declared.Refusal.TheVariants.{PageSpace}
-use Rattle.rules.specs.declared.Reply.TheVariants.{Served}
+use Rattle.std.specs.declared.result.Result.TheVariants.{Ok}
 use Rattle.rules.specs.Turned.{seen_from, seen, passage_from, seen_passage}
 use Rattle.rules.specs.Lists.{from, sum_of, all_of, concat_of, select, head_or}
 use Rattle.rules.specs.Store.{Point, Edge, along, front, back, posts_before, WithoutPosts, with_posts, cell_position, aisle_length, position, back_height, same_point, side_in, height_at, depot_point, distance, edges_of, within, posts_in_bounds, PostsWithin, layout_in_bounds}
@@ -255,7 +255,7 @@ module _ (p q : Posts) (same : SamePosts p q) (job : Job) where
     where
       go : (r : Option Refusal) → decided r (some here) sheet work ≡ decided r (some there) sheet work
       go (some r) = refl
-      go none = ap (λ text. record { reply = Served (length text); sheet = text ++ drop (length text) sheet; work = cleared work }) same_sheet
+      go none = ap (λ text. record { reply = Ok (length text); sheet = text ++ drop (length text) sheet; work = cleared work }) same_sheet
 
   -- and so is that of a call which is lent a page
   pub same_page_answer : (sheet page work : List ℕ)

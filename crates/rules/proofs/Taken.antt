@@ -73,7 +73,7 @@ first_found t x xs (mathlib.Core.List.Memᴰ.tail {x = y} {xs = ys} m) h n = go 
     go false k rest = rest k
 
 -- the record of a cell is in the stock, and there
-record_there : (stock : List StockRecord) (x : Point) (r : StockRecord) → record_at stock x ≡ some r → Memᴰ r stock × (r.aisle ≡ x.aisle) × (r.cell ≡ x.height)
+pub record_there : (stock : List StockRecord) (x : Point) (r : StockRecord) → record_at stock x ≡ some r → Memᴰ r stock × (r.aisle ≡ x.aisle) × (r.cell ≡ x.height)
 unfolding record_at
 record_there stock x r e =
     let t = first_member (λ q. eqb q.aisle x.aisle && eqb q.cell x.height) stock r e in

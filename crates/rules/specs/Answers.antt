@@ -3,12 +3,16 @@ use Rattle.std.specs.Prelude.{ℕ, ◌+◌, List, ◌++◌, length, take, drop, 
 use Rattle.std.proofs.Math.Option.{Option, none, some}
 use Rattle.rules.specs.declared.Refusal.{Refusal}
 use Rattle.rules.specs.declared.Refusal.TheVariants.{NotAJobFile}
-use Rattle.rules.specs.declared.Reply.{Reply}
-use Rattle.rules.specs.declared.Reply.TheVariants.{Served, Refused}
+use Rattle.std.specs.declared.result.Result.{Result}
+use Rattle.std.specs.declared.result.Result.TheVariants.{Ok, Err}
 use Rattle.rules.specs.Jobs.{Job}
 use Rattle.rules.specs.JobFile.{line_feed, header, field, read_job}
 use Rattle.rules.specs.Refusals.{work_limit, table, number_of, cleared, work_after, first_row}
 use Rattle.rules.specs.Sheet.{sheet_text}
+
+-- what a call answers: the sheet's byte count, or the cause of the refusal
+abbrev pub Reply : Type 0
+Reply = Result ℕ Refusal
 
 -- what a call answers, and what the lent sheet and the lent work area hold after it
 pub record Answer : Type 0 where
@@ -18,23 +22,23 @@ pub record Answer : Type 0 where
 
 -- the number that a call returns: 0 for a served job
 abbrev pub reply_number : Reply → ℕ
-reply_number (Served n) = 0
-reply_number (Refused r) = number_of r
+reply_number (Ok n) = 0
+reply_number (Err r) = number_of r
 
 -- the length that a call returns: the sheet's byte count, 0 for a refused job
 abbrev pub reply_length : Reply → ℕ
-reply_length (Served n) = n
-reply_length (Refused r) = 0
+reply_length (Ok n) = n
+reply_length (Err r) = 0
 
 -- a refusal: the sheet as it was, the work area as the table says
 unfoldable pub refused : Refusal → List ℕ → List ℕ → Answer
-refused r sheet work = record { reply = Refused r; sheet = sheet; work = work_after r work }
+refused r sheet work = record { reply = Err r; sheet = sheet; work = work_after r work }
 
 -- a served job: the text of its sheet in front, bytes past it unchanged, the work area all zero
 unfoldable pub served : Job → List ℕ → List ℕ → Answer
 served job sheet work =
     record {
-      reply = Served (length (sheet_text job));
+      reply = Ok (length (sheet_text job));
       sheet = sheet_text job ++ drop (length (sheet_text job)) sheet;
       work = cleared work;
     }
@@ -55,8 +59,8 @@ host_answer bytes sheet = answer bytes sheet (replicate work_limit 0)
 
 -- the planning host's number: the sheet's byte count for a served job, otherwise 65,536 plus the refusal's number
 abbrev pub host_number : Reply → ℕ
-host_number (Served n) = n
-host_number (Refused r) = 65536 + number_of r
+host_number (Ok n) = n
+host_number (Err r) = 65536 + number_of r
 
 -- sheet space that always suffices
 abbrev pub sheet_limit : ℕ
@@ -68,8 +72,8 @@ letter_r = 82  -- R
 
 -- what the program prints: the sheet, or `R 1` and a line with the refusal's number
 abbrev pub printed : Reply → List ℕ → List ℕ
-printed (Served n) sheet = take n sheet
-printed (Refused r) sheet = header letter_r 1 ++ field line_feed (number_of r)
+printed (Ok n) sheet = take n sheet
+printed (Err r) sheet = header letter_r 1 ++ field line_feed (number_of r)
 
 -- the program's output for job bytes, in sheet space that always suffices
 unfoldable pub output : List ℕ → List ℕ

@@ -18,7 +18,9 @@ use Rattle.rules.specs.Hours.{is_open}
 use Rattle.rules.specs.Jobs.{Job, empty_list, holds_listed, cell_holds_listed}
 use Rattle.rules.specs.Plans.{Plan}
 use Rattle.rules.specs.Turned.{seen, seen_passage}
-use Rattle.rules.specs.Policies.{action_named, passage_named, End, leftmost, rightmost, walk_back_end, halved, Part, parts_of, turn_of, stops_on, untrodden, through}
+use Rattle.rules.specs.declared.End.{End}
+use Rattle.rules.specs.declared.End.TheVariants.{Leftmost, Rightmost}
+use Rattle.rules.specs.Policies.{action_named, passage_named, walk_back_end, halved, Part, parts_of, turn_of, stops_on, untrodden, through}
 
 -- what has been trodden so far, seen from the right
 pub data State : Type 0 where
@@ -59,8 +61,8 @@ lawful_step Twice s = row joined joined joined odd joined joined s
 
 -- the state after ONCE under TRAVERSAL, by the end at which it walks an aisle back
 abbrev pub traversal_once : End → State → State
-traversal_once leftmost s = wide_row odd odd dead ending dead dead odd s
-traversal_once rightmost s = row odd odd dead joined dead dead s
+traversal_once Leftmost s = wide_row odd odd dead ending dead dead odd s
+traversal_once Rightmost s = row odd odd dead joined dead dead s
 
 -- TRAVERSAL: aisles are walked through; BOTTOM only in the entered one at that end
 abbrev pub traversal_step : End → Action → State → State

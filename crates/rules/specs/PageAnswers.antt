@@ -3,8 +3,8 @@ use Rattle.std.specs.Prelude.{ℕ, ◌+◌, ◌*◌, List, ◌++◌, length, tak
 use Rattle.std.proofs.Math.Option.{Option, none, some}
 use Rattle.rules.specs.declared.Refusal.{Refusal}
 use Rattle.rules.specs.declared.Refusal.TheVariants.{NotAJobFile}
-use Rattle.rules.specs.declared.Reply.{Reply}
-use Rattle.rules.specs.declared.Reply.TheVariants.{Served, Refused}
+use Rattle.rules.specs.Answers.{Reply}
+use Rattle.std.specs.declared.result.Result.TheVariants.{Ok, Err}
 use Rattle.rules.specs.Jobs.{Job}
 use Rattle.rules.specs.JobFile.{read_job}
 use Rattle.rules.specs.Refusals.{work_limit, page_table, first_row}
@@ -55,8 +55,8 @@ page_limit = 6375
 
 -- what the program `page` prints: the page, or `R 1` and a line with the refusal's number
 abbrev pub page_printed : Reply → ℕ → List ℕ → List ℕ
-page_printed (Served n) count page = take count page
-page_printed (Refused r) count page = printed (Refused r) page
+page_printed (Ok n) count page = take count page
+page_printed (Err r) count page = printed (Err r) page
 
 -- its output for job bytes, in sheet space and page space that always suffice
 unfoldable pub page_output : List ℕ → List ℕ

@@ -3,19 +3,12 @@ use Rattle.std.specs.Prelude.{ℕ, suc, ◌*◌, ◌≤◌, ◌<◌, ◌≡◌, 
 use Rattle.rules.specs.declared.Layout.{Layout}
 use Rattle.rules.specs.declared.Action.{Action}
 use Rattle.rules.specs.declared.Action.TheVariants.{Void, Bottom, Top, Gap, Once, Twice}
+use Rattle.rules.specs.declared.Kind.{Kind}
+use Rattle.rules.specs.declared.Kind.TheVariants.{Void as VOID, Bottom as BOTTOM, Top as TOP, Gap as GAP, Once as ONCE, Twice as TWICE}
 use Rattle.rules.specs.declared.Passage.{Passage}
 use Rattle.rules.specs.declared.Passage.TheVariants.{P00, P02, P11, P20, P22}
 use Rattle.rules.specs.Lists.{sum_of, nth}
 use Rattle.rules.specs.Store.{Edge, along, front, back, distance, edges_of}
-
--- the kinds of actions, in document 01's words
-pub data Kind : Type 0 where
-  VOID : Kind
-  BOTTOM : Kind
-  TOP : Kind
-  GAP : Kind
-  ONCE : Kind
-  TWICE : Kind
 
 -- the kind of an action
 abbrev pub kind_of : Action → Kind

@@ -3,10 +3,14 @@
 use Rattle.std.specs.Prelude.{ℕ, suc, ◌+◌, ◌*◌, ◌-◌, ◌%◌, ◌≤◌, ◌<◌, ◌≡◌, Bool, true, false, cond, ◌&&◌, ltb, leb, eqb}
 use mathlib.Core.List.{List, [], ◌∷◌, ◌++◌, Memᴰ}
 use Rattle.rules.specs.declared.Layout.{Layout}
+use Rattle.rules.specs.declared.End.{End}
+use Rattle.rules.specs.declared.End.TheVariants.{Leftmost, Rightmost}
 use Rattle.rules.specs.declared.Policy.{Policy}
 use Rattle.rules.specs.declared.Policy.TheVariants.{Exact, Return, Traversal, Midpoint, Composite, Largest}
 use Rattle.rules.specs.declared.Action.{Action}
 use Rattle.rules.specs.declared.Action.TheVariants.{Void, Bottom, Top, Gap, Once, Twice}
+use Rattle.rules.specs.declared.Kind.{Kind}
+use Rattle.rules.specs.declared.Kind.TheVariants.{Void as VOID, Bottom as BOTTOM, Top as TOP, Gap as GAP, Once as ONCE, Twice as TWICE}
 use Rattle.rules.specs.declared.Passage.{Passage}
 use Rattle.rules.specs.declared.Passage.TheVariants.{P00, P02, P11, P20, P22}
 use Rattle.rules.specs.Lists.{from, sum_of, any_of, select}
@@ -15,7 +19,7 @@ use Rattle.rules.specs.declared.Side.TheVariants.{FrontSide, BackSide}
 use Rattle.rules.specs.Store.{side_of, along, aisle_length, position, back_height, distance}
 use Rattle.rules.specs.Hours.{Hours, is_open}
 use Rattle.rules.specs.Jobs.{Job, holds_listed, cell_holds_listed}
-use Rattle.rules.specs.Plans.{Plan, Kind, VOID, BOTTOM, TOP, GAP, ONCE, TWICE, kind_of, kind_rank, action_at, passage_at, aisle_treads, back_treads, front_treads, entered}
+use Rattle.rules.specs.Plans.{Plan, kind_of, kind_rank, action_at, passage_at, aisle_treads, back_treads, front_treads, entered}
 use Rattle.rules.specs.Lawful.{LawfulFor}
 
 -- BOTTOM, where a policy names it without TOP: with the depot at the back it reads TOP
@@ -84,19 +88,14 @@ abbrev pub WalkedFrom : Side → Action → Type 0
 WalkedFrom FrontSide a = IsBottom a
 WalkedFrom BackSide a = IsTop a
 
--- an end of the row of entered aisles
-pub data End : Type 0 where
-  leftmost : End
-  rightmost : End
-
 -- the entered aisle at an end
 abbrev pub EnteredAt : End → Plan → ℕ → Type 0
-EnteredAt leftmost plan j = First plan j
-EnteredAt rightmost plan j = Last plan j
+EnteredAt Leftmost plan j = First plan j
+EnteredAt Rightmost plan j = Last plan j
 
 -- the end at which TRAVERSAL walks an aisle back: the left one where 2·d exceeds m + 1 (the depot lies to the right), otherwise the right one
 abbrev pub walk_back_end : Layout → End
-walk_back_end z = cond (ltb (z.aisles + 1) (2 * z.depot)) leftmost rightmost
+walk_back_end z = cond (ltb (z.aisles + 1) (2 * z.depot)) Leftmost Rightmost
 
 -- the aisle walked back under TRAVERSAL
 abbrev pub WalkedBack : Layout → Plan → ℕ → Type 0

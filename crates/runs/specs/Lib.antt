@@ -1,1 +1,1 @@
-pub mod Lettered
+pub mod Leading

@@ -1,4 +1,4 @@
 -- Laws of the sheet and its writers.
-pub mod SectionTexts
+pub mod Mapped
 pub mod SheetLaws
 pub mod SheetFits

@@ -29,20 +29,14 @@ use Rattle.rules.specs.Walks.{Walk, letter_rank}
 use Rattle.rules.specs.FirstWalk.{first_walk}
 use Rattle.rules.specs.Picks.{cells_of, record_at, found, less_of, taken, add_pick, picks_from, passed_records, picks_of}
 use Rattle.rules.specs.Refusals.{Admitted}
-use Rattle.rules.specs.JobFile.{space, line_feed, numeral, field, section_text}
+use Rattle.rules.specs.JobFile.{space, line_feed, numeral, field, policy_word, section_text}
 use Rattle.rules.specs.Sheet.{letter_t, letter_a, letter_c, letter_p, letter_w, action_text, passage_text, pick_text, run_text, add_step, runs_of, sheet_of}
-use Rattle.rules.proofs.Lists.{sum_below, member_concat}
+use Rattle.rules.proofs.Lists.{sum_below, member_concat, concat_length, length_from}
 use Rattle.rules.proofs.Numbers.{numeral_induction}
 use Rattle.rules.proofs.Lengths.{well_formed_fits}
 use Rattle.rules.proofs.Ceiling.{plan_length_57280}
 use Rattle.rules.proofs.Admission.{layout_within, stock_within, open_in_stock}
-use Rattle.lines.specs.Written.{policy_text}
 use Rattle.lines.proofs.Sizes.{digits_most, field_size, header_size, run_size, total_size, pick_size}
-
--- the length of lists, one behind the other
-concat_length : {A B : Type 0} (f : A → List B) (xs : List A) → length (concat_of f xs) ≡ sum_of (λ x. length (f x)) xs
-concat_length f [] = refl
-concat_length f (x ∷ xs) = rw (length-append, concat_length f xs)
 
 -- if each of them is bounded
 concat_most : {A B : Type 0} (f : A → List B) (b : ℕ) (xs : List A) → ((x : A) → length (f x) ≤ b) → length (concat_of f xs) ≤ length xs * b
@@ -59,8 +53,7 @@ section_most : {A : Type 0} (letter : ℕ) (f : A → List ℕ) (xs : List A) (b
 section_most letter f xs b h l =
     omega (arith, section_length letter f xs, digits_most 2 (length xs) l, sum_below (λ x. length (f x)) b xs h)
 
-policy_most : (policy : Policy) → length (policy_text policy) ≤ 11
-unfolding policy_text
+policy_most : (policy : Policy) → length (policy_word policy) ≤ 9
 policy_most Exact = omega arith
 policy_most Return = omega arith
 policy_most Traversal = omega arith
@@ -157,14 +150,10 @@ found_most b none = omega arith
 found_most true (some r) = omega arith
 found_most false (some r) = omega arith
 
-from_length : (a n : ℕ) → length (from a n) ≡ n
-from_length a zero = refl
-from_length a (suc n) = ap suc (from_length (suc a) n)
-
 -- at most 384 cells
 cells_most : (z : Layout) → LayoutWithin z → length (cells_of z) ≤ 384
 unfolding cells_of
-cells_most z w = omega (arith, concat_most row 24 (from 1 z.aisles) row_most, from_length 1 z.aisles, w.aisles)
+cells_most z w = omega (arith, concat_most row 24 (from 1 z.aisles) row_most, length_from 1 z.aisles, w.aisles)
   where
     cell : ℕ → ℕ → Point
     cell j c = record { aisle = j; height = c }
@@ -173,7 +162,7 @@ cells_most z w = omega (arith, concat_most row 24 (from 1 z.aisles) row_most, fr
     row j = map (cell j) (from 1 z.cells)
 
     row_most : (j : ℕ) → length (row j) ≤ 24
-    row_most j = omega (arith, length-map (from 1 z.cells) (cell j), from_length 1 z.cells, w.cells)
+    row_most j = omega (arith, length-map (from 1 z.cells) (cell j), length_from 1 z.cells, w.cells)
 
 -- so a job has at most 384 picks
 picks_most : (job : Job) (plan : Plan) → LayoutWithin job.layout → length (picks_of job plan) ≤ 384

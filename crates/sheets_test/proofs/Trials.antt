@@ -1,8 +1,10 @@
 -- The two jobs, tried: each row of the table of refusals on a job, and each cell and each aisle of a shelf.
 use Prim.Native.Nat.{ℕ, ◌-◌, ◌≤◌}
+use Rattle.std.specs.Prelude.{Option, Some, None}
+use Rattle.std.specs.Option.{option_eq}
 use native.Mathlib.Omega.{arith}
-use mathlib.Core.Path.{◌≡◌, refl, sym}
-use mathlib.Core.Bool.{Bool, true, false, cond, not, ◌&&◌}
+use mathlib.Core.Path.{◌≡◌, refl, sym, ap}
+use mathlib.Core.Bool.{Bool, true, false, cond, not, ◌&&◌, true≢false}
 use lib.Dec.{eqb}
 use lib.ListN.{get_or}
 use borrow.Author.Tests.{eqb-true}
@@ -32,7 +34,7 @@ top_admitted =
 -- a shelf has what a cell holds
 abbrev cell_tried : Job → Shelf → ℕ → ℕ → Bool
 cell_tried job shelf j c =
-    eqb (get_or shelf.line (cell_number j c) 0) (line_of job.lines (record_at (open_stock job) (record { aisle = j; height = c })))
+    option_eq eqb (get_or shelf.line (cell_number j c) None) (line_of job.lines (record_at (open_stock job) (record { aisle = j; height = c })))
     && eqb (get_or shelf.quantity (cell_number j c) 0) (quantity_of (record_at (open_stock job) (record { aisle = j; height = c })))
 
 -- and whether an aisle is open
@@ -49,6 +51,13 @@ same_told true b e = e
 same_told false true e = sym e
 same_told false false e = refl
 
+-- and two lines
+same_line : (k l : Option ℕ) → option_eq eqb k l ≡ true → k ≡ l
+same_line None None e = refl
+same_line None (Some l) e = absurd (true≢false (sym e))
+same_line (Some k) None e = absurd (true≢false (sym e))
+same_line (Some k) (Some l) e = ap Some (eqb-true k l e)
+
 -- then it is the job's
 pub shelf_tried_lem : (job : Job) (shelf : Shelf) → shelf_tried job shelf ≡ true → ShelfOf job shelf
 shelf_tried_lem job shelf e =
@@ -62,10 +71,10 @@ shelf_tried_lem job shelf e =
     tried = both_true _ _ e
 
     at : (j c : ℕ) → 1 ≤ j → j ≤ 16 → 1 ≤ c → c ≤ 24
-        → (get_or shelf.line (cell_number j c) 0 ≡ line_of job.lines (record_at (open_stock job) (record { aisle = j; height = c })))
+        → (get_or shelf.line (cell_number j c) None ≡ line_of job.lines (record_at (open_stock job) (record { aisle = j; height = c })))
         × (get_or shelf.quantity (cell_number j c) 0 ≡ quantity_of (record_at (open_stock job) (record { aisle = j; height = c })))
     at j c p q r s =
         let row : all_of (cell_tried job shelf j) (from 1 24) ≡ true =
         (all_true (λ i. all_of (cell_tried job shelf i) (from 1 24)) (from 1 16)).0 tried.0 j (from_member j 1 16 p (omega arith)) in
         let both = both_true _ _ ((all_true (cell_tried job shelf j) (from 1 24)).0 row c (from_member c 1 24 r (omega arith))) in
-        (eqb-true _ _ both.0, eqb-true _ _ both.1)
+        (same_line _ _ both.0, eqb-true _ _ both.1)

@@ -4,28 +4,33 @@
 mod top_job;
 mod worked_job;
 
-ghost use Rattle.sheets.specs.Parts.{CountsWithin};
+ghost use Rattle.std.specs.Prelude.{◌≤◌, length};
 
-use rules::Policy;
+use rules::{Direction, Policy, Run};
+use sheets::Sheet;
 use std::io::{Result, Write};
-use values::{PickList, PlanValue, RunList};
+use values::RunList;
+
+// The runs of a walk.
+fn walk_of(runs: &[(Direction, usize)]) -> RunList
+    requires { length runs.now ≤ 860 }
+{
+    let mut walk = RunList::new();
+    for (direction, steps) in runs {
+        walk.push(Run {
+            direction: *direction,
+            steps: *steps,
+        });
+    }
+    walk
+}
 
 // Prints the sheet with these parts, if it has at most 512 bytes.
-fn show(
-    rt: &HostRuntime,
-    policy: Policy,
-    total: usize,
-    plan: PlanValue,
-    picks: PickList,
-    runs: RunList,
-) -> Result<()>
-    requires { CountsWithin plan picks runs }
-{
-    let size = sheets::sheet::sheet_size(policy, total, plan, picks, runs);
-    let mut sheet = [0u8; 512];
-    if size <= 512 {
-        let n = sheets::sheet::write_sheet(&mut sheet, policy, total, plan, picks, runs);
-        std::io::writer(rt).write_all(&sheet[..n])?;
+fn show(rt: &HostRuntime, sheet: &Sheet) -> Result<()> {
+    let mut space = [0; 512];
+    if sheet.size() <= space.len() {
+        let size = sheet.write(&mut space);
+        std::io::writer(rt).write_all(&space[..size])?;
     }
     Ok(())
 }
@@ -33,15 +38,29 @@ fn show(
 // Prints the sheet of the worked example.
 fn print_worked(rt: &HostRuntime) -> Result<()> {
     let plan = worked_job::plan();
-    let picks = picks::picks(worked_job::lines(), 3, worked_job::shelf(), plan);
-    show(rt, Policy::Exact, 14, plan, picks, worked_job::runs())
+    let picks = picks::picks(worked_job::lines(), 3, &worked_job::shelf(), plan);
+    let sheet = Sheet {
+        policy: Policy::Exact,
+        length: 14,
+        plan: &plan,
+        picks: &picks,
+        runs: &worked_job::runs(),
+    };
+    show(rt, &sheet)
 }
 
 // Prints the sheet of the job whose plan enters from the back.
 fn print_top(rt: &HostRuntime) -> Result<()> {
     let plan = top_job::plan();
-    let picks = picks::picks(top_job::lines(), 2, top_job::shelf(), plan);
-    show(rt, Policy::Midpoint, 20, plan, picks, top_job::runs())
+    let picks = picks::picks(top_job::lines(), 2, &top_job::shelf(), plan);
+    let sheet = Sheet {
+        policy: Policy::Midpoint,
+        length: 20,
+        plan: &plan,
+        picks: &picks,
+        runs: &top_job::runs(),
+    };
+    show(rt, &sheet)
 }
 
 fn main(rt: HostRuntime) -> Result<()> {

@@ -1,9 +1,10 @@
 // A job whose plan enters from the back: its lines, its shelf, its plan and its walk.
-ghost use Rattle.std.specs.Prelude.{◌≡◌, ◌≤◌, take};
+ghost use Rattle.std.specs.Prelude.{◌≡◌, take};
 ghost use Rattle.values.specs.Shelves.{ShelfOf};
 ghost use Rattle.sheets_test.specs.Jobs.{top_job};
 
-use rules::{Action, Direction, OrderLine, Passage, Run};
+use crate::walk_of;
+use rules::{Action, Direction, OrderLine, Passage};
 use values::{PlanValue, RunList, Shelf, Stage};
 
 // Its order lines.
@@ -29,12 +30,12 @@ pub fn lines() -> [OrderLine; 8]
 pub fn shelf() -> Shelf
     ensures { ShelfOf top_job result }
 {
-    let mut line = [0; 384];
-    line[0] = 2;
-    line[1] = 2;
-    line[25] = 1;
-    line[48] = 1;
-    line[49] = 3;
+    let mut line = [None; 384];
+    line[0] = Some(1);
+    line[1] = Some(1);
+    line[25] = Some(0);
+    line[48] = Some(0);
+    line[49] = Some(2);
     let mut quantity = [0; 384];
     quantity[0] = 2;
     quantity[1] = 1;
@@ -42,8 +43,8 @@ pub fn shelf() -> Shelf
     quantity[48] = 2;
     quantity[49] = 2;
     Shelf {
-        line: line,
-        quantity: quantity,
+        line,
+        quantity,
         open: [true; 16],
     }
 }
@@ -64,46 +65,18 @@ pub fn plan() -> PlanValue
         action: Action::Once,
         passage: Passage::P00,
     };
-    PlanValue {
-        aisles: 3,
-        stages: stages,
-    }
+    PlanValue { aisles: 3, stages }
 }
 
 // Its walk: B, R, F, B, R, F, L.
-pub fn runs() -> RunList
-    ensures { result.count ≤ 860 }
-{
-    let mut runs = [Run {
-        direction: Direction::Back,
-        steps: 3,
-    }; 860];
-    runs[1] = Run {
-        direction: Direction::Right,
-        steps: 1,
-    };
-    runs[2] = Run {
-        direction: Direction::Front,
-        steps: 1,
-    };
-    runs[3] = Run {
-        direction: Direction::Back,
-        steps: 1,
-    };
-    runs[4] = Run {
-        direction: Direction::Right,
-        steps: 1,
-    };
-    runs[5] = Run {
-        direction: Direction::Front,
-        steps: 3,
-    };
-    runs[6] = Run {
-        direction: Direction::Left,
-        steps: 2,
-    };
-    RunList {
-        count: 7,
-        runs: runs,
-    }
+pub fn runs() -> RunList {
+    walk_of(&[
+        (Direction::Back, 3),
+        (Direction::Right, 1),
+        (Direction::Front, 1),
+        (Direction::Back, 1),
+        (Direction::Right, 1),
+        (Direction::Front, 3),
+        (Direction::Left, 2),
+    ])
 }

@@ -1,9 +1,10 @@
 // The job that document 01 walks through: its line, its shelf, its plan and its walk.
-ghost use Rattle.std.specs.Prelude.{◌≡◌, ◌≤◌, take};
+ghost use Rattle.std.specs.Prelude.{◌≡◌, take};
 ghost use Rattle.values.specs.Shelves.{ShelfOf};
 ghost use Rattle.sheets_test.specs.Jobs.{worked_job};
 
-use rules::{Action, Direction, OrderLine, Passage, Run};
+use crate::walk_of;
+use rules::{Action, Direction, OrderLine, Passage};
 use values::{PlanValue, RunList, Shelf, Stage};
 
 // Its order line.
@@ -20,15 +21,15 @@ pub fn lines() -> [OrderLine; 8]
 pub fn shelf() -> Shelf
     ensures { ShelfOf worked_job result }
 {
-    let mut line = [0; 384];
-    line[24] = 1;
+    let mut line = [None; 384];
+    line[24] = Some(0);
     let mut quantity = [0; 384];
     quantity[0] = 1;
     quantity[24] = 5;
     quantity[26] = 1;
     Shelf {
-        line: line,
-        quantity: quantity,
+        line,
+        quantity,
         open: [true; 16],
     }
 }
@@ -45,34 +46,15 @@ pub fn plan() -> PlanValue
         action: Action::Bottom(1),
         passage: Passage::P00,
     };
-    PlanValue {
-        aisles: 2,
-        stages: stages,
-    }
+    PlanValue { aisles: 2, stages }
 }
 
 // Its walk: R, B, F, L, a step each.
-pub fn runs() -> RunList
-    ensures { result.count ≤ 860 }
-{
-    let mut runs = [Run {
-        direction: Direction::Right,
-        steps: 1,
-    }; 860];
-    runs[1] = Run {
-        direction: Direction::Back,
-        steps: 1,
-    };
-    runs[2] = Run {
-        direction: Direction::Front,
-        steps: 1,
-    };
-    runs[3] = Run {
-        direction: Direction::Left,
-        steps: 1,
-    };
-    RunList {
-        count: 4,
-        runs: runs,
-    }
+pub fn runs() -> RunList {
+    walk_of(&[
+        (Direction::Right, 1),
+        (Direction::Back, 1),
+        (Direction::Front, 1),
+        (Direction::Left, 1),
+    ])
 }

@@ -7,7 +7,7 @@ ghost use Rattle.rules.specs.Jobs.{Job, holds_listed};
 ghost use Rattle.rules.specs.Refusals.{Admitted};
 ghost use Rattle.values.specs.Shelves.{ShelfOf, cell_number, line_from};
 ghost use Rattle.values.specs.Values.{Sound, job_of};
-ghost use lib.ListN.{take};
+ghost use lib.ListN.{length};
 ghost use mathlib.Core.Path.{◌≡◌};
 
 use between::HEIGHTS;
@@ -23,20 +23,17 @@ pub fn cell_number(aisle: usize, cell: usize) -> usize
     (aisle - 1) * 24 + (cell - 1)
 }
 
-// The number + 1 of the line of an article; 0 if it is on no line.
-fn line_of(lines: [OrderLine; 8], orders: usize, article: usize) -> usize
-    requires { orders ≤ 8 }
-    ensures { result ≡ line_from 0 (take orders lines) article }
+// The number of the line of an article, if it is on one, as the shelf notes it.
+fn line_of(lines: &[OrderLine], article: usize) -> Option<u8>
+    requires { length lines.now ≤ 8 }
+    ensures { result ≡ line_from 0 lines.now article }
 {
-    let mut l = 0;
-    while l < orders {
-        let line = lines[l];
+    for (l, line) in lines.iter().enumerate() {
         if line.article == article {
-            return l + 1;
+            return Some(l as u8);
         }
-        l += 1;
     }
-    0
+    None
 }
 
 // The shelf of a job: the records of its open aisles.
@@ -44,24 +41,22 @@ pub fn shelve(job: JobValue) -> Shelf
     requires { Sound job }
     ensures { ShelfOf (job_of job) result }
 {
-    let flags = open_aisles(job.hours);
-    let mut line = [0; 384];
+    let open = open_aisles(job.hours);
+    let lines = &job.lines[..job.orders];
+    let mut line = [None; 384];
     let mut quantity = [0; 384];
-    let mut n = 0;
-    while n < job.records {
-        let r = job.stock[n];
-        let at = cell_number(r.aisle, r.cell);
-        let counts = flags[r.aisle - 1];
+    for record in &job.stock[..job.records] {
+        let at = cell_number(record.aisle, record.cell);
+        let counts = open[record.aisle - 1];
         if counts {
-            line[at] = line_of(job.lines, job.orders, r.article);
-            quantity[at] = r.quantity;
+            line[at] = line_of(lines, record.article);
+            quantity[at] = record.quantity;
         }
-        n += 1;
     }
     Shelf {
-        line: line,
-        quantity: quantity,
-        open: flags,
+        line,
+        quantity,
+        open,
     }
 }
 
@@ -70,13 +65,10 @@ pub fn holds_listed(shelf: Shelf, cells: usize, j: usize) -> bool
     requires { (cells ≤ 24) × (1 ≤ j) × (j ≤ 16) }
     ensures { (job : Job) → Admitted job → ShelfOf job shelf → cells ≡ job.layout.cells → j ≤ job.layout.aisles → result ≡ holds_listed job j }
 {
-    let mut c = 1;
-    while c <= cells {
-        let at = cell_number(j, c);
-        if shelf.line[at] > 0 {
+    for c in 1..cells + 1 {
+        if shelf.line[cell_number(j, c)].is_some() {
             return true;
         }
-        c += 1;
     }
     false
 }
@@ -87,11 +79,8 @@ pub fn listed_cells(shelf: Shelf, cells: usize, j: usize) -> [bool; HEIGHTS]
     ensures { (job : Job) → Admitted job → ShelfOf job shelf → cells ≡ job.layout.cells → result ≡ listed_flags job j }
 {
     let mut listed = [false; HEIGHTS];
-    let mut i = 1;
-    while i <= cells {
-        let at = cell_number(j, i);
-        listed[i] = shelf.line[at] > 0;
-        i += 1;
+    for i in 1..cells + 1 {
+        listed[i] = shelf.line[cell_number(j, i)].is_some();
     }
     listed
 }

@@ -13,7 +13,7 @@ use Rattle.rules.specs.Refusals.{stock_in_bounds}
 use Rattle.optimum.specs.Demand.{supply_in, gains, radices, less_code}
 use Rattle.optimum.proofs.Radix.{radices_positive, gains_length}
 use Rattle.demand.proofs.Composition.{plus, Parted, gains_parted, less_code_plus}
-use Rattle.aisles.specs.Candidates.{candidate_of}
+use Rattle.aisles.specs.Actions.{front_of, back_of}
 
 -- of two tests that never hold together
 parted_or : (b d : Bool) → (b ≡ true → d ≡ true → ⊥) → Parted (b || d) b d
@@ -23,7 +23,7 @@ parted_or false d h n = omega arith
 
 -- the cells that an action passes: those of its front part and those of its back part
 passes_parted : (cells : ℕ) (a : Action) → Fits cells a → (c : ℕ) → 1 ≤ c → c ≤ cells
-    → Parted (passes_cell a c) (leb c (candidate_of cells a).front) (leb (candidate_of cells a).back c)
+    → Parted (passes_cell a c) (leb c (front_of cells a)) (leb (back_of cells a) c)
 passes_parted cells Void f c low high n = rw (lt-leb c 0 low, lt-leb (suc cells) c (omega arith)) refl
 passes_parted cells (Bottom i) f c low high n = rw (lt-leb (suc cells) c (omega arith)) (omega arith)
 passes_parted cells (Top i) f c low high n = rw (lt-leb c 0 low) (omega arith)
@@ -34,10 +34,10 @@ passes_parted cells Twice f c low high n = rw (le-leb c cells high, lt-leb (suc 
 
 -- the front part and the back part of an action, as actions
 abbrev front_part : ℕ → Action → Action
-front_part cells a = Bottom (candidate_of cells a).front
+front_part cells a = Bottom (front_of cells a)
 
 abbrev back_part : ℕ → Action → Action
-back_part cells a = Top (candidate_of cells a).back
+back_part cells a = Top (back_of cells a)
 
 module _ (job : Job) (ok : stock_in_bounds job ≡ true) (j : ℕ) (a : Action) (fits : Fits job.layout.cells a) where
   abbrev cells : ℕ
@@ -47,7 +47,7 @@ module _ (job : Job) (ok : stock_in_bounds job ≡ true) (j : ℕ) (a : Action) 
   gains_by_parts : gains job j a ≡ plus (gains job j (front_part cells a)) (gains job j (back_part cells a))
   unfolding gains supply_in
   gains_by_parts =
-      gains_parted job ok j (passes_cell a) (λ c. leb c (candidate_of cells a).front) (λ c. leb (candidate_of cells a).back c) (passes_parted cells a fits)
+      gains_parted job ok j (passes_cell a) (λ c. leb c (front_of cells a)) (λ c. leb (back_of cells a) c) (passes_parted cells a fits)
 
   -- the demand behind an action: behind its front part, then behind its back part
   pub less_by_parts : (q : ℕ) → less_code (radices job) (gains job j a) q

@@ -1,5 +1,5 @@
 -- The ways on over the passages, one after the other.
-use Prim.Native.Nat.{ℕ, zero, suc, ◌+◌, ◌*◌, ◌≤◌, ◌<◌, min}
+use Prim.Native.Nat.{ℕ, ◌+◌, ◌*◌, ◌≤◌, ◌<◌, min}
 use native.Mathlib.Omega.{arith}
 use mathlib.Core.Path.{◌≡◌, refl, sym, ◌∙◌, ap, ap₂}
 use mathlib.Core.List.{List, [], ◌∷◌}
@@ -20,7 +20,7 @@ use Rattle.optimum.specs.Routing.{no_key}
 use Rattle.optimum.proofs.Choice.{least_take}
 use Rattle.machine.specs.States.{state_code, state_of}
 use Rattle.machine.proofs.StepLaws.{state_small}
-use Rattle.machine.specs.Steps.{policy_of, passage_of, cross_of}
+use Rattle.machine.specs.Steps.{place_number, cross_of}
 use Rattle.aisles.specs.declared.layers.Aisle.{Aisle}
 use Rattle.rows.specs.Rows.{Permuted, NoneTo}
 use Rattle.rows.specs.Pairs.{walk, key_at, next_key, SoundRow, KeysRelaxed}
@@ -29,28 +29,14 @@ use Rattle.aisles.proofs.ActionRows.{DeadNone}
 use Rattle.table.specs.Crossings.{cross_code, through_passage, least_over, least_after, PassageTried, AfterFilled}
 use Rattle.demand.proofs.Filling.{below}
 
--- the passages between 00 and 22 tread the cross-aisles twice
-pub two_treads : (p : ℕ) → 0 < p → p < 4 → back_treads (passage_of p) + front_treads (passage_of p) ≡ 2
-two_treads zero l h = absurd (omega arith)
-two_treads (suc zero) l h = refl
-two_treads (suc (suc zero)) l h = refl
-two_treads (suc (suc (suc zero))) l h = refl
-two_treads (suc (suc (suc (suc p)))) l h = absurd (omega arith)
-
--- the passages by number
-passage_at_lem : (p : ℕ) → p < 5 → get_or passages_in_order p P00 ≡ passage_of p
-unfolding passages_in_order
-passage_at_lem zero h = refl
-passage_at_lem (suc zero) h = refl
-passage_at_lem (suc (suc zero)) h = refl
-passage_at_lem (suc (suc (suc zero))) h = refl
-passage_at_lem (suc (suc (suc (suc zero)))) h = refl
-passage_at_lem (suc (suc (suc (suc (suc p))))) h = absurd (omega arith)
+-- a passage by its place in the order
+abbrev pub passage_at : ℕ → Passage
+passage_at k = get_or passages_in_order k P00
 
 module _ (x : Aisle) (next : ℕ → ℕ → ℕ) (s q : ℕ) where
   -- the number of the state after a passage
   abbrev to : Passage → ℕ
-  to p = state_code (cross_of (policy_of x.policy) (seen_passage x.layout p) x.side (state_of s))
+  to p = state_code (cross_of x.method.policy (seen_passage x.layout p) x.place (state_of s))
 
   -- no way on over a passage that leads to the dead state
   pub through_dead : DeadNone next → (p : Passage) → to p ≡ 8 → through_passage x next s q p ≡ no_key
@@ -58,18 +44,18 @@ module _ (x : Aisle) (next : ℕ → ℕ → ℕ) (s q : ℕ) where
   through_dead none p e = omega (arith, none (to p) q (omega arith))
 
   -- one more passage is tried
-  pub least_tried : (p : ℕ) → p < 5 → least_over x next s q (p + 1) ≡ min (least_over x next s q p) (through_passage x next s q (passage_of p))
+  pub least_tried : (k : ℕ) → k < 5 → least_over x next s q (k + 1) ≡ min (least_over x next s q k) (through_passage x next s q (passage_at k))
   unfolding passages_in_order through_passage sum_up_to
-  least_tried p h = least_take no_key (through_passage x next s q) passages_in_order p P00 h ∙ rw (passage_at_lem p h) (omega arith)
+  least_tried k h = least_take no_key (through_passage x next s q) passages_in_order k P00 h ∙ omega arith
 
 -- from the dead state there is no way on
 dead_ways : (x : Aisle) (next : ℕ → ℕ → ℕ) (q : ℕ) → DeadNone next → (p : Passage) → through_passage x next 8 q p ≡ no_key
 unfolding cross_of
 dead_ways x next q none p =
     let seen = seen_passage x.layout p in
-    through_dead x next 8 q none p (ap state_code (go (passage_named FrontSide (policy_of x.policy) seen) seen))
+    through_dead x next 8 q none p (ap state_code (go (passage_named FrontSide x.method.policy seen) seen))
   where
-    go : (b : Bool) (p : Passage) → cond b (cross_step 1 x.side p dead) dead ≡ dead
+    go : (b : Bool) (p : Passage) → cond b (cross_step 1 (place_number x.place) p dead) dead ≡ dead
     go true P00 = refl
     go true P02 = refl
     go true P11 = refl
@@ -82,19 +68,15 @@ pub least_none : {A : Type 0} (f : A → ℕ) → ((x : A) → f x ≡ no_key) �
 least_none f e [] = refl
 least_none f e (x ∷ xs) = omega (arith, e x, least_none f e xs)
 
--- the plain map at a demand
-pub plain_at : (plain : List ℕ) (q : ℕ) → q < 256 → ((k : ℕ) → k < 256 → get_or plain k 0 ≡ k) → get_or plain (0 + q) 0 ≡ q
-plain_at plain q h same = let e : 0 + q ≡ q = omega arith in ap (λ n. get_or plain n 0) e ∙ same q h
-
-module _ (x : Aisle) (after after-spared next next-spared steps : List ℕ) (p : ℕ)
+module _ (x : Aisle) (after after-spared next next-spared steps : List ℕ) (p : Passage)
     (steps-are : (s : ℕ) → s < 8 → get_or steps s 0 ≡ cross_code x p s) where
   -- what the passage costs
   abbrev cost_of_lem : ℕ
-  cost_of_lem = (back_treads (passage_of p) + front_treads (passage_of p)) * x.layout.width
+  cost_of_lem = (back_treads p + front_treads p) * x.layout.width
 
   -- the rows behind a passage, their states put in order, then relaxed
   pub passage_relaxed : (after' after-spared' perm perm' perm-spared perm-spared' plain : List ℕ) (cost : ℕ) → x.weight ≤ 256
-      → cost ≡ cost_of_lem → ((q : ℕ) → q < 256 → get_or plain q 0 ≡ q)
+      → cost ≡ cost_of_lem → ((q : ℕ) → q < x.weight → get_or plain (0 + q) 0 ≡ q)
       → Permuted perm perm' next steps x.weight 8 → Permuted perm-spared perm-spared' next-spared steps x.weight 8
       → KeysRelaxed after after' after-spared after-spared' perm' perm-spared' plain 0 cost x.weight
       → PassageTried x after after' after-spared after-spared' next next-spared p
@@ -112,10 +94,10 @@ module _ (x : Aisle) (after after-spared next next-spared steps : List ℕ) (p :
       }
     where
       over : (r : ℕ) → SoundRow r next next-spared x.weight → (s q : ℕ) → s < 8 → q < x.weight
-          → walk cost (key_at r perm' perm-spared' s (get_or plain (0 + q) 0)) ≡ through_passage x (next_key r next next-spared) s q (passage_of p)
+          → walk cost (key_at r perm' perm-spared' s (get_or plain (0 + q) 0)) ≡ through_passage x (next_key r next next-spared) s q p
       over r there s q l h =
           ap₂ walk cost-is
-          (ap (λ n. key_at r perm' perm-spared' s n) (plain_at plain q (omega arith) plain-is)
+          (ap (λ n. key_at r perm' perm-spared' s n) (plain-is q h)
           ∙ keys_permuted perm perm' perm-spared perm-spared' next next-spared steps x.weight permuted ones-permuted r there s q l h
           ∙ ap (λ t. next_key r next next-spared t q) (steps-are s l))
 
@@ -126,13 +108,13 @@ module _ (x : Aisle) (after after-spared next next-spared steps : List ℕ) (p :
       record { kept = refl; spared_kept = refl; rest = λ k h. refl; spared_rest = λ k h. refl; keyed = λ r small here there. (here, done r) }
     where
       end : ℕ → State
-      end s = cross_of (policy_of x.policy) (seen_passage x.layout (passage_of p)) x.side (state_of s)
+      end s = cross_of x.method.policy (seen_passage x.layout p) x.place (state_of s)
 
       done : (r s q : ℕ) → s < 8 → q < x.weight
-          → key_at r after after-spared s q ≡ min (key_at r after after-spared s q) (through_passage x (next_key r next next-spared) s q (passage_of p))
+          → key_at r after after-spared s q ≡ min (key_at r after after-spared s q) (through_passage x (next_key r next next-spared) s q p)
       done r s q l h =
           let to-dead : state_code (end s) ≡ 8 = omega (arith, state_small (end s), none s l, steps-are s l) in
-          omega (arith, row_top r after after-spared s q, through_dead x (next_key r next next-spared) s q (dead_key r next next-spared) (passage_of p) to-dead)
+          omega (arith, row_top r after after-spared s q, through_dead x (next_key r next next-spared) s q (dead_key r next next-spared) p to-dead)
 
 -- the eight states of the rows behind the actions hold the least over the first n passages
 abbrev pub AfterTried : Aisle → List ℕ → List ℕ → List ℕ → List ℕ → ℕ → Type 0
@@ -149,16 +131,16 @@ module _ (x : Aisle) (next next-spared : List ℕ) where
       (λ s q l h. (at s q l h).0, λ s q l h. (at s q l h).1)
 
   -- one more passage
-  pub after_one : (after after' after-spared after-spared' : List ℕ) (p : ℕ) → p < 5 → AfterTried x after after-spared next next-spared p
-      → PassageTried x after after' after-spared after-spared' next next-spared p → AfterTried x after' after-spared' next next-spared (p + 1)
-  after_one after after' after-spared after-spared' p few tried relaxed r small there =
+  pub after_one : (after after' after-spared after-spared' : List ℕ) (k : ℕ) → k < 5 → AfterTried x after after-spared next next-spared k
+      → PassageTried x after after' after-spared after-spared' next next-spared (passage_at k) → AfterTried x after' after-spared' next next-spared (k + 1)
+  after_one after after' after-spared after-spared' k few tried relaxed r small there =
       let t = tried r small there in
-      let k = relaxed.keyed r small t.0 there in (
-        k.0,
+      let more = relaxed.keyed r small t.0 there in (
+        more.0,
         λ s q l h.
-            k.1 s q l h
-            ∙ ap (λ n. min n (through_passage x (next_key r next next-spared) s q (passage_of p))) (t.1 s q l h)
-            ∙ sym (least_tried x (next_key r next next-spared) s q p few),
+            more.1 s q l h
+            ∙ ap (λ n. min n (through_passage x (next_key r next next-spared) s q (passage_at k))) (t.1 s q l h)
+            ∙ sym (least_tried x (next_key r next next-spared) s q k few),
       )
 
   -- with the dead state the rows are filled
@@ -180,8 +162,8 @@ module _ (x : Aisle) (next next-spared : List ℕ) where
           ∙ ap (λ t. least_after x (next_key r next next-spared) t q) (sym e)
 
 -- the passages that are tried
-pub passage_tried : (tried p : ℕ) → p < tried → tried ≤ 5 → get_or (take tried passages_in_order) p P00 ≡ passage_of p
-passage_tried tried p l h = get_or-take tried passages_in_order p P00 l ∙ passage_at_lem p (omega arith)
+pub passage_tried : (tried p : ℕ) → p < tried → tried ≤ 5 → get_or (take tried passages_in_order) p P00 ≡ passage_at p
+passage_tried tried p l h = get_or-take tried passages_in_order p P00 l
 
 pub tried_length : (tried : ℕ) → tried ≤ 5 → length (take tried passages_in_order) ≡ tried
 unfolding passages_in_order

@@ -14,13 +14,12 @@ use Rattle.rules.specs.declared.Action.TheVariants.{Bottom, Top}
 use Rattle.rules.specs.Hours.{is_open}
 use Rattle.rules.specs.Jobs.{Job, holds_listed}
 use Rattle.rules.specs.Refusals.{weight, Admitted}
-use Rattle.rules.specs.Policies.{walk_back_end}
 use Rattle.rules.specs.Machine.{is_closed, may_enter, enterable}
 use Rattle.optimum.specs.Routing.{no_tour, no_key}
 use Rattle.machine.specs.States.{state_of}
-use Rattle.machine.specs.Steps.{bit, policy_of}
-use Rattle.machine.proofs.StepLaws.{policy_of_code, policy_code_below}
-use Rattle.demand.specs.Maps.{map_size, MapsAsked, MapsReady}
+use Rattle.machine.specs.declared.Method.{Method}
+use Rattle.machine.specs.declared.Place.{Place}
+use Rattle.demand.specs.Maps.{MapsAsked, MapsReady}
 use Rattle.demand.proofs.Composition.{met_zero}
 use Rattle.demand.proofs.Filling.{zero_at}
 use Rattle.table.specs.declared.filling.Order.{Order}
@@ -34,9 +33,9 @@ use Rattle.between.proofs.Laws.{graded}
 use Rattle.machine.specs.Tables.{asks_gap}
 use Rattle.aisles.specs.Layers.{InRange, AisleReady, RowFilled}
 use Rattle.table.specs.Crossings.{AfterFilled}
-use Rattle.table.specs.TableHolds.{side_of, flag_of, tried_at, OrderOf, aisle_of, RowHolds, AfterHolds, end_row}
+use Rattle.table.specs.TableHolds.{place_of, tried_at, OrderOf, aisle_of, RowHolds, AfterHolds, end_row}
 use Rattle.aisles.proofs.Geometry.{within}
-use Rattle.table.proofs.StepLaws.{flag_below, entered, side_below}
+use Rattle.table.proofs.StepLaws.{entered}
 use Rattle.table.proofs.TableValues.{below_weight, after_value, row_value}
 
 -- the only closed state has the number 1
@@ -91,29 +90,10 @@ end_holds job small j s q l h =
     let test = eqb (q * 8 + s) 1 in
     held_as at (zero_at numbers (q * 8 + s)) (subst (λ b. Holds 0 (cond test 0 no_tour) 0 (cond b 0 no_key)) done (end_key test))
 
--- a flag is the number of its test
-flag_is : (r : ℕ) (b : Bool) → bit r ≡ b → r < 2 → r ≡ flag_of b
-flag_is zero b e l = ap flag_of e
-flag_is (suc zero) b e l = ap flag_of e
-flag_is (suc (suc r)) b e l = absurd (omega arith)
-
--- 00 alone is tried behind the last aisle
-pub tried_last : (n : ℕ) → n ≡ 0 → 1 ≡ tried_at n
-tried_last zero e = refl
-tried_last (suc n) e = absurd (omega arith)
-
-pub tried_all : (n : ℕ) → 0 < n → 5 ≡ tried_at n
-tried_all zero h = absurd (omega arith)
-tried_all (suc n) h = refl
-
+-- five passages are tried at most
 pub tried_five : (n : ℕ) → tried_at n ≤ 5
 tried_five zero = omega arith
 tried_five (suc n) = omega arith
-
--- an aisle by its numbers
-abbrev aisle_with : Layout → ℕ → ℕ → ℕ → ℕ → ℕ → Between → Aisle
-aisle_with z p h w side tried b =
-    record { layout = z; policy = p; may = h; weight = w; side = side; tried = tried; between = b }
 
 -- the numbers of an aisle of an admitted job are in range
 aisle_range : (job : Job) → Admitted job → (j : ℕ) → InRange (aisle_of job j)
@@ -121,23 +101,17 @@ unfolding aisle_of
 aisle_range job ok j =
     record {
       bounds = ok.layout;
-      policy_below = policy_code_below job.policy (walk_back_end job.layout);
-      may_below = flag_below (enterable job j);
       small = ok.light;
-      side_below = side_below job.layout.depot j;
       few = tried_five (job.layout.aisles - j);
       graded = graded (asks_gap job.policy) job j (within job.layout ok.layout).cells.1;
     }
 
 -- an aisle whose maps are filled is ready
-pub aisle_ready : (job : Job) → Admitted job → (j : ℕ) (fronts backs : List ℕ) → MapsReady job j fronts backs
-    → map_size ≤ length fronts → map_size ≤ length backs → AisleReady (aisle_of job j) fronts backs
+pub aisle_ready : (job : Job) → Admitted job → (j : ℕ) (fronts backs : List ℕ) → MapsReady job j fronts backs → AisleReady (aisle_of job j) fronts backs
 unfolding aisle_of
-aisle_ready job ok j fronts backs maps fronts_long backs_long =
+aisle_ready job ok j fronts backs maps =
     record {
       aisle = aisle_range job ok j;
-      fronts_long = fronts_long;
-      backs_long = backs_long;
       front_below = λ h q l w. subst (λ n. n < weight job.lines) (sym (maps.front h q l w)) (below_weight job j (Bottom h) q);
       back_below = λ i q l m w. subst (λ n. n < weight job.lines) (sym (maps.back i q l m w)) (below_weight job j (Top i) q);
     }
@@ -147,11 +121,9 @@ module _ (job : Job) (o : Order) (of : OrderOf job o) where
   pub order_aisles : o.layout.aisles ≡ job.layout.aisles
   order_aisles = ap (λ (z : Layout). z.aisles) of.layout
 
-  -- its number is that of the job's policy
-  pub order_policy : (policy_of o.policy ≡ job.policy) × (o.policy < 7)
-  order_policy =
-      let end = walk_back_end job.layout in
-      rw of.policy (policy_of_code job.policy end, policy_code_below job.policy end)
+  -- its policy is the job's
+  pub order_policy : o.method.policy ≡ job.policy
+  order_policy = ap (λ (m : Method). m.policy) of.method
 
   pub order_few : o.layout.aisles ≤ 16
   order_few = omega (arith, order_aisles, (within job.layout of.admitted.layout).aisles.1)
@@ -182,20 +154,21 @@ module _ (job : Job) (o : Order) (of : OrderOf job o) where
     pub enter_shut : get_or o.shelf.open (j - 1) false ≡ false → enterable job j ≡ false
     enter_shut e = rw (sym flag_open ∙ e) refl
 
-    pub enter_open : get_or o.shelf.open (j - 1) false ≡ true → (any : Bool) → any ≡ may_enter (policy_of o.policy) false
+    pub enter_open : get_or o.shelf.open (j - 1) false ≡ true → (any : Bool) → any ≡ may_enter o.method.policy false
         → enterable job j ≡ (any || holds_listed job j)
     enter_open e any a =
-        let known : any ≡ may_enter job.policy false = a ∙ ap (λ p. may_enter p false) order_policy.0 in
+        let known : any ≡ may_enter job.policy false = a ∙ ap (λ p. may_enter p false) order_policy in
         rw (sym flag_open ∙ e, known) (entered job.policy (holds_listed job j))
 
-  -- the numbers of an aisle, one by one
-  pub aisle_is : (j h side tried : ℕ) (b : Between) → bit h ≡ enterable job j → h < 2 → side ≡ side_of o.layout.depot j
-      → tried ≡ tried_at (o.layout.aisles - j)
-      → b ≡ between_of (asks_gap job.policy) job j
-      → aisle_with o.layout o.policy h o.digits.weight side tried b ≡ aisle_of job j
+  -- the fields of an aisle, one by one
+  pub aisle_is : (j tried : ℕ) (may : Bool) (place : Place) (b : Between) → may ≡ enterable job j → place ≡ place_of o.layout.depot j
+      → tried ≡ tried_at (o.layout.aisles - j) → b ≡ between_of (asks_gap job.policy) job j
+      → ◌≡◌ {A = Aisle}
+      (record { layout = o.layout; method = o.method; may = may; weight = o.digits.weight; place = place; tried = tried; between = b })
+      (aisle_of job j)
   unfolding aisle_of
-  aisle_is j h side tried b may flag side-is tried-is b-is =
-      rw (side-is, tried-is, flag_is h (enterable job j) may flag, of.policy, of.digits.counted, of.layout, b-is) refl
+  aisle_is j tried may place b may-is place-is tried-is b-is =
+      rw (place-is, tried-is, may-is, of.method, of.digits.counted, of.layout, b-is) refl
 
 -- an aisle of a job, given as such
 module _ (job : Job) (j : ℕ) (x : Aisle) (x-is : x ≡ aisle_of job j) where
@@ -221,9 +194,8 @@ module _ (job : Job) (j : ℕ) (x : Aisle) (x-is : x ≡ aisle_of job j) where
     in_range = subst InRange (sym x-is) (aisle_range job ok j)
 
     -- with its maps the aisle is ready
-    pub ready : (fronts backs : List ℕ) → MapsReady job j fronts backs → map_size ≤ length fronts → map_size ≤ length backs → AisleReady x fronts backs
-    ready fronts backs maps fronts_long backs_long =
-        subst (λ y. AisleReady y fronts backs) (sym x-is) (aisle_ready job ok j fronts backs maps fronts_long backs_long)
+    pub ready : (fronts backs : List ℕ) → MapsReady job j fronts backs → AisleReady x fronts backs
+    ready fronts backs maps = subst (λ y. AisleReady y fronts backs) (sym x-is) (aisle_ready job ok j fronts backs maps)
 
     -- the rows of the aisle, out of the rows behind its actions
     pub layer_holds : right < 16 → (after after-spared fronts backs row row-spared : List ℕ) → MapsReady job j fronts backs → AfterHolds job right j after after-spared

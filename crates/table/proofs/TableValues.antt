@@ -10,7 +10,7 @@ use Rattle.rules.specs.declared.Action.{Action}
 use Rattle.rules.specs.declared.Action.TheVariants.{Void, Bottom, Top, Gap, Once, Twice}
 use Rattle.rules.specs.declared.Passage.{Passage}
 use Rattle.rules.specs.Jobs.{Job}
-use Rattle.rules.specs.Plans.{Fits}
+use Rattle.rules.specs.Plans.{Fits, kind_of}
 use Rattle.rules.specs.Lengths.{action_length, passage_length}
 use Rattle.rules.specs.Refusals.{weight, stock_in_bounds}
 use Rattle.rules.specs.BestPlan.{actions_of, passages_in_order}
@@ -24,20 +24,19 @@ use Rattle.optimum.specs.Routing.{all_actions, no_key, entering}
 use Rattle.optimum.proofs.Choice.{least_cong, least_agree}
 use Rattle.optimum.proofs.Radix.{radices_positive, gains_length, count_weight, less_code_lem, less_code_below}
 use Rattle.machine.specs.States.{state_code, state_of}
-use Rattle.aisles.specs.Candidates.{candidate_of}
+use Rattle.aisles.specs.Actions.{front_of, back_of}
 use Rattle.rows.specs.Rows.{next_at}
 use Rattle.rows.specs.Pairs.{walk, next_key, SoundRow, Holds}
 use Rattle.rows.proofs.KeyRows.{sound_next, dead_key}
 use Rattle.table.specs.Crossings.{through_passage, least_after, AfterFilled}
-use Rattle.aisles.specs.Layers.{left_code, entered_by, through_candidate, through_action, RowFilled}
+use Rattle.aisles.specs.Layers.{left_code, entered_by, through_action, RowFilled}
 use Rattle.demand.specs.Maps.{MapsReady}
 use Rattle.table.specs.TableHolds.{aisle_of, tried_at, values, behind, RowHolds, AfterHolds}
 use Rattle.machine.proofs.StepLaws.{state_of_code, state_small}
 use Rattle.table.proofs.PassageLaws.{least_none}
 use Rattle.table.proofs.StepLaws.{cross_of_lem, step_code_lem}
-use Rattle.aisles.proofs.ActionRows.{candidate_parts}
+use Rattle.aisles.proofs.ActionRows.{action_parts}
 use Rattle.table.proofs.Parting.{less_by_parts}
-use Rattle.aisles.proofs.Geometry.{length_of_candidate}
 
 -- in front of 'none' there is none
 sum_none : (c : ℕ) → sum_up_to no_key c no_key ≡ no_key
@@ -45,13 +44,13 @@ unfolding sum_up_to
 sum_none c = omega arith
 
 -- an action enters its aisle if its kind does
-pub entering_kind : (cells : ℕ) (a : Action) → entered_by (candidate_of cells a).kind ≡ entering a
-entering_kind cells Void = refl
-entering_kind cells (Bottom i) = refl
-entering_kind cells (Top i) = refl
-entering_kind cells (Gap h i) = refl
-entering_kind cells Once = refl
-entering_kind cells Twice = refl
+pub entering_kind : (a : Action) → entered_by (kind_of a) ≡ entering a
+entering_kind Void = refl
+entering_kind (Bottom i) = refl
+entering_kind (Top i) = refl
+entering_kind (Gap h i) = refl
+entering_kind Once = refl
+entering_kind Twice = refl
 
 -- the passages that are tried are those of the table
 pub tried_passages : (n : ℕ) → take (tried_at n) passages_in_order ≡ passages_behind passages_in_order n
@@ -138,14 +137,14 @@ module _ (job : Job) where
 
   module _ (few : job.layout.cells ≤ 24) (stocked : stock_in_bounds job ≡ true) (n j : ℕ) (after : ℕ → ℕ → ℕ) (fronts backs : List ℕ) (maps : MapsReady job j fronts backs)
       (holds : (s q : ℕ) → s < 9 → q < weight job.lines → after s q ≡ behind job n j (state_of s) (demand_of (radices job) q)) where
-    -- the demand after a candidate
+    -- the demand after an action
     pub left_code_lem : (a : Action) → Fits job.layout.cells a → (q : ℕ) → q < weight job.lines
-        → left_code fronts backs (candidate_of job.layout.cells a) q ≡ less_code (radices job) (gains job j a) q
+        → left_code job.layout.cells fronts backs a q ≡ less_code (radices job) (gains job j a) q
     unfolding left_code
     left_code_lem a fits q h =
-        let p = candidate_parts job.layout.cells a fits in
-        let h₁ = (candidate_of job.layout.cells a).front in
-        let i₁ = (candidate_of job.layout.cells a).back in
+        let p = action_parts job.layout.cells a fits in
+        let h₁ = front_of job.layout.cells a in
+        let i₁ = back_of job.layout.cells a in
         let first = maps.front h₁ q p.front_within h in
         ap (λ k. get_or backs (i₁ * 256 + k) 0) first
         ∙ maps.back i₁ (less_code (radices job) (gains job j (Bottom h₁)) q) p.back_low p.back_high (below_weight j (Bottom h₁) q)
@@ -155,10 +154,10 @@ module _ (job : Job) where
     pub through_value : (s q : ℕ) → s < 8 → q < weight job.lines → (a : Action) → Fits job.layout.cells a
         → through_action (aisle_of job j) after fronts backs s q a
         ≡ sum_up_to no_key (17 * action_length job.layout a + entering a) (behind job n j (action_step job j a (state_of s)) (less (demand_of (radices job) q) (gains job j a)))
-    unfolding through_action through_candidate aisle_of
+    unfolding through_action aisle_of
     through_value s q l h a fits =
         let to = action_step job j a (state_of s) in
-        ap₂ (sum_up_to no_key) (ap₂ (λ n e. 17 * n + e) (length_of_candidate job.layout a) (entering_kind job.layout.cells a))
+        ap₂ (sum_up_to no_key) (ap (λ e. 17 * action_length job.layout a + e) (entering_kind a))
         (ap₂ after (step_code_lem job j few a fits s) (left_code_lem a fits q h)
         ∙ holds (state_code to) (less_code (radices job) (gains job j a) q) (omega (arith, state_small to)) (below_weight j a q)
         ∙ ap₂ (behind job n j) (state_of_code to) (less_code_lem (gains job j a) (radices_positive job) (gains_length job j a) q))

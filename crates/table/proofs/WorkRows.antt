@@ -15,11 +15,7 @@ use Rattle.machine.specs.States.{state_of}
 use Rattle.rows.specs.Rows.{numbers}
 use Rattle.rows.specs.Pairs.{Holds}
 use Rattle.rows.proofs.Keys.{held_as}
-use Rattle.table.specs.TableHolds.{values, RowHolds, TableFrom}
-
--- a part of a list, read
-pub part_at : (xs : List ℕ) (a e k : ℕ) → a + k < e → get_or (take (e - a) (drop a xs)) k 0 ≡ get_or xs (a + k) 0
-part_at xs a e k h = get_or-take (e - a) (drop a xs) k 0 (omega arith) ∙ get_or-drop a xs k 0
+use Rattle.table.specs.TableHolds.{values, row_in, RowHolds, TableFrom}
 
 -- a list with other numbers from place a to place e
 module _ (xs ys : List ℕ) (a e : ℕ) (order : a ≤ e) (within : e ≤ length xs) (fits : length ys ≡ e - a) where
@@ -50,13 +46,13 @@ module _ (job : Job) (small : weight job.lines ≤ 256) where
   abbrev Entry : List ℕ → List ℕ → ℕ → ℕ → ℕ → ℕ → Type 0
   Entry work spared n i s q = Holds n (get_or work (place i s q) 0) (get_or spared (place i s q) 0) (values job n i (state_of s) (demand_of (radices job) q))
 
-  -- the rows of aisle i, which are parts of the work area and of the list of ones
-  pub row_read : (work spared : List ℕ) (j i a e : ℕ) → TableFrom job j work spared → j ≤ i → i ≤ job.layout.aisles → a ≡ (i - 1) * numbers → e ≡ a + numbers
-      → RowHolds job (suc job.layout.aisles - i) i (take (e - a) (drop a work)) (take (e - a) (drop a spared))
-  row_read work spared j i a e table low high starts ends s q l h = held_as (read work) (read spared) (table i s q low high l h)
+  -- the rows of aisle i, read in the work area and in the list of ones
+  pub row_read : (work spared : List ℕ) (j i : ℕ) → TableFrom job j work spared → j ≤ i → i ≤ job.layout.aisles
+      → RowHolds job (suc job.layout.aisles - i) i (row_in work i) (row_in spared i)
+  row_read work spared j i table low high s q l h = held_as (read work) (read spared) (table i s q low high l h)
     where
-      read : (xs : List ℕ) → get_or (take (e - a) (drop a xs)) (q * 8 + s) 0 ≡ get_or xs (place i s q) 0
-      read xs = part_at xs a e (q * 8 + s) (omega arith) ∙ ap (λ n. get_or xs (n + (q * 8 + s)) 0) starts
+      read : (xs : List ℕ) → get_or (row_in xs i) (q * 8 + s) 0 ≡ get_or xs (place i s q) 0
+      read xs = get_or-take numbers (drop ((i - 1) * numbers) xs) (q * 8 + s) 0 (omega arith) ∙ get_or-drop ((i - 1) * numbers) xs (q * 8 + s) 0
 
   -- the rows of aisle j, written in their places
   pub row_written : (work spared row row-spared : List ℕ) (j a e : ℕ) → 1 ≤ j → j ≤ job.layout.aisles → a ≡ (j - 1) * numbers → e ≡ a + numbers

@@ -1,5 +1,7 @@
 -- What the work area, and the list of ones beside it, hold when the table is filled.
-use Rattle.std.specs.Prelude.{ℕ, zero, suc, ◌+◌, ◌*◌, ◌-◌, ◌≤◌, ◌<◌, ◌≡◌, List, Bool, cond, ltb, eqb, length, get_or, set, replicate}
+use Rattle.std.specs.Prelude.{ℕ, zero, suc, ◌+◌, ◌*◌, ◌-◌, ◌≤◌, ◌<◌, ◌≡◌, List, cond, ltb, eqb, length, get_or, set, replicate, take, drop}
+use Rattle.rules.specs.declared.Layout.{Layout}
+use Rattle.rules.specs.declared.Policy.{Policy}
 use Rattle.rules.specs.Jobs.{Job}
 use Rattle.rules.specs.Policies.{walk_back_end}
 use Rattle.rules.specs.Machine.{State, enterable}
@@ -8,24 +10,25 @@ use Rattle.optimum.specs.Table.{after_action, value}
 use Rattle.optimum.specs.Demand.{radices, demand_of}
 use Rattle.optimum.specs.Routing.{no_tour, routing, all_actions}
 use Rattle.machine.specs.States.{state_of}
-use Rattle.machine.specs.Steps.{policy_code}
+use Rattle.machine.specs.declared.Method.{Method}
+use Rattle.machine.specs.declared.Place.{Place}
+use Rattle.machine.specs.declared.Place.TheVariants.{Left, At, Right}
 use Rattle.machine.specs.Tables.{asks_gap}
 use Rattle.between.specs.Between.{between_of}
 use Rattle.values.specs.Shelves.{ShelfOf}
-use Rattle.demand.specs.Digits.{DigitsOf}
+use Rattle.demand.specs.Digits.{DigitsOf, demands}
 use Rattle.table.specs.declared.filling.Order.{Order}
 use Rattle.aisles.specs.declared.layers.Aisle.{Aisle}
 use Rattle.rows.specs.Rows.{states, numbers, work_area, tab, next_at}
 use Rattle.rows.specs.Pairs.{Holds}
-use Rattle.aisles.specs.Layers.{InRange}
 
--- where aisle j lies: left of the depot (0), at it (1) or right of it (2)
-unfoldable pub side_of : ℕ → ℕ → ℕ
-side_of d j = cond (ltb j d) 0 (cond (eqb j d) 1 2)
+-- where aisle j lies: left of the depot, at it or right of it
+unfoldable pub place_of : ℕ → ℕ → Place
+place_of d j = cond (ltb j d) Left (cond (eqb j d) At Right)
 
--- a test as 0 or 1
-abbrev pub flag_of : Bool → ℕ
-flag_of b = cond b 1 0
+-- a policy in a store
+abbrev pub method_of : Policy → Layout → Method
+method_of policy z = record { policy = policy; end = walk_back_end z }
 
 -- how many passages are tried with n aisles to the right: 00 alone behind the last aisle, all elsewhere
 abbrev pub tried_at : ℕ → ℕ
@@ -36,7 +39,7 @@ tried_at (suc n) = 5
 pub record OrderOf (job : Job) (o : Order) : Type 0 where
   pub admitted : Admitted job
   pub layout : o.layout ≡ job.layout
-  pub policy : o.policy ≡ policy_code job.policy (walk_back_end job.layout)
+  pub method : o.method ≡ method_of job.policy job.layout
   pub shelf : ShelfOf job o.shelf
   pub digits : DigitsOf job o.digits
 
@@ -45,10 +48,10 @@ unfoldable pub aisle_of : Job → ℕ → Aisle
 aisle_of job j =
     record {
       layout = job.layout;
-      policy = policy_code job.policy (walk_back_end job.layout);
-      may = flag_of (enterable job j);
+      method = method_of job.policy job.layout;
+      may = enterable job j;
       weight = weight job.lines;
-      side = side_of job.layout.depot j;
+      place = place_of job.layout.depot j;
       tried = tried_at (job.layout.aisles - j);
       between = between_of (asks_gap job.policy) job j;
     }
@@ -85,20 +88,15 @@ TableFrom job j work spared =
 unfoldable pub end_row : List ℕ
 end_row = set (replicate numbers no_tour) 1 0
 
--- what the rows behind the actions of an aisle are made from: in the work area, and in the list of ones, are sixteen rows
-pub record BehindAsked (x : Aisle) (after after-spared work spared : List ℕ) : Type 0 where
-  pub aisle : InRange x
-  pub few : x.layout.aisles ≤ 16
-  pub after_long : numbers ≤ length after
-  pub after_spared_long : numbers ≤ length after-spared
-  pub work_long : work_area ≤ length work
-  pub spared_long : work_area ≤ length spared
+-- the numbers of aisle j in the work area, or in the list of ones
+abbrev pub row_in : List ℕ → ℕ → List ℕ
+row_in work j = take numbers (drop ((j - 1) * numbers) work)
 
--- with the rows behind aisle j filled, the rows behind its actions hold the table's values
-pub record BehindFilled (x : Aisle) (j : ℕ) (after after' after-spared after-spared' work spared : List ℕ) : Type 0 where
-  pub kept : length after' ≡ length after
-  pub spared_kept : length after-spared' ≡ length after-spared
-  pub filled : (job : Job) → x ≡ aisle_of job j → TableFrom job (suc j) work spared → AfterHolds job (job.layout.aisles - j) j after' after-spared'
+-- with the rows behind aisle j filled, two rows hold the table's values with the aisles left that lie right of aisle j
+abbrev pub NextHolds : ℕ → ℕ → List ℕ → List ℕ → List ℕ → List ℕ → Type 0
+NextHolds aisles j work spared next next-spared =
+    (job : Job) → job.layout.aisles ≡ aisles → weight job.lines ≤ demands → TableFrom job (suc j) work spared
+    → RowHolds job (aisles - j) (suc j) next next-spared
 
 -- what the rows of aisle j are made from
 pub record LayerAsked (o : Order) (j : ℕ) (work spared : List ℕ) : Type 0 where

@@ -26,7 +26,9 @@ use Rattle.rules.specs.Store.{side_of, position, aisle_length, LayoutWithin}
 use Rattle.rules.specs.Lists.{from, nth, sum_of, select}
 use Rattle.rules.specs.Jobs.{Job, job_under, open_stock, listed, holds_listed}
 use Rattle.rules.specs.Plans.{Plan, WellFormed, Fits, action_at, passes_cell, plan_passes}
-use Rattle.rules.specs.Policies.{Allowed, action_named, passage_named, End, leftmost, rightmost, walk_back_end, in_front_half, in_back_half, halved, through}
+use Rattle.rules.specs.declared.End.{End}
+use Rattle.rules.specs.declared.End.TheVariants.{Leftmost, Rightmost}
+use Rattle.rules.specs.Policies.{Allowed, action_named, passage_named, walk_back_end, in_front_half, in_back_half, halved, through}
 use Rattle.rules.specs.Turned.{turned_height, seen_from, seen, passage_from, seen_passage}
 use Rattle.rules.specs.Serving.{supply, Serves, PlanServes}
 use Rattle.rules.specs.Refusals.{Admitted, all_stock, RecordWithin}
@@ -126,8 +128,8 @@ between z some = let t = half_of z z.cells in go t.0 t.1 (split_at t.0 z.cells)
 -- whether a round may be open with n aisles still to be entered: with any, if an aisle is walked back at the right end, with an odd number, if at the left
 abbrev still_open : ℕ → End → Bool
 still_open zero end = false
-still_open (suc n) leftmost = not (still_open n leftmost)
-still_open (suc n) rightmost = true
+still_open (suc n) Leftmost = not (still_open n Leftmost)
+still_open (suc n) Rightmost = true
 
 -- an open round has an aisle that closes it
 one_closes : (n : ℕ) (end : End) → still_open n end ≡ true → 1 ≤ n
@@ -139,9 +141,9 @@ abbrev Round : Policy → End → ℕ → Bool → Type 0
 Round Exact end n b = ⊥
 Round Return end n b = ⊥
 Round Traversal end n b = still_open n end ≡ b
-Round Midpoint end n b = still_open n rightmost ≡ b
+Round Midpoint end n b = still_open n Rightmost ≡ b
 Round Composite end n b = ⊥
-Round Largest end n b = still_open n rightmost ≡ b
+Round Largest end n b = still_open n Rightmost ≡ b
 
 -- the policies whose plan is built aisle by aisle
 abbrev Direct : Policy → Type 0
@@ -225,16 +227,16 @@ module _ (job : Job) (some : 1 ≤ job.layout.cells) (j : ℕ) where
   enter Exact end n direct r = all_bottom Exact end n (λ b p. p) (λ b i s. refl) r
   enter Return end n direct r = all_bottom Return end n (λ b p. p) (λ b i s. refl) r
   enter Composite end n direct r = all_bottom Composite end n (λ b p. p) (λ b i s. refl) r
-  enter Traversal leftmost n direct (none_yet l) = opening Traversal leftmost n nothing (still_open n leftmost) refl (λ c. refl) (λ c i. refl)
-  enter Traversal leftmost n direct on_front = opening Traversal leftmost n at_front (still_open n leftmost) refl (λ c. refl) (λ c i. refl)
-  enter Traversal leftmost n direct (on_both r) = by_once Traversal leftmost n odd (λ c. as_before (none_open (not-true (still_open n leftmost) r)))
-  enter Traversal leftmost n direct (none_open r) = by_once Traversal leftmost n ending (λ c. as_before (on_both (not-false (still_open n leftmost) r)))
-  enter Traversal rightmost n direct (none_yet l) = opening Traversal rightmost n nothing (still_open n rightmost) refl (λ c. refl) (λ c i. refl)
-  enter Traversal rightmost n direct on_front = opening Traversal rightmost n at_front (still_open n rightmost) refl (λ c. refl) (λ c i. refl)
-  enter Traversal rightmost n direct (on_both r) = by_once Traversal rightmost n odd (λ c. met_again)
-  enter Traversal rightmost n direct (none_open r) = absurd (true_not_false r)
-  enter Midpoint end n direct (none_yet l) = opening Midpoint end n nothing (still_open n rightmost) refl (λ c. refl) (λ c i. refl)
-  enter Midpoint end n direct on_front = opening Midpoint end n at_front (still_open n rightmost) refl (λ c. refl) (λ c i. refl)
+  enter Traversal Leftmost n direct (none_yet l) = opening Traversal Leftmost n nothing (still_open n Leftmost) refl (λ c. refl) (λ c i. refl)
+  enter Traversal Leftmost n direct on_front = opening Traversal Leftmost n at_front (still_open n Leftmost) refl (λ c. refl) (λ c i. refl)
+  enter Traversal Leftmost n direct (on_both r) = by_once Traversal Leftmost n odd (λ c. as_before (none_open (not-true (still_open n Leftmost) r)))
+  enter Traversal Leftmost n direct (none_open r) = by_once Traversal Leftmost n ending (λ c. as_before (on_both (not-false (still_open n Leftmost) r)))
+  enter Traversal Rightmost n direct (none_yet l) = opening Traversal Rightmost n nothing (still_open n Rightmost) refl (λ c. refl) (λ c i. refl)
+  enter Traversal Rightmost n direct on_front = opening Traversal Rightmost n at_front (still_open n Rightmost) refl (λ c. refl) (λ c i. refl)
+  enter Traversal Rightmost n direct (on_both r) = by_once Traversal Rightmost n odd (λ c. met_again)
+  enter Traversal Rightmost n direct (none_open r) = absurd (true_not_false r)
+  enter Midpoint end n direct (none_yet l) = opening Midpoint end n nothing (still_open n Rightmost) refl (λ c. refl) (λ c i. refl)
+  enter Midpoint end n direct on_front = opening Midpoint end n at_front (still_open n Rightmost) refl (λ c. refl) (λ c i. refl)
   enter Midpoint end zero direct (on_both r) = by_once Midpoint end zero odd (λ c. as_before (none_open refl))
   enter Midpoint end (suc n) direct (on_both r) =
       let t = between job.layout some in
@@ -256,9 +258,9 @@ round_open : (policy : Policy) (end : End) (n : ℕ) → Round policy end n true
 round_open Exact end n r = absurd r
 round_open Return end n r = absurd r
 round_open Traversal end n r = (refl, one_closes n end r)
-round_open Midpoint end n r = (refl, one_closes n rightmost r)
+round_open Midpoint end n r = (refl, one_closes n Rightmost r)
 round_open Composite end n r = absurd r
-round_open Largest end n r = (refl, one_closes n rightmost r)
+round_open Largest end n r = (refl, one_closes n Rightmost r)
 
 module _ (policy : Policy) (end : End) (d j : ℕ) where
   -- the state behind a passage

@@ -18,7 +18,8 @@ use Rattle.rules.specs.Jobs.{Job, holds_listed}
 use Rattle.rules.specs.Plans.{Plan, WellFormed, action_at, passage_at}
 use Rattle.rules.specs.Lawful.{Lawful}
 use Rattle.rules.specs.Turned.{seen_from, seen, seen_passage, seen_plan}
-use Rattle.rules.specs.Policies.{action_named, passage_named, End, walk_back_end, halved, TraversalRule, OwnRule, PolicyRules, Follows, ShutVoid}
+use Rattle.rules.specs.declared.End.{End}
+use Rattle.rules.specs.Policies.{action_named, passage_named, walk_back_end, halved, TraversalRule, OwnRule, PolicyRules, Follows, ShutVoid}
 use Rattle.rules.specs.Machine.{State, closed, lawful_step, policy_step, keeps_largest_gap, is_void, may_enter, enterable, action_possible}
 use Rattle.rules.proofs.EmptyPlan.{void_told}
 use Rattle.rules.proofs.Stops.{largest_gap}

@@ -18,7 +18,9 @@ use Rattle.rules.specs.Lists.{nth, head_or}
 use Rattle.rules.specs.Jobs.{Job}
 use Rattle.rules.specs.Store.{side_of}
 use Rattle.rules.specs.Plans.{Plan, WellFormed, action_at, passage_at}
-use Rattle.rules.specs.Policies.{passage_named, End, leftmost, rightmost, walk_back_end}
+use Rattle.rules.specs.declared.End.{End}
+use Rattle.rules.specs.declared.End.TheVariants.{Leftmost, Rightmost}
+use Rattle.rules.specs.Policies.{passage_named, walk_back_end}
 use Rattle.rules.specs.Turned.{seen, seen_passage, seen_plan}
 use Rattle.rules.specs.Machine.{State, nothing, closed, at_front, at_back, odd, joined, split, ending, dead}
 use Rattle.rules.specs.Machine.{midpoint_step, policy_step, between_test, cross_step, action_possible, action_step, passage_step, run_from, is_closed, closes_off}
@@ -105,8 +107,8 @@ live_before_step Traversal end between Void dead l = l
 live_before_step Traversal end between (Bottom i) dead l = l
 live_before_step Traversal end between (Top i) dead l = l
 live_before_step Traversal end between (Gap h i) dead l = l
-live_before_step Traversal leftmost between Once dead l = l
-live_before_step Traversal rightmost between Once dead l = l
+live_before_step Traversal Leftmost between Once dead l = l
+live_before_step Traversal Rightmost between Once dead l = l
 live_before_step Traversal end between Twice dead l = l
 live_before_step Midpoint end between a dead l = live_before_midpoint between a l
 live_before_step Largest end between a dead l = live_before_midpoint between a l

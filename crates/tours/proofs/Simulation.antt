@@ -15,7 +15,9 @@ use Rattle.rules.specs.declared.Action.TheVariants.{Void, Bottom, Top, Gap, Once
 use Rattle.rules.specs.declared.Passage.{Passage}
 use Rattle.rules.specs.declared.Passage.TheVariants.{P00, P02, P11, P20, P22}
 use Rattle.rules.specs.Plans.{Plan, action_at, passage_at}
-use Rattle.rules.specs.Policies.{passage_named, Entered, End, leftmost, rightmost, walk_back_end}
+use Rattle.rules.specs.declared.End.{End}
+use Rattle.rules.specs.declared.End.TheVariants.{Leftmost, Rightmost}
+use Rattle.rules.specs.Policies.{passage_named, Entered, walk_back_end}
 use Rattle.rules.specs.Machine.{State, nothing, closed, at_front, at_back, odd, joined, split, ending, dead, lawful_step, traversal_step, midpoint_step, policy_step, cross_step}
 use Rattle.tours.specs.Prefixes.{lawful_state, policy_state}
 use Rattle.tours.proofs.Basics.{below, false_not_true, either_outcome}
@@ -58,8 +60,8 @@ fitting_traversal end (Bottom i) =
     fitting_steps (traversal_step end (Bottom i)) (lawful_step (Bottom i)) (inl refl) tt (inl refl) tt tt tt tt tt tt refl
 fitting_traversal end (Top i) = λ o x e. tt
 fitting_traversal end (Gap h i) = λ o x e. tt
-fitting_traversal leftmost Once = fitting_steps (traversal_step leftmost Once) (lawful_step Once) refl tt refl tt (inr refl) tt tt refl refl refl
-fitting_traversal rightmost Once = fitting_steps (traversal_step rightmost Once) (lawful_step Once) refl tt refl tt refl tt tt tt tt refl
+fitting_traversal Leftmost Once = fitting_steps (traversal_step Leftmost Once) (lawful_step Once) refl tt refl tt (inr refl) tt tt refl refl refl
+fitting_traversal Rightmost Once = fitting_steps (traversal_step Rightmost Once) (lawful_step Once) refl tt refl tt refl tt tt tt tt refl
 fitting_traversal end Twice = λ o x e. tt
 
 -- what the test refuses is `dead`, and fits all
@@ -286,8 +288,8 @@ Past end nothing = ⊥
 Past end closed = Unit {0}
 Past end at_front = ⊥
 Past end at_back = ⊥
-Past leftmost odd = Unit {0}
-Past rightmost odd = ⊥
+Past Leftmost odd = Unit {0}
+Past Rightmost odd = ⊥
 Past end joined = ⊥
 Past end split = ⊥
 Past end ending = Unit {0}
@@ -303,12 +305,12 @@ past_cross end d j P20 closed e = tt
 past_cross end d j P22 closed e = tt
 past_cross end d j p at_front e = absurd e
 past_cross end d j p at_back e = absurd e
-past_cross leftmost d j P00 odd e = tt
-past_cross leftmost d j P02 odd e = tt
-past_cross leftmost d j P11 odd e = tt
-past_cross leftmost d j P20 odd e = tt
-past_cross leftmost d j P22 odd e = tt
-past_cross rightmost d j p odd e = absurd e
+past_cross Leftmost d j P00 odd e = tt
+past_cross Leftmost d j P02 odd e = tt
+past_cross Leftmost d j P11 odd e = tt
+past_cross Leftmost d j P20 odd e = tt
+past_cross Leftmost d j P22 odd e = tt
+past_cross Rightmost d j p odd e = absurd e
 past_cross end d j p joined e = absurd e
 past_cross end d j p split e = absurd e
 past_cross end d j P00 ending e = either_outcome (Past end) (leb d j) closed dead tt tt
@@ -320,11 +322,11 @@ past_cross end d j p dead e = rw (dead_stays d j p) tt
 
 -- no aisle may be entered any more
 abbrev pub Over : State → Type 0
-Over s = Past rightmost s
+Over s = Past Rightmost s
 
 -- and stays so over a passage
 pub over_cross : (d j : ℕ) (p : Passage) (s : State) → Over s → Over (cross_step d j p s)
-over_cross = past_cross rightmost
+over_cross = past_cross Rightmost
 
 -- VOID changes nothing
 pub tracks_void : (o x : State) → Tracks o x → TracksBehind o x

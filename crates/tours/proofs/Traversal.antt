@@ -13,7 +13,9 @@ use Rattle.rules.specs.declared.Action.TheVariants.{Void, Bottom, Top, Gap, Once
 use Rattle.rules.specs.declared.Passage.{Passage}
 use Rattle.rules.specs.declared.Side.TheVariants.{FrontSide}
 use Rattle.rules.specs.Plans.{Plan, WellFormed, action_at, passage_at}
-use Rattle.rules.specs.Policies.{Entered, First, Last, IsBottom, End, leftmost, rightmost, EnteredAt, walk_back_end, WalkedBack, TraversalRule, entered_aisles}
+use Rattle.rules.specs.declared.End.{End}
+use Rattle.rules.specs.declared.End.TheVariants.{Leftmost, Rightmost}
+use Rattle.rules.specs.Policies.{Entered, First, Last, IsBottom, EnteredAt, walk_back_end, WalkedBack, TraversalRule, entered_aisles}
 use Rattle.rules.specs.Machine.{State, nothing, closed, at_front, at_back, odd, joined, split, ending, dead, lawful_step, traversal_once, traversal_step, cross_step}
 use Rattle.tours.specs.Prefixes.{lawful_state, policy_state, entered_up_to}
 use Rattle.tours.proofs.Basics.{below, split_at, same_number}
@@ -31,8 +33,8 @@ AllOnce plan n = (j : ℕ) → j ≤ n → Entered plan j → action_at plan j �
 
 -- aisle j lies beyond aisle k at an end
 abbrev Beyond : End → ℕ → ℕ → Type 0
-Beyond leftmost k j = j < k
-Beyond rightmost k j = k < j
+Beyond Leftmost k j = j < k
+Beyond Rightmost k j = k < j
 
 -- of the first n aisles one is BOTTOM, the other entered ones are ONCE, and none entered lies beyond it at the end
 record OneBottom (end : End) (plan : Plan) (n : ℕ) : Type 0 where
@@ -44,8 +46,8 @@ record OneBottom (end : End) (plan : Plan) (n : ℕ) : Type 0 where
 
 -- aisle n + 1, if entered, is at the end: of the first n + 1 the rightmost anyhow, and the leftmost if none of the first n is entered
 abbrev Free : End → Plan → ℕ → Type 0
-Free leftmost plan n = NoneEntered plan n
-Free rightmost plan n = Unit {0}
+Free Leftmost plan n = NoneEntered plan n
+Free Rightmost plan n = Unit {0}
 
 -- what TRAVERSAL's run has gone through when it is in a state: ONCE only, or a BOTTOM too
 abbrev GoneThrough : End → Plan → ℕ → State → Type 0
@@ -55,14 +57,14 @@ GoneThrough end plan n o =
 
 -- aisles of which neither lies beyond the other are one
 one_aisle_lem : (end : End) (j k : ℕ) → (Beyond end k j → ⊥) → (Beyond end j k → ⊥) → j ≡ k
-one_aisle_lem leftmost j k a b = same_number j k a b
-one_aisle_lem rightmost j k a b = same_number j k b a
+one_aisle_lem Leftmost j k a b = same_number j k a b
+one_aisle_lem Rightmost j k a b = same_number j k b a
 
 -- the entered aisle at an end is the one beyond which none is entered
 at_end_lem : (end : End) (plan : Plan) (k : ℕ) → EnteredAt end plan k ↔ (Entered plan k × ((j : ℕ) → Beyond end k j → Entered plan j → ⊥))
 unfolding First Last
-at_end_lem leftmost plan k = ((λ f. f), (λ f. f))
-at_end_lem rightmost plan k = ((λ l. l), (λ l. l))
+at_end_lem Leftmost plan k = ((λ f. f), (λ f. f))
+at_end_lem Rightmost plan k = ((λ l. l), (λ l. l))
 
 -- there is one entered aisle at an end
 one_back : (end : End) (plan : Plan) (j k : ℕ) → EnteredAt end plan j → EnteredAt end plan k → j ≡ k
@@ -81,24 +83,24 @@ module _ (plan : Plan) (i : ℕ) where
 
   -- one more VOID leaves the next aisle at the end
   still_free : (end : End) → Free end plan i → (Entered plan (suc i) → ⊥) → Free end plan (suc i)
-  still_free leftmost free void = λ j l e. elim (below j i l) [ inl h ↦ free j h e | inr p ↦ void (rw p at e) ]
-  still_free rightmost free void = tt
+  still_free Leftmost free void = λ j l e. elim (below j i l) [ inl h ↦ free j h e | inr p ↦ void (rw p at e) ]
+  still_free Rightmost free void = tt
 
   -- the next aisle is at the end: none entered lies beyond it
   none_beyond : (end : End) → Free end plan i → (j : ℕ) → Beyond end (suc i) j → j ≤ suc i → Entered plan j → ⊥
-  none_beyond leftmost free j l h e = free j (omega arith) e
-  none_beyond rightmost free j l h e = omega arith
+  none_beyond Leftmost free j l h e = free j (omega arith) e
+  none_beyond Rightmost free j l h e = omega arith
 
   -- behind a ONCE: at the left end none is walked back any more, at the right end the next aisle may be
   free_after : (end : End) (o : State) → AfterOnce end o → Free end plan (suc i) ⊎ Past end (traversal_once end o)
-  free_after leftmost o past = inr past
-  free_after rightmost o not-past = inl tt
+  free_after Leftmost o past = inr past
+  free_after Rightmost o not-past = inl tt
 
   -- a ONCE that comes behind the aisle walked back: at the left end it does not lie beyond it, at the right end there is none
   behind_bottom : (end : End) (o : State) → AfterOnce end o → Past end o → (b : OneBottom end plan i)
       → (Beyond end b.place (suc i) → ⊥) × Past end (traversal_once end o)
-  behind_bottom leftmost o past before b = ((λ l. let h = b.inside in omega arith), past)
-  behind_bottom rightmost o not-past before b = absurd (not-past before)
+  behind_bottom Leftmost o past before b = ((λ l. let h = b.inside in omega arith), past)
+  behind_bottom Rightmost o not-past before b = absurd (not-past before)
 
   module _ {end : End} where
     -- with a BOTTOM: one more VOID, or a ONCE that does not lie beyond it
@@ -196,8 +198,8 @@ module _ {z : Layout} {plan : Plan} (wf : WellFormed z plan) (between : ℕ → 
 
   -- the entered aisle at an end, or none is entered
   entered_at : (end : End) → ((j : ℕ) → Entered plan j → ⊥) ⊎ ((k : ℕ) × EnteredAt end plan k)
-  entered_at leftmost = first_entered wf
-  entered_at rightmost = last_entered wf
+  entered_at Leftmost = first_entered wf
+  entered_at Rightmost = last_entered wf
 
   -- what the run has gone through up to aisle n
   gone_run : (n : ℕ) → Live (own n) → GoneThrough (walk_back_end z) plan n (own n)
@@ -207,8 +209,8 @@ module _ {z : Layout} {plan : Plan} (wf : WellFormed z plan) (between : ℕ → 
       none j h e = let k = entered_inside wf j e in omega arith
 
       free : (end : End) → Free end plan 0
-      free leftmost = none
-      free rightmost = tt
+      free Leftmost = none
+      free Rightmost = tt
   gone_run (suc i) l =
       let a = action_at plan (suc i) in
       let p = passage_at plan (suc i) in
@@ -242,14 +244,14 @@ module _ {z : Layout} {plan : Plan} (wf : WellFormed z plan) (between : ℕ → 
     once_run n all = alike_run n (λ i l. once_kept i (all (suc i) l))
 
     -- at the left end BOTTOM in the first entered aisle keeps the runs alike
-    first_kept : walk_back_end z ≡ leftmost → (i : ℕ) → IsBottom (action_at plan (suc i)) → Free leftmost plan i → Kept i
+    first_kept : walk_back_end z ≡ Leftmost → (i : ℕ) → IsBottom (action_at plan (suc i)) → Free Leftmost plan i → Kept i
     unfolding IsBottom
     first_kept left i (k, e) none s =
         rw e (subst (λ (end : End). AlikeBehind end (traversal_step end (Bottom k) (own i)) (lawful_step (Bottom k) (exact i)))
         (sym left) (left_bottom k (own i) (exact i) (tracks_run Traversal between z plan plain i none) (even_run z.depot plan i none)))
 
     -- so that they are alike up to the last aisle
-    left_run : walk_back_end z ≡ leftmost → (n : ℕ) → OneBottom leftmost plan n → Alike (walk_back_end z) (own n) (exact n)
+    left_run : walk_back_end z ≡ Leftmost → (n : ℕ) → OneBottom Leftmost plan n → Alike (walk_back_end z) (own n) (exact n)
     left_run left n b = alike_run n (λ i l. kept i l (eqb (suc i) b.place) refl)
       where
         kept : (i : ℕ) → i < n → (same : Bool) → eqb (suc i) b.place ≡ same → Kept i
@@ -259,13 +261,13 @@ module _ {z : Layout} {plan : Plan} (wf : WellFormed z plan) (between : ℕ → 
         kept i l false e = once_kept i (λ entered. b.others (suc i) l entered (eqb-false (suc i) b.place e))
 
     -- at the right end the policy's run begins to end at a BOTTOM behind ONCE
-    last_ends : walk_back_end z ≡ rightmost → (i : ℕ) → IsBottom (action_at plan (suc i)) → AllOnce plan i → EndsBehind Traversal between z plan i
+    last_ends : walk_back_end z ≡ Rightmost → (i : ℕ) → IsBottom (action_at plan (suc i)) → AllOnce plan i → EndsBehind Traversal between z plan i
     unfolding IsBottom
     last_ends right i (k, e) all =
         rw e (tracks_bottom (walk_back_end z) k (own i) (exact i) (subst (λ (end : End). Alike end (own i) (exact i)) right (once_run i all)))
 
     -- so that it ends behind the last entered aisle
-    right_run : walk_back_end z ≡ rightmost → (n : ℕ) → OneBottom rightmost plan n → Ends (own n) (exact n)
+    right_run : walk_back_end z ≡ Rightmost → (n : ℕ) → OneBottom Rightmost plan n → Ends (own n) (exact n)
     right_run right n b = go b.place refl
       where
         go : (j : ℕ) → b.place ≡ j → Ends (own n) (exact n)
@@ -282,8 +284,8 @@ module _ {z : Layout} {plan : Plan} (wf : WellFormed z plan) (between : ℕ → 
     gone_closes n c (inr b) = go (walk_back_end z) refl b
       where
         go : (end : End) → walk_back_end z ≡ end → OneBottom end plan n → own n ≡ closed
-        go leftmost left one = alike_closed (walk_back_end z) (own n) (exact n) c (left_run left n one)
-        go rightmost right one = subst (Ends (own n)) c (right_run right n one)
+        go Leftmost left one = alike_closed (walk_back_end z) (own n) (exact n) c (left_run left n one)
+        go Rightmost right one = subst (Ends (own n)) c (right_run right n one)
 
   -- the rule says how the entered aisles are gone through
   rule_gone : TraversalRule FrontSide z plan → AllOnce plan z.aisles ⊎ OneBottom (walk_back_end z) plan z.aisles

@@ -8,7 +8,8 @@ use lib.Dec.{leb, eqb}
 use Rattle.rules.specs.declared.Action.TheVariants.{Bottom, Once}
 use Rattle.rules.specs.declared.Passage.{Passage}
 use Rattle.rules.specs.declared.Passage.TheVariants.{P00, P02, P11, P20, P22}
-use Rattle.rules.specs.Policies.{End, leftmost, rightmost}
+use Rattle.rules.specs.declared.End.{End}
+use Rattle.rules.specs.declared.End.TheVariants.{Leftmost, Rightmost}
 use Rattle.rules.specs.Machine.{State, nothing, closed, at_front, at_back, odd, joined, split, ending, dead, lawful_step, traversal_once, traversal_step, cross_step}
 use Rattle.tours.proofs.Basics.{false_not_true, either_outcome}
 use Rattle.tours.proofs.Parity.{Live, oddness}
@@ -54,11 +55,11 @@ left_cross d j P20 n = λ o x s. absurd (false_not_true n)
 left_cross d j P22 n = λ o x s. absurd (false_not_true n)
 
 -- ONCE keeps it
-left_once : (o x : State) → TracksLeft o x → TracksLeft (traversal_step leftmost Once o) (lawful_step Once x)
-left_once = left_steps (traversal_step leftmost Once) (lawful_step Once) refl tt refl refl refl refl refl
+left_once : (o x : State) → TracksLeft o x → TracksLeft (traversal_step Leftmost Once o) (lawful_step Once x)
+left_once = left_steps (traversal_step Leftmost Once) (lawful_step Once) refl tt refl refl refl refl refl
 
 -- BOTTOM keeps the two runs together at the left end where they are the same and not in the state `odd`, as before the first entered aisle
-pub left_bottom : (k : ℕ) (o x : State) → Tracks o x → (Live x → oddness x ≡ 0) → TracksLeft (traversal_step leftmost (Bottom k) o) (lawful_step (Bottom k) x)
+pub left_bottom : (k : ℕ) (o x : State) → Tracks o x → (Live x → oddness x ≡ 0) → TracksLeft (traversal_step Leftmost (Bottom k) o) (lawful_step (Bottom k) x)
 left_bottom k o nothing e even = rw e (inr refl)
 left_bottom k o closed e even = tt
 left_bottom k o at_front e even = rw e (inr refl)
@@ -70,7 +71,7 @@ left_bottom k o ending e even = absurd e
 left_bottom k o dead e even = tt
 
 -- at the right end ONCE keeps the two runs the same
-tracks_once : (o x : State) → Tracks o x → TracksBehind (traversal_step rightmost Once o) (lawful_step Once x)
+tracks_once : (o x : State) → Tracks o x → TracksBehind (traversal_step Rightmost Once o) (lawful_step Once x)
 tracks_once o nothing e = rw e
 tracks_once o closed e = tt
 tracks_once o at_front e = rw e
@@ -95,61 +96,61 @@ tracks_bottom end k o dead e = tt
 
 -- how the two runs go together before an aisle, at either end
 abbrev pub Alike : End → State → State → Type 0
-Alike leftmost o x = TracksLeft o x
-Alike rightmost o x = Tracks o x
+Alike Leftmost o x = TracksLeft o x
+Alike Rightmost o x = Tracks o x
 
 -- and behind its action
 abbrev pub AlikeBehind : End → State → State → Type 0
-AlikeBehind leftmost o x = TracksLeft o x
-AlikeBehind rightmost o x = TracksBehind o x
+AlikeBehind Leftmost o x = TracksLeft o x
+AlikeBehind Rightmost o x = TracksBehind o x
 
 -- they begin alike
 pub alike_begin : (end : End) → Alike end nothing nothing
-alike_begin leftmost = refl
-alike_begin rightmost = refl
+alike_begin Leftmost = refl
+alike_begin Rightmost = refl
 
 -- and close off alike
 pub alike_closed : (end : End) (o x : State) → x ≡ closed → Alike end o x → o ≡ closed
-alike_closed leftmost o x c s = subst (TracksLeft o) c s
-alike_closed rightmost o x c s = subst (Tracks o) c s
+alike_closed Leftmost o x c s = subst (TracksLeft o) c s
+alike_closed Rightmost o x c s = subst (Tracks o) c s
 
 -- VOID keeps them alike
 pub alike_void : (end : End) (o x : State) → Alike end o x → AlikeBehind end o x
-alike_void leftmost o x s = s
-alike_void rightmost o x s = tracks_void o x s
+alike_void Leftmost o x s = s
+alike_void Rightmost o x s = tracks_void o x s
 
 -- ONCE keeps them alike
 pub alike_once : (end : End) (o x : State) → Alike end o x → AlikeBehind end (traversal_step end Once o) (lawful_step Once x)
-alike_once leftmost o x s = left_once o x s
-alike_once rightmost o x s = tracks_once o x s
+alike_once Leftmost o x s = left_once o x s
+alike_once Rightmost o x s = tracks_once o x s
 
 -- and so do the passages
 pub alike_cross : (end : End) (d j : ℕ) (p : Passage) → Plain p → (o x : State) → AlikeBehind end o x → Alike end (cross_step d j p o) (cross_step d j p x)
-alike_cross leftmost d j p n o x s = left_cross d j p n o x s
-alike_cross rightmost d j p n o x s = tracks_cross d j p n o x s
+alike_cross Leftmost d j p n o x s = left_cross d j p n o x s
+alike_cross Rightmost d j p n o x s = tracks_cross d j p n o x s
 
 -- what ONCE says of the aisle walked back: at the left end none can follow, at the right end none has gone before
 abbrev pub AfterOnce : End → State → Type 0
-AfterOnce leftmost o = Past leftmost (traversal_once leftmost o)
-AfterOnce rightmost o = Past rightmost o → ⊥
+AfterOnce Leftmost o = Past Leftmost (traversal_once Leftmost o)
+AfterOnce Rightmost o = Past Rightmost o → ⊥
 
 -- ONCE turns the parity, and says this
 pub once_turns : (end : End) (o : State) → Live (traversal_once end o) → (oddness o + oddness (traversal_once end o) ≡ 1) × AfterOnce end o
-once_turns leftmost nothing l = (refl, tt)
-once_turns leftmost closed l = absurd l
-once_turns leftmost at_front l = (refl, tt)
-once_turns leftmost at_back l = absurd l
-once_turns leftmost odd l = (refl, tt)
-once_turns leftmost joined l = absurd l
-once_turns leftmost split l = absurd l
-once_turns leftmost ending l = (refl, tt)
-once_turns leftmost dead l = absurd l
-once_turns rightmost nothing l = (refl, λ past. past)
-once_turns rightmost closed l = absurd l
-once_turns rightmost at_front l = (refl, λ past. past)
-once_turns rightmost at_back l = absurd l
-once_turns rightmost odd l = (refl, λ past. past)
-once_turns rightmost joined l = absurd l
-once_turns rightmost split l = absurd l
-once_turns rightmost ending l = absurd l
-once_turns rightmost dead l = absurd l
+once_turns Leftmost nothing l = (refl, tt)
+once_turns Leftmost closed l = absurd l
+once_turns Leftmost at_front l = (refl, tt)
+once_turns Leftmost at_back l = absurd l
+once_turns Leftmost odd l = (refl, tt)
+once_turns Leftmost joined l = absurd l
+once_turns Leftmost split l = absurd l
+once_turns Leftmost ending l = (refl, tt)
+once_turns Leftmost dead l = absurd l
+once_turns Rightmost nothing l = (refl, λ past. past)
+once_turns Rightmost closed l = absurd l
+once_turns Rightmost at_front l = (refl, λ past. past)
+once_turns Rightmost at_back l = absurd l
+once_turns Rightmost odd l = (refl, λ past. past)
+once_turns Rightmost joined l = absurd l
+once_turns Rightmost split l = absurd l
+once_turns Rightmost ending l = absurd l
+once_turns Rightmost dead l = absurd l

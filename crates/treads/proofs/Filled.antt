@@ -1,7 +1,6 @@
 -- The treads of a plan, written place by place, are the plan's multiplicities.
 use Prim.Native.Nat.{ℕ, zero, suc, ◌+◌, ◌*◌, ◌-◌, ◌≤◌, ◌<◌}
 use native.Mathlib.Omega.{arith}
-use native.Mathlib.Numerals.{add-one}
 use mathlib.Core.Path.{◌≡◌, refl, sym, ap, ap₂, ◌∙◌, subst}
 use mathlib.Core.Logic.{inl, inr}
 use mathlib.Core.List.{List, [], ◌∷◌, map}
@@ -49,16 +48,15 @@ module _ (aisles cells : ℕ) (stages : List Stage) where
       behind_length (ltb (suc j) aisles) cells (stage_at stages j).passage (suc j) row ∙ aisle_length_lem (stage_at stages j).action (suc j) (suc cells) before ∙ aisles_length j left
 
   -- one aisle more
-  pub aisles_more : (j : ℕ) (first : List ℕ) {left mid after : List ℕ} {b : Bool} → left ≡ with_aisles aisles cells stages j first → mid ≡ with_aisle (stage_at stages j).action (j + 1) (suc cells) left
-      → after ≡ with_behind b cells (stage_at stages j).passage (j + 1) mid → ltb (j + 1) aisles ≡ b → after ≡ with_aisles aisles cells stages (j + 1) first
-  aisles_more j first {left} {mid} {after} {b} p q r s = go (j + 1) (add-one j) q r s
-    where
-      go : (k : ℕ) → k ≡ suc j → mid ≡ with_aisle (stage_at stages j).action k (suc cells) left → after ≡ with_behind b cells (stage_at stages j).passage k mid → ltb k aisles ≡ b
-          → after ≡ with_aisles aisles cells stages k first
-      go k e q r s =
-          r ∙ ap₂ (λ (t : Bool) (l : List ℕ). with_behind t cells (stage_at stages j).passage k l) (sym s) (q ∙ ap (with_aisle (stage_at stages j).action k (suc cells)) p)
-          ∙ (λ i. with_behind (ltb (e i) aisles) cells (stage_at stages j).passage (e i) (with_aisle (stage_at stages j).action (e i) (suc cells) (with_aisles aisles cells stages j first)))
-          ∙ ap (λ (n : ℕ). with_aisles aisles cells stages n first) (sym e)
+  pub aisles_more : (aisle : ℕ) (first : List ℕ) {left mid after : List ℕ} {b : Bool} → 1 ≤ aisle → left ≡ with_aisles aisles cells stages (aisle - 1) first
+      → mid ≡ with_aisle (stage_at stages (aisle - 1)).action aisle (suc cells) left → after ≡ with_behind b cells (stage_at stages (aisle - 1)).passage aisle mid → ltb aisle aisles ≡ b
+      → after ≡ with_aisles aisles cells stages aisle first
+  aisles_more (suc j) first {left} {mid} {after} {b} h p q r s =
+      let e : suc j - 1 ≡ j = omega arith in
+      r ∙ ap₂ (λ (t : Bool) (l : List ℕ). with_behind t cells (stage_at stages (suc j - 1)).passage (suc j) l) (sym s) (q ∙ ap (with_aisle (stage_at stages (suc j - 1)).action (suc j) (suc cells)) p)
+      ∙ ap (λ (n : ℕ). with_behind (ltb (suc j) aisles) cells (stage_at stages n).passage (suc j)
+      (with_aisle (stage_at stages n).action (suc j) (suc cells) (with_aisles aisles cells stages n first))) e
+  aisles_more zero first h p q r s = absurd (omega arith)
 
 -- the order in which the edges are written
 abbrev turn : Edge → ℕ
@@ -103,7 +101,8 @@ module _ (z : Layout) (wide : z.aisles ≤ 16) (deep : z.cells ≤ 24) (treads :
       written : (g : Edge) → InStore z g → turn g < suc (turn e) → get_or (set left (slot_of z e) v) (slot_of z g) 0 ≡ treads g
       written g j t =
           elim (equal_or_below (turn g) (turn e) (omega arith)) [
-            | inl s ↦ let same = turn_same g e j i s in ap (λ (k : Edge). get_or (set left (slot_of z e) v) (slot_of z k) 0) same ∙ get_or-set_same left (slot_of z e) v 0 low ∙ q ∙ ap treads (sym same)
+            | inl s ↦ let same = turn_same g e j i s in
+                ap (λ (k : Edge). get_or (set left (slot_of z e) v) (slot_of z k) 0) same ∙ get_or-set_same left (slot_of z e) v 0 low ∙ q ∙ ap treads (sym same)
             | inr s ↦ get_or-set_other left (slot_of z e) (slot_of z g) v 0 (λ k. absurd (let same = slot_same z wide deep g e j i k in omega (arith, ap turn same))) ∙ f.written g j s
           ]
 
@@ -166,7 +165,7 @@ module _ (z : Layout) (wide : z.aisles ≤ 16) (deep : z.cells ≤ 24) (plan : P
   filled_aisles : (n : ℕ) → n ≤ z.aisles → Filled z (multiplicity (plan_of plan)) (28 * suc n) (with_aisles z.aisles z.cells plan.stages n (replicate 884 0))
   unfolding multiplicity InStore
   filled_aisles zero h =
-      record { charted = record { size = length-replicate {A = ℕ} 884 0; edge = λ i p. absurd (omega (arith, none_at 884 i)) }; written = λ e i t. absurd (before e i t) }
+      record { charted = record { size = length-replicate {A = ℕ} 884 0; edge = λ i p. absurd (omega (arith, none_at {A = ℕ} 0 884 i)) }; written = λ e i t. absurd (before e i t) }
     where
       before : (e : Edge) → InStore z e → turn e < 28 * 1 → ⊥
       before (along j k) i t = omega arith

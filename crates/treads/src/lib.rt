@@ -1,9 +1,7 @@
 // The treads of a plan, one number for each edge: how often the plan treads it.
 #![tactic(auto)]
 
-ghost use mathlib.Core.Path.{◌≡◌};
-ghost use Prim.Native.Nat.{suc, ◌≤◌};
-ghost use lib.ListN.{length};
+ghost use Rattle.std.specs.Prelude.{◌≡◌, suc, ◌≤◌, length};
 ghost use Rattle.rules.specs.Plans.{aisle_treads, front_treads, back_treads};
 ghost use Rattle.treads.specs.Filling.{with_aisle, with_passage, with_aisles};
 
@@ -22,12 +20,7 @@ pub fn aisle_treads(action: Action, k: usize) -> u8
         Action::Void => 0,
         Action::Bottom(i) => { if k < i { 2 } else { 0 } }
         Action::Top(i) => { if i <= k { 2 } else { 0 } }
-        Action::Gap(h, i) => {
-            if k < h {
-                return 2;
-            }
-            if i <= k { 2 } else { 0 }
-        }
+        Action::Gap(h, i) => { if k < h || i <= k { 2 } else { 0 } }
         Action::Once => 1,
         Action::Twice => 2,
     }
@@ -38,11 +31,9 @@ pub fn front_treads(passage: Passage) -> u8
     ensures { result ≡ front_treads passage }
 {
     match passage {
-        Passage::P00 => 0,
-        Passage::P02 => 2,
+        Passage::P00 | Passage::P20 => 0,
         Passage::P11 => 1,
-        Passage::P20 => 0,
-        Passage::P22 => 2,
+        Passage::P02 | Passage::P22 => 2,
     }
 }
 
@@ -51,27 +42,25 @@ pub fn back_treads(passage: Passage) -> u8
     ensures { result ≡ back_treads passage }
 {
     match passage {
-        Passage::P00 => 0,
-        Passage::P02 => 0,
+        Passage::P00 | Passage::P02 => 0,
         Passage::P11 => 1,
-        Passage::P20 => 2,
-        Passage::P22 => 2,
+        Passage::P20 | Passage::P22 => 2,
     }
 }
 
-// The treads of one aisle: its edges start at the heights 0 to `cells`.
+// The treads of one aisle: its edges start at the heights 0 to `cells`. `left` is a slice, whose length stays known over a loop and a
+// call, as an array's does not; and the bounds are asked of each function, since a Layout alone need not keep them.
 fn fill_aisle(cells: usize, action: Action, aisle: usize, left: &mut [u8])
     requires { (cells ≤ 24) × (aisle ≤ 16) × (length left.old ≡ 884) }
     ensures { left.new ≡ with_aisle action aisle (suc cells) left.old }
 {
-    let mut k = 0;
-    while k <= cells {
+    for k in 0..=cells {
         left[HEIGHTS * aisle + k] = aisle_treads(action, k);
-        k += 1;
     }
 }
 
 // The treads behind one aisle: to the right of its front crossing, at height 0, and of its back crossing, at height cells + 1.
+#[tactic(auto, unfolding(crate::specs::Filling::with_passage))]
 fn fill_passage(cells: usize, passage: Passage, aisle: usize, left: &mut [u8])
     requires { (cells ≤ 24) × (aisle ≤ 16) × (length left.old ≡ 884) }
     ensures { left.new ≡ with_passage cells passage aisle left.old }
@@ -86,18 +75,11 @@ pub fn fill(layout: Layout, plan: PlanValue, left: &mut [u8])
     requires { (layout.cells ≤ 24) × (layout.aisles ≤ 16) × (length left.old ≡ 884) }
     ensures { left.new ≡ with_aisles layout.aisles layout.cells plan.stages layout.aisles left.old }
 {
-    let cells = layout.cells;
-    let aisles = layout.aisles;
-    let stages = plan.stages;
-    let mut j = 0;
-    while j < aisles {
-        let stage = stages[j];
-        let action = stage.action;
-        let passage = stage.passage;
-        j += 1;
-        fill_aisle(cells, action, j, left);
-        if j < aisles {
-            fill_passage(cells, passage, j, left);
+    for aisle in 1..=layout.aisles {
+        let stage = plan.stages[aisle - 1];
+        fill_aisle(layout.cells, stage.action, aisle, left);
+        if aisle < layout.aisles {
+            fill_passage(layout.cells, stage.passage, aisle, left);
         }
     }
 }

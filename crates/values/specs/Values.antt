@@ -1,20 +1,16 @@
 -- What the values stand for.
-use Rattle.std.specs.Prelude.{◌-◌, ◌≤◌, ◌≡◌, List, map, cond, take}
+use Rattle.std.specs.Prelude.{◌-◌, ◌≤◌, ◌≡◌, map, take, Option, Some, None, IfSome}
 use Rattle.rules.specs.declared.Window.{Window}
 use Rattle.rules.specs.declared.OrderLine.{OrderLine}
-use Rattle.rules.specs.declared.Pick.{Pick}
-use Rattle.rules.specs.declared.Run.{Run}
 use Rattle.rules.specs.Hours.{Hours, NoHours, At}
 use Rattle.rules.specs.Jobs.{Job}
 use Rattle.rules.specs.Plans.{Plan, plan_length}
 use Rattle.rules.specs.BestPlan.{best_plan}
 use Rattle.rules.specs.Refusals.{Admitted}
-use Rattle.values.specs.declared.HoursValue.{HoursValue}
+use Rattle.values.specs.declared.Clock.{Clock}
 use Rattle.values.specs.declared.JobValue.{JobValue}
 use Rattle.values.specs.declared.Stage.{Stage}
 use Rattle.values.specs.declared.PlanValue.{PlanValue}
-use Rattle.values.specs.declared.PickList.{PickList}
-use Rattle.values.specs.declared.RunList.{RunList}
 use Rattle.values.specs.declared.Routed.{Routed}
 
 -- a line that is not there
@@ -25,9 +21,10 @@ no_line = record { article = 0; quantity = 0 }
 abbrev pub no_window : Window
 no_window = record { aisle = 0; from = 0; to = 0 }
 
--- the hours of a value
-unfoldable pub hours_of : HoursValue → Hours
-hours_of v = cond v.timed (At v.minute (take v.count v.windows)) NoHours
+-- the hours of a job: those that its clock says, where it has one
+abbrev pub hours_of : Option Clock → Hours
+hours_of None = NoHours
+hours_of (Some clock) = At clock.minute (take clock.count clock.windows)
 
 -- the job of a value
 unfoldable pub job_of : JobValue → Job
@@ -48,19 +45,11 @@ plan_of v =
       passages = map (λ (s : Stage). s.passage) (take (v.aisles - 1) v.stages);
     }
 
--- the picks of a value
-unfoldable pub picks_of_value : PickList → List Pick
-picks_of_value v = take v.count v.picks
-
--- the runs of a value
-unfoldable pub runs_of_value : RunList → List Run
-runs_of_value v = take v.count v.runs
-
 -- a job whose counts are within its arrays, and to which no refusal applies
 pub record Sound (v : JobValue) : Type 0 where
   pub record_count : v.records ≤ 384
   pub order_count : v.orders ≤ 8
-  pub window_count : v.hours.count ≤ 64
+  pub window_count : IfSome v.hours (λ clock. clock.count ≤ 64)
   pub admitted : Admitted (job_of v)
 
 -- the routed plan of a job: the best plan, and its length

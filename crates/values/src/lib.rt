@@ -1,24 +1,22 @@
-// The values that the code crates hand to each other: arrays with a count, where the definitions have lists; and the depot's side,
-// which several of them ask.
+// The values that the code crates hand to each other, where the definitions have lists: lists of fixed room, and arrays with a count.
 #![tactic(auto)]
 
-ghost use Rattle.rules.specs.Store.{side_of};
-ghost use Rattle.std.specs.Prelude.{◌≡◌};
+ghost use Rattle.std.specs.Prelude.{◌≡◌, ◌≤◌, take};
 
-use rules::{
-    Action, Layout, OrderLine, Passage, Pick, Policy, Posts, Run, Side, StockRecord, Window,
-};
+use arrayvec::ArrayVec;
+use rules::{Action, Layout, OrderLine, Passage, Pick, Policy, Run, StockRecord, Window};
 
-// The hours of a job: whether the sections M and H stand in its file, the minute, and the windows; the first `count` of them count.
+// What the sections M and H say: the minute of the day, and the windows; the first `count` of them count. (The count may be more than
+// there is room for: a job file that says so is refused after others are tried, so that it is no list.)
 #[derive(Clone, Copy)]
-pub struct HoursValue {
-    pub timed: bool,
+pub struct Clock {
     pub minute: usize,
     pub count: usize,
     pub windows: [Window; 64],
 }
 
-// A job: the first `records` of its stock records and the first `orders` of its order lines count.
+// A job: the first `records` of its stock records and the first `orders` of its order lines count. It has a clock where the sections
+// M and H stand in its file. (The two numbers may be more than there is room for, as the count of windows.)
 #[derive(Clone, Copy)]
 pub struct JobValue {
     pub layout: Layout,
@@ -27,14 +25,15 @@ pub struct JobValue {
     pub stock: [StockRecord; 384],
     pub orders: usize,
     pub lines: [OrderLine; 8],
-    pub hours: HoursValue,
+    pub hours: Option<Clock>,
 }
 
-// What each cell of the store holds for the order lines, at (aisle - 1) * 24 + (cell - 1): the number + 1 of the line of its
-// article, 0 for none, and the quantity of its record; cells of shut aisles hold nothing. And which aisles are open, at aisle - 1.
+// What each cell of the store holds for the order lines, at (aisle - 1) * 24 + (cell - 1): the line of its article, by number from 0,
+// if it is on one, and the quantity of its record; cells of shut aisles hold nothing. And which aisles are open, at aisle - 1.
+// (The numbers are bytes, as a shelf is copied on a stack that the C header bounds.)
 #[derive(Clone, Copy)]
 pub struct Shelf {
-    pub line: [usize; 384],
+    pub line: [Option<u8>; 384],
     pub quantity: [usize; 384],
     pub open: [bool; 16],
 }
@@ -46,42 +45,33 @@ pub struct Stage {
     pub passage: Passage,
 }
 
-// A plan: the first `aisles` stages count; the passage of the last of them does not.
+// A plan: the first `aisles` stages count, at most all of them; the passage of the last of them does not. (A plan is copied where it is
+// passed on, which a list of fixed room is not.)
 #[derive(Clone, Copy)]
 pub struct PlanValue {
     pub aisles: usize,
     pub stages: [Stage; 16],
+    pub ghost fits: { aisles ≤ 16 },
 }
 
-// The picks of a plan: the first `count` of them.
-#[derive(Clone, Copy)]
-pub struct PickList {
-    pub count: usize,
-    pub picks: [Pick; 384],
+impl PlanValue {
+    // The stages that count.
+    pub fn as_slice(&self) -> &[Stage]
+        ensures { result.now ≡ take self.now.aisles self.now.stages }
+    {
+        &self.stages[..self.aisles]
+    }
 }
 
-// The runs of a walk: the first `count` of them.
-#[derive(Clone, Copy)]
-pub struct RunList {
-    pub count: usize,
-    pub runs: [Run; 860],
-}
+// The picks of a plan: at most as many as a store has cells.
+pub type PickList = ArrayVec<Pick, 384>;
+
+// The runs of a walk: at most 860.
+pub type RunList = ArrayVec<Run, 860>;
 
 // The plan of a job and its length.
 #[derive(Clone, Copy)]
 pub struct Routed {
     pub length: usize,
     pub plan: PlanValue,
-}
-
-// The side of the store at which the depot lies.
-pub fn depot_side(z: Layout) -> Side
-    ensures { result ≡ side_of z }
-{
-    let posts = z.posts;
-    match posts {
-        Posts::NoPosts => Side::FrontSide,
-        Posts::Every(_, _) => Side::FrontSide,
-        Posts::Sided(_, _, side) => side,
-    }
 }

@@ -4,5 +4,4 @@ pub mod Counts
 pub mod Order
 pub mod Notes
 pub mod Steps
-pub mod Entries
 pub mod Asked

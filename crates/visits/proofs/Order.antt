@@ -1,9 +1,9 @@
--- The numbers that a walk meets are those of the picks in its order, where at the number of each point stands the number of the pick
--- made there. A number that is met is taken out: so what stands in the list is always what is left of the picks.
+-- The picks that a walk meets are those in its order, where at the number of each point stands the pick made there.
+-- A pick that is met is taken out: so what stands in the list is always what is left of the picks.
 use Prim.Native.Nat.{ℕ, ◌+◌, ◌*◌, ◌≤◌}
 use native.Mathlib.Omega.{arith}
 use mathlib.Core.Path.{◌≡◌, refl, sym, ap, ap₂, ◌∙◌, subst}
-use mathlib.Core.List.{List, [], ◌∷◌, ◌++◌, map}
+use mathlib.Core.List.{List, [], ◌∷◌, ◌++◌}
 use mathlib.Core.Bool.{Bool, true, false, not, ◌&&◌, true≢false}
 use lib.ListN.{length, get_or, set, length-set}
 use lib.Seq.{get_or-set_same, get_or-set_other}
@@ -16,11 +16,13 @@ use Rattle.rules.specs.Lists.{select}
 use Rattle.rules.specs.Store.{Point, same_point}
 use Rattle.rules.specs.Walks.{Walk, can_step, step_to, walk_points}
 use Rattle.rules.specs.Page.{picked_at, pick_cell, in_order_of}
-use Rattle.rules.proofs.Lists.{select_none, select_both, select_implied, map-append}
+use Rattle.rules.proofs.Lists.{select_none, select_both, select_implied}
 use Rattle.closedwalks.specs.Ways.{PointOf, Leads}
 use Rattle.rules.proofs.WalkOrder.{same_point_lem, point_same}
 use Rattle.closedwalks.proofs.Steps.{stepped}
-use Rattle.visits.specs.Numbered.{next_spot, PointNumber, StaysIn, number_here, numbers_along}
+use Rattle.std.proofs.Common.{Option, None, option_to_list}
+use Rattle.flood.specs.Points.{next_by}
+use Rattle.visits.specs.Numbered.{PointNumber, StaysIn, noted_at, picks_along}
 
 -- the number of a point
 abbrev pub spot_at : Point → ℕ
@@ -44,10 +46,10 @@ spot_same p q v w e =
     let b : p.height ≡ q.height = omega arith in
     λ i. record { aisle = a i; height = b i }
 
--- what is left of the picks stands in the list, each number at its point; `named` tells the pick of a number
-pub record Standing (named : ℕ → Pick) (noted : List ℕ) (picks : List Pick) : Type 0 where
+-- what is left of the picks stands in the list, each at its point
+pub record Standing (noted : List (Option Pick)) (picks : List Pick) : Type 0 where
   pub size : length noted ≡ 442
-  pub here : (p : Point) → PointWithin p → map named (number_here (get_or noted (spot_at p) 0)) ≡ select (picked_at p) picks
+  pub here : (p : Point) → PointWithin p → noted_at noted (spot_at p) ≡ select (picked_at p) picks
 
 -- a pick is made at one point only
 one_point : (p q : Point) → same_point p q ≡ false → (x : Pick) → picked_at q x ≡ true → not (picked_at p x) ≡ true
@@ -66,22 +68,21 @@ none_here t picks = sym (select_both (λ x. not (t x)) t picks) ∙ select_none 
     never true = refl
     never false = refl
 
--- taking the number at a point out leaves the picks that are not made there
-standing_next : (named : ℕ → Pick) (noted : List ℕ) (picks : List Pick) (p : Point) → PointWithin p → Standing named noted picks
-    → Standing named (set noted (spot_at p) 0) (select (λ x. not (picked_at p x)) picks)
-standing_next named noted picks p v s = record { size = length-set noted (spot_at p) 0 ∙ s.size; here = λ q w. go q w (same_point p q) refl }
+-- taking the pick at a point out leaves the picks that are not made there
+standing_next : (noted : List (Option Pick)) (picks : List Pick) (p : Point) → PointWithin p → Standing noted picks → Standing (set noted (spot_at p) None) (select (λ x. not (picked_at p x)) picks)
+standing_next noted picks p v s = record { size = length-set noted (spot_at p) None ∙ s.size; here = λ q w. go q w (same_point p q) refl }
   where
     left : List Pick
     left = select (λ x. not (picked_at p x)) picks
 
-    go : (q : Point) → PointWithin q → (b : Bool) → same_point p q ≡ b → map named (number_here (get_or (set noted (spot_at p) 0) (spot_at q) 0)) ≡ select (picked_at q) left
+    go : (q : Point) → PointWithin q → (b : Bool) → same_point p q ≡ b → noted_at (set noted (spot_at p) None) (spot_at q) ≡ select (picked_at q) left
     go q w true e =
-        let at_p : get_or (set noted (spot_at p) 0) (spot_at p) 0 ≡ 0 = get_or-set_same noted (spot_at p) 0 0 (omega (arith, s.size, point_number p v)) in
-        subst (λ (r : Point). map named (number_here (get_or (set noted (spot_at p) 0) (spot_at r) 0)) ≡ select (picked_at r) left) (same_point_lem p q e)
-        (ap (λ (n : ℕ). map named (number_here n)) at_p ∙ sym (none_here (picked_at p) picks))
+        let at_p : get_or (set noted (spot_at p) None) (spot_at p) None ≡ None = get_or-set_same noted (spot_at p) None None (omega (arith, s.size, point_number p v)) in
+        subst (λ (r : Point). noted_at (set noted (spot_at p) None) (spot_at r) ≡ select (picked_at r) left) (same_point_lem p q e)
+        (ap option_to_list at_p ∙ sym (none_here (picked_at p) picks))
     go q w false e =
         let other : spot_at q ≡ spot_at p → ⊥ = λ f. true≢false (sym (point_same p q (sym (spot_same q p w v f))) ∙ e) in
-        ap (λ (n : ℕ). map named (number_here n)) (get_or-set_other noted (spot_at p) (spot_at q) 0 0 other)
+        ap option_to_list (get_or-set_other noted (spot_at p) (spot_at q) None None other)
         ∙ s.here q w
         ∙ sym (select_implied (picked_at q) (λ x. not (picked_at p x)) (one_point p q e) picks)
 
@@ -92,7 +93,7 @@ module _ (z : Layout) (wide : z.aisles ≤ 16) (deep : z.cells ≤ 24) where
   point_within x p = record { aisle = (p.first, omega (arith, p.last)); height = omega (arith, p.high) }
 
   -- the number of the point where a step ends
-  next_number : (x : Point) → PointOf z x → (d : Direction) → can_step z x d ≡ true → spot_at (step_to x d) ≡ next_spot d (spot_at x)
+  next_number : (x : Point) → PointOf z x → (d : Direction) → can_step z x d ≡ true → spot_at (step_to x d) ≡ next_by d (spot_at x)
   unfolding step_to can_step
   next_number x p Back c = omega arith
   next_number x p Front c = let h = ltb-true 0 x.height c in omega arith
@@ -106,17 +107,14 @@ module _ (z : Layout) (wide : z.aisles ≤ 16) (deep : z.cells ≤ 24) where
       let s = stepped z x p d l.0 in
       (point_number x (point_within x p), subst (λ (n : ℕ). StaysIn n walk) (next_number x p d l.0) (stays_in (step_to x d) y walk s.end l.1))
 
-  -- and meets the numbers of the picks in its order
-  pub met_in_order : (named : ℕ → Pick) (x y : Point) (walk : Walk) → PointOf z x → Leads z x walk y → (noted : List ℕ) (picks : List Pick) → Standing named noted picks
-      → map named (numbers_along (spot_at x) walk noted) ≡ in_order_of (walk_points x walk) picks
-  met_in_order named x y [] p l noted picks s = refl
-  met_in_order named x y (d ∷ walk) p l noted picks s =
+  -- and meets the picks in its order
+  pub met_in_order : (x y : Point) (walk : Walk) → PointOf z x → Leads z x walk y → (noted : List (Option Pick)) (picks : List Pick) → Standing noted picks
+      → picks_along (spot_at x) walk noted ≡ in_order_of (walk_points x walk) picks
+  met_in_order x y [] p l noted picks s = refl
+  met_in_order x y (d ∷ walk) p l noted picks s =
       let next = step_to x d in
       let o = (stepped z x p d l.0).end in
       let w = point_within next o in
       let n = spot_at next in
-      let rest = met_in_order named next y walk o l.1 (set noted n 0) (select (λ t. not (picked_at next t)) picks) (standing_next named noted picks next w s) in
-      let along : (k : ℕ) → List ℕ = λ k. number_here (get_or noted k 0) ++ numbers_along k walk (set noted k 0) in
-      ap (λ (k : ℕ). map named (along k)) (sym (next_number x p d l.0))
-      ∙ map-append named (number_here (get_or noted n 0)) (numbers_along n walk (set noted n 0))
-      ∙ ap₂ ◌++◌ (s.here next w) rest
+      let rest = met_in_order next y walk o l.1 (set noted n None) (select (λ t. not (picked_at next t)) picks) (standing_next noted picks next w s) in
+      ap (λ (k : ℕ). noted_at noted k ++ picks_along k walk (set noted k None)) (sym (next_number x p d l.0)) ∙ ap₂ ◌++◌ (s.here next w) rest

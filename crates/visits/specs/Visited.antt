@@ -8,9 +8,6 @@ use Rattle.rules.specs.Lists.{concat_of, Sorted}
 use Rattle.rules.specs.Store.{layout_in_bounds}
 use Rattle.rules.specs.Walks.{Walk, ClosedWalk}
 use Rattle.rules.specs.Page.{pick_cell}
-use Rattle.values.specs.declared.PickList.{PickList}
-use Rattle.values.specs.declared.RunList.{RunList}
-use Rattle.values.specs.Values.{picks_of_value, runs_of_value}
 
 -- the steps of a run
 unfoldable pub steps_of_run : Run → Walk
@@ -30,11 +27,10 @@ unfoldable pub Apart : Pick → Pick → Type 0
 Apart x y = pick_cell x ≡ pick_cell y → ⊥
 
 -- picks in cells of the store, no two of them in one, and the runs of a closed walk of at most 860 steps
-pub record Walked (z : Layout) (picks : PickList) (runs : RunList) : Type 0 where
+pub record Walked (z : Layout) (picks : List Pick) (runs : List Run) : Type 0 where
   pub bounds : layout_in_bounds z ≡ true
-  pub pick_count : picks.count ≤ 384
-  pub run_count : runs.count ≤ 860
-  pub cells : (x : Pick) → Memᴰ x (picks_of_value picks) → CellWithin z x
-  pub apart : Sorted Apart (picks_of_value picks)
-  pub closed : ClosedWalk z (walk_of_runs (runs_of_value runs))
-  pub steps : length (walk_of_runs (runs_of_value runs)) ≤ 860
+  pub pick_count : length picks ≤ 384
+  pub cells : (x : Pick) → Memᴰ x picks → CellWithin z x
+  pub apart : Sorted Apart picks
+  pub closed : ClosedWalk z (walk_of_runs runs)
+  pub steps : length (walk_of_runs runs) ≤ 860

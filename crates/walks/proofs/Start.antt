@@ -30,12 +30,12 @@ use Rattle.closedwalks.proofs.Statements.{first_walk_lem, few_steps}
 use Rattle.flood.specs.Points.{depot_number}
 use Rattle.values.specs.declared.PlanValue.{PlanValue}
 use Rattle.values.specs.Values.{plan_of}
-use Rattle.walks.specs.Treads.{spot, point_at, left_of}
+use Rattle.treads.specs.Treads.{spot, point_at, left_of}
 use Rattle.walks.specs.Letters.{finds, Walkable, letters_left}
 use Rattle.walks.specs.Lawfully.{LawfulPlan}
-use Rattle.walks.proofs.Places.{spot_point}
+use Rattle.treads.proofs.Places.{spot_point}
 use Rattle.walks.proofs.Choice.{finds_tells}
-use Rattle.walks.proofs.Filled.{plan_list, plan_charted, plan_treads}
+use Rattle.treads.proofs.Filled.{plan_list, plan_charted, plan_treads}
 
 -- treads that agree on the store's edges
 module _ (z : Layout) where
@@ -109,7 +109,8 @@ module _ (z : Layout) (plan : PlanValue) (w : LawfulPlan z plan) where
       record {
         bounds = w.bounds;
         charted = plan_charted z wide deep plan w.aisles;
-        ready = subst (λ (x : Point). Ready z (left_of z (plan_list z plan)) x) (sym depot_at) (ready_same z (multiplicity (plan_of plan)) (left_of z (plan_list z plan)) (depot_point z) agrees planned);
+        ready = subst (λ (x : Point). Ready z (left_of z (plan_list z plan)) x) (sym depot_at)
+            (ready_same z (multiplicity (plan_of plan)) (left_of z (plan_list z plan)) (depot_point z) agrees planned);
       }
 
   -- there is room for its letters

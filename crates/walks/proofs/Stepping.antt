@@ -24,13 +24,19 @@ use Rattle.closedwalks.proofs.Parity.{total_step}
 use Rattle.closedwalks.proofs.Counts.{layout_bounds}
 use Rattle.closedwalks.proofs.Greedily.{spare_joined}
 use Rattle.closedwalks.proofs.Statements.{completed}
-use Rattle.walks.specs.Treads.{spot, point_at, slot_of, left_of, Charted}
+use Rattle.treads.specs.Treads.{spot, point_at, slot_of, left_of, Charted}
 use Rattle.flood.specs.Flooded.{AllReached, Ranged}
-use Rattle.walks.specs.Letters.{slot_by, next_by, treads_at, finds, Walkable, can_be, next_letter, letters_left}
+use Rattle.flood.specs.Points.{next_by}
+use Rattle.walks.specs.Letters.{slot_by, treads_at, finds, Walkable, can_be, next_letter, letters_left}
 use Rattle.flood.proofs.Flooding.{same_or_not, seen_below, none_at}
-use Rattle.walks.proofs.Places.{spot_at_lem, spot_point, spot_range, left_in, left_without, charted_fewer, charted_range, letter_slot, letter_next, free_slot, slot_free, free_test}
-use Rattle.walks.proofs.Reaching.{reached_joined}
+use Rattle.treads.proofs.Places.{spot_at_lem, spot_point, spot_range, left_in, left_without, charted_fewer, charted_range}
+use Rattle.walks.proofs.Places.{letter_slot, letter_next, free_slot, slot_free, free_test}
+use Rattle.treads.proofs.Reaching.{reached_joined}
 use Rattle.walks.proofs.Choice.{finds_tells, only_joined, chosen_ready, some_chosen, greedy_chosen}
+
+-- the letters that are tried, in the order of the alphabet
+abbrev pub tried : ℕ → Direction
+tried k = get_or (Back ∷ Front ∷ Left ∷ []) k Back
 
 -- a test that holds exactly where another does
 same_test : (a b : Bool) → (a ≡ true → b ≡ true) → (b ≡ true → a ≡ true) → a ≡ b
@@ -94,6 +100,9 @@ module _ (z : Layout) (left : List ℕ) (at : ℕ) (w : Walkable z left at) wher
   -- the point's number, and where its edges have their places
   pub at_range : (26 ≤ at) × (at < 26 * (z.aisles + 1)) × (at < 442)
   at_range = subst (λ (n : ℕ). (26 ≤ n) × (n < 26 * (z.aisles + 1)) × (n < 442)) (spot_at_lem at) (spot_range z wide deep x inside)
+
+  pub at_in : (26 ≤ at) × (at < 442)
+  at_in = (at_range.0, at_range.2)
 
   -- the edges that are left lie in the store
   pub left_range : Ranged left (26 * (z.aisles + 1))
@@ -270,7 +279,7 @@ module _ (z : Layout) (left : List ℕ) (at : ℕ) (w : Walkable z left at) wher
 
   -- and nothing is left anywhere
   pub none_left : treads_at left at ≡ 0 → left ≡ replicate 884 0
-  none_left e = ext_get_or 0 left (replicate 884 0) (w.charted.size ∙ sym (length-replicate {A = ℕ} 884 0)) (λ i l. nothing i (none_or_some (get_or left i 0)) ∙ sym (none_at 884 i))
+  none_left e = ext_get_or 0 left (replicate 884 0) (w.charted.size ∙ sym (length-replicate {A = ℕ} 884 0)) (λ i l. nothing i (none_or_some (get_or left i 0)) ∙ sym (none_at {A = ℕ} 0 884 i))
     where
       -- the walk that treads all that is left has no first step
       used : (walk : Walk) → Leads z x walk (depot_point z) → ((f : Edge) → InStore z f → treads_from x walk f ≡ left_of z left f) → (f : Edge) → InStore z f → left_of z left f ≡ 0
@@ -287,38 +296,29 @@ module _ (z : Layout) (left : List ℕ) (at : ℕ) (w : Walkable z left at) wher
           ap (λ (k : ℕ). get_or left k 0) (sym t.2) ∙ sym (left_in z left t.0 t.1) ∙ used v.0 v.1 v.2 t.0 t.1
 
   -- the first letter that can be next is the next letter
-  module _ (back : Bool) (at_back : back ≡ can_be z left at Back) where
-    pub first_back : back ≡ true → next_letter z left at ≡ some Back
-    unfolding next_letter
-    first_back e = let b : can_be z left at Back ≡ true = sym at_back ∙ e in rw b
+  pub first_tried : (k : ℕ) → k < 3 → ((i : ℕ) → i < k → can_be z left at (tried i) ≡ false) → can_be z left at (tried k) ≡ true → next_letter z left at ≡ some (tried k)
+  unfolding next_letter
+  first_tried zero h none here = rw here
+  first_tried (suc zero) h none here = let back : can_be z left at Back ≡ false = none 0 (omega arith) in rw (back, here)
+  first_tried (suc (suc zero)) h none here =
+      let back : can_be z left at Back ≡ false = none 0 (omega arith) in
+      let front : can_be z left at Front ≡ false = none 1 (omega arith) in
+      rw (back, front, here)
+  first_tried (suc (suc (suc k))) h none here = absurd (omega arith)
 
-    module _ (no-back : back ≡ false) (front : Bool) (at_front : front ≡ can_be z left at Front) where
-      pub first_front : front ≡ true → next_letter z left at ≡ some Front
-      unfolding next_letter
-      first_front e = let b : can_be z left at Back ≡ false = sym at_back ∙ no-back in let f : can_be z left at Front ≡ true = sym at_front ∙ e in rw (b, f)
-
-      module _ (no_front : front ≡ false) (leftwards : Bool) (at_left : leftwards ≡ can_be z left at Left) where
-        pub first_left : leftwards ≡ true → next_letter z left at ≡ some Left
-        unfolding next_letter
-        first_left e =
-            let b : can_be z left at Back ≡ false = sym at_back ∙ no-back in
-            let f : can_be z left at Front ≡ false = sym at_front ∙ no_front in
-            let l : can_be z left at Left ≡ true = sym at_left ∙ e in
-            rw (b, f, l)
-
-        -- where the others can't be next, R is
-        pub first_right : leftwards ≡ false → 0 < treads_at left at → next_letter z left at ≡ some Right
-        unfolding next_letter
-        first_right e h =
-            let b : can_be z left at Back ≡ false = sym at_back ∙ no-back in
-            let f : can_be z left at Front ≡ false = sym at_front ∙ no_front in
-            let l : can_be z left at Left ≡ false = sym at_left ∙ e in
-            let t = some_letter h in
-            rw (b, f, l) (go (can_be z left at Right) t.0 (rw (b, f, l) at t.1))
-          where
-            go : (r : Bool) (d : Direction) → first_letter false false false r ≡ some d → first_letter false false false r ≡ some Right
-            go true d q = refl
-            go false d q = absurd (let bad : ◌≡◌ {A = ℕ} 0 1 = cc in omega arith)
+  -- where the others can't be next, R is
+  pub last_right : ((i : ℕ) → i < 3 → can_be z left at (tried i) ≡ false) → 0 < treads_at left at → next_letter z left at ≡ some Right
+  unfolding next_letter
+  last_right none h =
+      let back : can_be z left at Back ≡ false = none 0 (omega arith) in
+      let front : can_be z left at Front ≡ false = none 1 (omega arith) in
+      let leftwards : can_be z left at Left ≡ false = none 2 (omega arith) in
+      let t = some_letter h in
+      rw (back, front, leftwards) (go (can_be z left at Right) t.0 (rw (back, front, leftwards) at t.1))
+    where
+      go : (r : Bool) (d : Direction) → first_letter false false false r ≡ some d → first_letter false false false r ≡ some Right
+      go true d q = refl
+      go false d q = absurd (let bad : ◌≡◌ {A = ℕ} 0 1 = cc in omega arith)
 
 -- a letter's place is in the list
 pub slot_below : (d : Direction) (at : ℕ) → at < 442 → slot_by d at < 884

@@ -1,15 +1,14 @@
 -- The letters by the numbers of points, and the test of a letter.
-use Rattle.std.specs.Prelude.{ℕ, ◌+◌, ◌-◌, ◌≡◌, List, ◌++◌, map, Bool, true, false, length, drop, get_or}
+use Rattle.std.specs.Prelude.{ℕ, ◌+◌, ◌-◌, ◌≡◌, List, Bool, true, false, get_or}
 use Rattle.std.proofs.Math.Option.{Option, none, some}
 use Rattle.rules.specs.declared.Layout.{Layout}
 use Rattle.rules.specs.declared.Direction.{Direction}
 use Rattle.rules.specs.declared.Direction.TheVariants.{Back, Front, Left, Right}
 use Rattle.rules.specs.Store.{layout_in_bounds}
 use Rattle.rules.specs.Walks.{Walk, step_to, step_edge}
-use Rattle.rules.specs.Sheet.{letter_of}
 use Rattle.rules.specs.FirstWalk.{without, first_from, steps_of}
 use Rattle.closedwalks.specs.Greedy.{LetterTest, first_letter, admits, greedy, Ready}
-use Rattle.walks.specs.Treads.{point_at, left_of, Charted}
+use Rattle.treads.specs.Treads.{point_at, left_of, Charted}
 
 -- the place of the treads that way
 abbrev pub slot_by : Direction → ℕ → ℕ
@@ -18,17 +17,11 @@ slot_by Front n = n - 1
 slot_by Left n = n + 416
 slot_by Right n = n + 442
 
--- the number of the point that way
-abbrev pub next_by : Direction → ℕ → ℕ
-next_by Back n = n + 1
-next_by Front n = n - 1
-next_by Left n = n - 26
-next_by Right n = n + 26
-
 -- the treads that are left at a point
 abbrev pub treads_at : List ℕ → ℕ → ℕ
 treads_at left n = get_or left (slot_by Back n) 0 + get_or left (slot_by Front n) 0 + get_or left (slot_by Left n) 0 + get_or left (slot_by Right n) 0
 
+-- whether the search found a walk
 abbrev pub is_some : Option Walk → Bool
 is_some none = false
 is_some (some walk) = true
@@ -54,8 +47,3 @@ next_letter z left at = first_letter (can_be z left at Back) (can_be z left at F
 -- the letters that are still to come
 unfoldable pub letters_left : Layout → List ℕ → ℕ → Walk
 letters_left z left at = greedy z (finds z) (steps_of z (left_of z left)) (left_of z left) (point_at at)
-
--- the letters of a walk stand at the front of a lent space, the rest of which is as it was
-pub record Spelt (walk : Walk) (before after : List ℕ) (count : ℕ) : Type 0 where
-  pub text : after ≡ map letter_of walk ++ drop count before
-  pub number : count ≡ length walk

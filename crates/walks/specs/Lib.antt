@@ -1,4 +1,2 @@
-pub mod Treads
 pub mod Letters
-pub mod Filling
 pub mod Lawfully

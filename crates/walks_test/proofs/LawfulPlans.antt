@@ -26,10 +26,12 @@ use Rattle.tours.proofs.Exact.{closed_lawful}
 use Rattle.walks.specs.Lawfully.{LawfulPlan}
 use Rattle.walks_test.specs.Plans.{store_of, back_depot, mixed, six, two}
 
+-- both parts of a test hold
 both : (a b : Bool) → (a && b) ≡ true → (a ≡ true) × (b ≡ true)
 both true b h = (refl, h)
 both false b h = (h, absurd (let bad : ◌≡◌ {A = ℕ} 0 1 = cc in omega arith))
 
+-- the machine has closed the plan off
 abbrev is_closed : State → Bool
 is_closed nothing = false
 is_closed closed = true
@@ -41,6 +43,7 @@ is_closed split = false
 is_closed ending = false
 is_closed dead = false
 
+-- which only one state says
 is_closed_lem : (s : State) → is_closed s ≡ true → s ≡ closed
 is_closed_lem nothing h = cc
 is_closed_lem closed h = refl
@@ -52,6 +55,7 @@ is_closed_lem split h = cc
 is_closed_lem ending h = cc
 is_closed_lem dead h = cc
 
+-- an action fits into an aisle of that many cells, as a test
 abbrev fits_in : ℕ → Action → Bool
 fits_in cells Void = true
 fits_in cells (Bottom i) = leb 1 i && leb i cells
@@ -60,6 +64,7 @@ fits_in cells (Gap h i) = leb 1 h && ltb h i && leb i cells
 fits_in cells Once = true
 fits_in cells Twice = true
 
+-- the test says so
 fits_in_lem : (cells : ℕ) (a : Action) → fits_in cells a ≡ true → Fits cells a
 fits_in_lem cells Void h = tt
 fits_in_lem cells (Bottom i) h = let t = both (leb 1 i) (leb i cells) h in (leb-true 1 i t.0, leb-true i cells t.1)
@@ -71,6 +76,7 @@ fits_in_lem cells (Gap g i) h =
 fits_in_lem cells Once h = tt
 fits_in_lem cells Twice h = tt
 
+-- each action of a list fits
 all_fit : (cells : ℕ) (actions : List Action) → all_of (fits_in cells) actions ≡ true → (j : ℕ) → Fits cells (nth actions j Void)
 all_fit cells actions h zero = tt
 all_fit cells [] h (suc j) = tt
@@ -98,6 +104,7 @@ module _ (z : Layout) (value : PlanValue) where
   abbrev right : Bool
   right = inside && counted && all_of (fits_in z.cells) plan.actions && ends
 
+  -- where all of it is right, the plan is lawful
   lawful_plan : right ≡ true → LawfulPlan z value
   unfolding action_at
   lawful_plan h =
@@ -114,6 +121,7 @@ module _ (z : Layout) (value : PlanValue) where
       let seen = closed_lawful (seen_formed (side_of z) z plan formed) (ltb-true 0 z.depot b.1) end in
       record { bounds = b.0; aisles = eqb-true value.aisles z.aisles d.1; lawful = inl ((lawful_seen z plan formed).0 seen) }
 
+-- the three plans of the test
 pub mixed_lawful : LawfulPlan (store_of 4 5 2 NoPosts) mixed
 unfolding plan_of layout_in_bounds within action_at passage_at
 mixed_lawful = lawful_plan (store_of 4 5 2 NoPosts) mixed refl

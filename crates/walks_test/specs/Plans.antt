@@ -1,5 +1,6 @@
 -- The plans of the test, with TWICE and 22.
-use Rattle.std.specs.Prelude.{ℕ, ◌-◌, List, [], ◌∷◌, ◌++◌, length, replicate}
+use Rattle.std.specs.Prelude.{ℕ, ◌-◌, ◌≤◌, List, [], ◌∷◌, ◌++◌, length, replicate}
+use Rattle.std.proofs.Common.{lit≤}
 use Rattle.rules.specs.declared.Layout.{Layout}
 use Rattle.rules.specs.declared.Posts.{Posts}
 use Rattle.rules.specs.declared.Posts.TheVariants.{Sided}
@@ -23,18 +24,22 @@ back_depot = Sided 1 0 BackSide
 abbrev pub stage : Action → Passage → Stage
 stage action passage = record { action = action; passage = passage }
 
--- a plan of the aisles from the first on
-abbrev pub plan_with : List Stage → PlanValue
-plan_with stages = record { aisles = length stages; stages = stages ++ replicate (16 - length stages) (stage Void P00) }
+-- the stages of the aisles from the first on, and behind them those that do not count
+abbrev pub padded : List Stage → List Stage
+padded stages = stages ++ replicate (16 - length stages) (stage Void P00)
+
+-- a plan of these aisles
+abbrev pub plan_with : (stages : List Stage) → length stages ≤ 16 → PlanValue
+plan_with stages fits = record { aisles = length stages; stages = padded stages; fits = fits }
 
 -- ONCE and TWICE
 abbrev pub mixed : PlanValue
-mixed = plan_with (stage Void P22 ∷ stage Once P11 ∷ stage Once P22 ∷ stage Twice P00 ∷ [])
+mixed = plan_with (stage Void P22 ∷ stage Once P11 ∷ stage Once P22 ∷ stage Twice P00 ∷ []) (lit≤ tt)
 
 -- six aisles, the depot at the last
 abbrev pub six : PlanValue
-six = plan_with (stage (Gap 1 3) P22 ∷ stage (Gap 3 4) P22 ∷ stage Twice P02 ∷ stage Twice P20 ∷ stage Twice P22 ∷ stage (Top 3) P00 ∷ [])
+six = plan_with (stage (Gap 1 3) P22 ∷ stage (Gap 3 4) P22 ∷ stage Twice P02 ∷ stage Twice P20 ∷ stage Twice P22 ∷ stage (Top 3) P00 ∷ []) (lit≤ tt)
 
 -- two aisles, each trodden twice
 abbrev pub two : PlanValue
-two = plan_with (stage Twice P22 ∷ stage Twice P00 ∷ [])
+two = plan_with (stage Twice P22 ∷ stage Twice P00 ∷ []) (lit≤ tt)

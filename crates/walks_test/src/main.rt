@@ -3,51 +3,35 @@
 
 mod plans;
 
-ghost use Rattle.std.specs.Prelude.{◌≤◌};
 ghost use Rattle.walks.specs.Lawfully.{LawfulPlan};
 
-use rules::{Direction, Layout, Posts, Side};
-use std::io::{Result, Write};
-use values::{PlanValue, RunList};
+use rules::{Layout, Posts, Run, Side};
+use std::io::Result;
+use values::PlanValue;
 
-fn print_letter(rt: &HostRuntime, d: Direction) -> Result<()> {
-    let letter = match d {
-        Direction::Back => b'B',
-        Direction::Front => b'F',
-        Direction::Left => b'L',
-        Direction::Right => b'R',
-    };
-    let text = [letter, b' '];
-    std::io::writer(rt).write_all(&text)
+// A run: its letter and its steps.
+fn print_run(rt: &HostRuntime, run: Run) -> Result<()> {
+    let letter = char::from(run.direction.letter());
+    let steps = run.steps;
+    println!(rt; "{letter} {steps}")
 }
 
-fn print_line(rt: &HostRuntime, n: usize) -> Result<()> {
-    println!(rt; "{n}")
-}
-
-fn print_runs(rt: &HostRuntime, list: RunList) -> Result<()>
-    requires { list.count ≤ 860 }
-{
-    let count = list.count;
-    let runs = list.runs;
-    print!(rt; "W ")?;
-    print_line(rt, count)?;
-    let mut i = 0;
-    while i < count {
-        let run = runs[i];
-        let direction = run.direction;
-        let steps = run.steps;
-        print_letter(rt, direction)?;
-        print_line(rt, steps)?;
-        i += 1;
+// The number of runs, and each of them.
+fn print_runs(rt: &HostRuntime, runs: &[Run]) -> Result<()> {
+    let count = runs.len();
+    println!(rt; "W {count}")?;
+    for run in runs {
+        print_run(rt, *run)?;
     }
     Ok(())
 }
 
+// The walk of a plan.
 fn print_walk(rt: &HostRuntime, layout: Layout, plan: PlanValue) -> Result<()>
     requires { LawfulPlan layout plan }
 {
-    print_runs(rt, walks::walk_runs(layout, plan))
+    let runs = walks::walk_runs(layout, plan);
+    print_runs(rt, runs.as_slice())
 }
 
 fn main(rt: HostRuntime) -> Result<()> {

@@ -1,6 +1,6 @@
 // Three plans with TWICE and 22: no sheet of tests/vectors or tests/cases has TWICE, and only four have 22.
-ghost use Rattle.std.specs.Prelude.{◌≡◌};
-ghost use Rattle.walks_test.specs.Plans.{store_of, mixed, six, two};
+ghost use Rattle.std.specs.Prelude.{◌≡◌, ◌≤◌, length};
+ghost use Rattle.walks_test.specs.Plans.{store_of, stage, padded, mixed, six, two};
 
 use rules::{Action, Layout, Passage, Posts};
 use values::{PlanValue, Stage};
@@ -21,83 +21,59 @@ pub fn store(aisles: usize, cells: usize, depot: usize, posts: Posts) -> Layout
     }
 }
 
+// An action and the passage behind it.
+fn stage(action: Action, passage: Passage) -> Stage
+    ensures { result ≡ stage action passage }
+{
+    Stage { action, passage }
+}
+
+// A plan of the aisles from the first on.
+fn plan_with(given: &[Stage]) -> PlanValue
+    requires { length given.now ≤ 16 }
+    ensures aisles { result.aisles ≡ length given.now }
+    ensures stages { result.stages ≡ padded given.now }
+{
+    let mut stages = [stage(Action::Void, Passage::P00); 16];
+    stages[..given.len()].copy_from_slice(given);
+    PlanValue {
+        aisles: given.len(),
+        stages,
+    }
+}
+
 // VOID 22 ONCE 11 ONCE 22 TWICE.
 pub fn mixed() -> PlanValue
     ensures { result ≡ mixed }
 {
-    let mut stages = [Stage {
-        action: Action::Void,
-        passage: Passage::P00,
-    }; 16];
-    stages[0] = Stage {
-        action: Action::Void,
-        passage: Passage::P22,
-    };
-    stages[1] = Stage {
-        action: Action::Once,
-        passage: Passage::P11,
-    };
-    stages[2] = Stage {
-        action: Action::Once,
-        passage: Passage::P22,
-    };
-    stages[3] = Stage {
-        action: Action::Twice,
-        passage: Passage::P00,
-    };
-    PlanValue { aisles: 4, stages }
+    plan_with(&[
+        stage(Action::Void, Passage::P22),
+        stage(Action::Once, Passage::P11),
+        stage(Action::Once, Passage::P22),
+        stage(Action::Twice, Passage::P00),
+    ])
 }
 
 // GAP 1 3 22 GAP 3 4 22 TWICE 02 TWICE 20 TWICE 22 TOP 3.
 pub fn six() -> PlanValue
     ensures { result ≡ six }
 {
-    let mut stages = [Stage {
-        action: Action::Void,
-        passage: Passage::P00,
-    }; 16];
-    stages[0] = Stage {
-        action: Action::Gap(1, 3),
-        passage: Passage::P22,
-    };
-    stages[1] = Stage {
-        action: Action::Gap(3, 4),
-        passage: Passage::P22,
-    };
-    stages[2] = Stage {
-        action: Action::Twice,
-        passage: Passage::P02,
-    };
-    stages[3] = Stage {
-        action: Action::Twice,
-        passage: Passage::P20,
-    };
-    stages[4] = Stage {
-        action: Action::Twice,
-        passage: Passage::P22,
-    };
-    stages[5] = Stage {
-        action: Action::Top(3),
-        passage: Passage::P00,
-    };
-    PlanValue { aisles: 6, stages }
+    plan_with(&[
+        stage(Action::Gap(1, 3), Passage::P22),
+        stage(Action::Gap(3, 4), Passage::P22),
+        stage(Action::Twice, Passage::P02),
+        stage(Action::Twice, Passage::P20),
+        stage(Action::Twice, Passage::P22),
+        stage(Action::Top(3), Passage::P00),
+    ])
 }
 
 // TWICE 22 TWICE.
 pub fn two() -> PlanValue
     ensures { result ≡ two }
 {
-    let mut stages = [Stage {
-        action: Action::Void,
-        passage: Passage::P00,
-    }; 16];
-    stages[0] = Stage {
-        action: Action::Twice,
-        passage: Passage::P22,
-    };
-    stages[1] = Stage {
-        action: Action::Twice,
-        passage: Passage::P00,
-    };
-    PlanValue { aisles: 2, stages }
+    plan_with(&[
+        stage(Action::Twice, Passage::P22),
+        stage(Action::Twice, Passage::P00),
+    ])
 }

@@ -1,110 +1,65 @@
+use Prim.Native.Nat.{◌-◌}
 use native.Mathlib.Omega.{arith}
 use native.Mathlib.Numerals.{add-one}
-use mathlib.Core.Path.{refl}
+use mathlib.Core.Path.{◌≡◌, refl}
 use Rattle.rules.specs.declared.Passage.TheVariants.{P00}
 use Rattle.values.specs.declared.Stage.{Stage}
-use Rattle.annex_plans.proofs.Finding.{going_start, going_cut, going_end}
+use Rattle.annex_plans.proofs.Finding.{going_cut, going_end}
 use Rattle.annex_plans.proofs.plan_at.Goals as goal
-use Rattle.annex_plans.proofs.plan_at.Goals.{After-loop-j, In-loop-j}
-
-pub action_count-count-requires : goal.action_count-count-requires
-action_count-count-requires c = omega (arith, c.requires.0)
-
-pub plan_count-size-requires : goal.plan_count-size-requires
-plan_count-size-requires c = let p = c.requires in (p.0, p.1, p.2)
-
-pub loop-j-init : goal.loop-j-init
-loop-j-init c =
-    let x = c.args in
-    going_start x.cells x.aisles x.number _ c.plan_count-size.result c.requires.1 c.plan_count-size.ensures.0 c.requires.3 refl
-
-pub overflow_add-j : goal.overflow_add-j
-overflow_add-j c = let g = c.loop-j.invariant.left in omega (arith, c.requires.2)
-
-pub nonzero_div-a : goal.nonzero_div-a
-nonzero_div-a c =
-    -- what one more aisle needs
-    let l = c.loop-j in
-    let k = c.action_count-count in
-    let cut = going_cut c.args.cells c.args.aisles c.args.number l.stages l.size l.rest l.j k.result k.ensures l.invariant (omega (arith, c.requires.2)) c.loop-j-test.true in
-    cut.block_some
 
 pub nonzero_rem-behind : goal.nonzero_rem-behind
 nonzero_rem-behind c =
     let l = c.loop-j in
     let k = c.action_count-count in
-    let cut = going_cut c.args.cells c.args.aisles c.args.number l.stages l.size l.rest l.j k.result k.ensures l.invariant (omega (arith, c.requires.2)) c.loop-j-test.true in
-    cut.block_some
+    (going_cut _ _ _ _ _ _ _ k.result k.ensures l.invariant (omega (arith, c.requires.2)) (omega (arith, c.loop-j-test.true))).block_some
 
-pub nonzero_div-p : goal.nonzero_div-p
-nonzero_div-p c =
+pub nonzero_div-rest : goal.nonzero_div-rest
+nonzero_div-rest c =
     let l = c.loop-j in
     let k = c.action_count-count in
-    let cut = going_cut c.args.cells c.args.aisles c.args.number l.stages l.size l.rest l.j k.result k.ensures l.invariant (omega (arith, c.requires.2)) c.loop-j-test.true in
-    cut.rest_some
-
-pub nonzero_rem-rest : goal.nonzero_rem-rest
-nonzero_rem-rest c =
-    let l = c.loop-j in
-    let k = c.action_count-count in
-    let cut = going_cut c.args.cells c.args.aisles c.args.number l.stages l.size l.rest l.j k.result k.ensures l.invariant (omega (arith, c.requires.2)) c.loop-j-test.true in
-    cut.rest_some
+    (going_cut _ _ _ _ _ _ _ k.result k.ensures l.invariant (omega (arith, c.requires.2)) (omega (arith, c.loop-j-test.true))).block_some
 
 pub action_at-action-requires : goal.action_at-action-requires
 action_at-action-requires c =
     let l = c.loop-j in
     let k = c.action_count-count in
-    let cut = going_cut c.args.cells c.args.aisles c.args.number l.stages l.size l.rest l.j k.result k.ensures l.invariant (omega (arith, c.requires.2)) c.loop-j-test.true in
-    (omega (arith, c.requires.0), cut.action)
+    (omega (arith, c.requires.0), (going_cut _ _ _ _ _ _ _ k.result k.ensures l.invariant (omega (arith, c.requires.2)) (omega (arith, c.loop-j-test.true))).action)
+
+pub nonzero_div-behind : goal.nonzero_div-behind
+nonzero_div-behind c =
+    let l = c.loop-j in
+    let k = c.action_count-count in
+    (going_cut _ _ _ _ _ _ _ k.result k.ensures l.invariant (omega (arith, c.requires.2)) (omega (arith, c.loop-j-test.true))).rest_some
 
 pub passage_at-passage-requires : goal.passage_at-passage-requires
 passage_at-passage-requires c =
     let l = c.loop-j in
     let k = c.action_count-count in
-    let cut = going_cut c.args.cells c.args.aisles c.args.number l.stages l.size l.rest l.j k.result k.ensures l.invariant (omega (arith, c.requires.2)) c.loop-j-test.true in
-    cut.passage
+    (going_cut _ _ _ _ _ _ _ k.result k.ensures l.invariant (omega (arith, c.requires.2)) (omega (arith, c.loop-j-test.true))).passage
 
-pub offset_bounds-stages-j : goal.offset_bounds-stages-j
-offset_bounds-stages-j c =
-    omega (arith, c.loop-j-test.true, c.requires.2)
-
-pub bounds-stages-j : goal.bounds-stages-j
-bounds-stages-j c =
-    omega (arith, c.loop-j-test.true, c.requires.2)
-
-pub overflow_add-j-in-loop-j : goal.overflow_add-j-in-loop-j
-overflow_add-j-in-loop-j c =
-    omega (arith, c.loop-j-test.true, c.requires.2)
-
-pub loop-j-smaller : goal.loop-j-smaller
-loop-j-smaller c = omega (arith, c.loop-j-test.true)
+pub nonzero_rem-rest : goal.nonzero_rem-rest
+nonzero_rem-rest c =
+    let l = c.loop-j in
+    let k = c.action_count-count in
+    (going_cut _ _ _ _ _ _ _ k.result k.ensures l.invariant (omega (arith, c.requires.2)) (omega (arith, c.loop-j-test.true))).rest_some
 
 pub loop-j-preserved : goal.loop-j-preserved
 loop-j-preserved c =
     let l = c.loop-j in
     let k = c.action_count-count in
-    let cut = going_cut c.args.cells c.args.aisles c.args.number l.stages l.size l.rest l.j k.result k.ensures l.invariant (omega (arith, c.requires.2)) c.loop-j-test.true in
-    let j = c.loop-j.j in
     let stage : Stage = record { action = c.action_at-action.result; passage = c.passage_at-passage.result } in
-    rw (add-one j) (cut.going stage c.action_at-action.ensures c.passage_at-passage.ensures)
+    rw (add-one l.j) ((going_cut _ _ _ _ _ _ _ k.result k.ensures l.invariant (omega (arith, c.requires.2)) (omega (arith, c.loop-j-test.true))).going stage c.action_at-action.ensures c.passage_at-passage.ensures)
 
-pub action_at-action-requires-2 : goal.action_at-action-requires-2
-action_at-action-requires-2 c =
-    -- the last aisle is left
+-- only the last aisle is left
+pub action_at-requires : goal.action_at-requires
+action_at-requires c =
     let l = c.loop-j in
-    let ends = going_end c.args.cells c.args.aisles c.args.number l.stages l.size l.rest l.j l.invariant (omega (arith, c.requires.2)) (omega (arith, c.loop-j-test.false)) in
+    let ends = going_end _ _ _ _ _ _ l.j l.invariant (omega (arith, c.requires.2)) (omega (arith, c.loop-j-test.false)) in
     (omega (arith, c.requires.0), ends.0)
-
-pub offset_bounds-stages-j-2 : goal.offset_bounds-stages-j-2
-offset_bounds-stages-j-2 c =
-    omega (arith, c.loop-j.invariant.left, c.requires.2)
-
-pub bounds-stages-j-2 : goal.bounds-stages-j-2
-bounds-stages-j-2 c =
-    omega (arith, c.loop-j.invariant.left, c.requires.2)
 
 pub returns : goal.returns
 returns c =
     let l = c.loop-j in
-    let ends = going_end c.args.cells c.args.aisles c.args.number l.stages l.size l.rest l.j l.invariant (omega (arith, c.requires.2)) (omega (arith, c.loop-j-test.false)) in
-    (refl, ends.1 (record { action = c.action_at-action-2.result; passage = P00 }) c.action_at-action-2.ensures)
+    let last : l.j ≡ c.args.aisles - 1 = omega (arith, l.auto.j-end, c.loop-j-test.false) in
+    let ends = going_end _ _ _ _ _ _ l.j l.invariant (omega (arith, c.requires.2)) (omega (arith, c.loop-j-test.false)) in
+    (refl, rw last at ends.1 (record { action = c.action_at.result; passage = P00 }) _ c.action_at.ensures)

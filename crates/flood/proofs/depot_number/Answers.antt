@@ -31,8 +31,8 @@ overflow_add-back-2 c = omega (arith, small c.args.z c.requires)
 
 pub returns-in-FrontSide : goal.returns-in-FrontSide
 returns-in-FrontSide c =
-    omega (arith, number_at c.args.z FrontSide (sym c.depot_side-side.ensures ∙ c.in-FrontSide.is))
+    omega (arith, number_at c.args.z FrontSide (sym c.side-side.ensures ∙ c.in-FrontSide.is))
 
 pub returns-in-BackSide : goal.returns-in-BackSide
 returns-in-BackSide c =
-    omega (arith, number_at c.args.z BackSide (sym c.depot_side-side.ensures ∙ c.in-BackSide.is))
+    omega (arith, number_at c.args.z BackSide (sym c.side-side.ensures ∙ c.in-BackSide.is))

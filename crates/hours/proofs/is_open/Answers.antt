@@ -1,53 +1,33 @@
-use native.Mathlib.Omega.{arith}
-use Prim.Native.Nat.{◌<◌}
-use native.Mathlib.Numerals.{add-one}
-use mathlib.Core.Path.{◌≡◌, refl}
-use mathlib.Core.Bool.{Bool, ◌&&◌}
-use borrow.Author.Tests.{not-true, not-false}
-use lib.ListN.{length}
+-- Each chain tests the windows by the definition's test.
+use Rattle.std.proofs.Common.{rules, tests, ◌≡◌, Bool, take, ◌∙◌, refl, ◌&&◌}
+use Rattle.std.proofs.lemmas.Iterator.{YieldsList-from_slice}
+use Rattle.std.proofs.lemmas.Iterator.Search.{any_from_yields_List}
 use Rattle.rules.specs.declared.Window.{Window}
-use Rattle.rules.specs.Hours.{of_aisle, in_window, open_at}
-use Rattle.values.specs.Values.{hours_of}
-use Rattle.hours.proofs.Windows.{any_more}
+use Rattle.rules.specs.Hours.{open_at, of_aisle, in_window}
+use Rattle.rules.specs.Lists.{any_of}
+use Rattle.rules.proofs.Chains.{any_same}
 use Rattle.hours.proofs.is_open.Goals as goal
-use Rattle.hours.proofs.is_open.Goals.{Start}
+use Rattle.hours.proofs.is_open.Goals.{After-any-named}
 
--- the hours have 64 places for windows
-windows_long : (c : Start) → length c.args.hours.windows ≡ 64
-windows_long c = c.well_formed.0.1.1.1.1.1.0.1.0.1
+-- whether a window of the aisle was found
+named : (c : After-any-named)
+    → c.any-named.result ≡ any_of (of_aisle c.args.aisle) (take c.args.clock.now.count c.args.clock.now.windows)
+named c =
+    let xs = take c.args.clock.now.count c.args.clock.now.windows in
+    any_from_yields_List (of_aisle c.args.aisle) _ _ c.any-named.result c.any-named.ensures.ran (YieldsList-from_slice xs cc) (λ x b q k. search (rules, tests))
+    ∙ any_same _ xs
 
-pub returns-then-not-hours : goal.returns-then-not-hours
-unfolding hours_of
-returns-then-not-hours c = rw (not-true c.args.hours.timed c.if-not-hours.true-raw) refl
+pub returns-then-not-named : goal.returns-then-not-named
+unfolding open_at
+returns-then-not-named c = let e = named (goal.at.returns-then-not-named c).After-any-named in let n = c.if-not-named.true in rw (← e, n) refl
 
-pub loop-k-init : goal.loop-k-init
-loop-k-init c = (omega arith, refl, refl)
-
-pub overflow_cast-same : goal.overflow_cast-same
-overflow_cast-same c = omega (arith, c.struct_known-1.given)
-
-pub overflow_cast-inside : goal.overflow_cast-inside
-overflow_cast-inside c = omega (arith, c.struct_known-in-loop-k-1.given)
-
-pub overflow_cast-inside-in-loop-k : goal.overflow_cast-inside-in-loop-k
-overflow_cast-inside-in-loop-k c = omega (arith, c.struct_known-in-loop-k-2-1.given)
-
-pub loop-k-preserved : goal.loop-k-preserved
-loop-k-preserved c =
-    let inside = c.before.before.before.before in
-    let o = c.loop-k in
-    let start = inside.before.before.before in
-    let x = c.args in
-    let here : o.k < length x.hours.windows = omega (arith, c.requires, windows_long start) in
-    let t : Window → Bool = λ w. of_aisle x.j w && in_window x.hours.minute w in (
-      omega arith,
-      rw (add-one o.k, any_more (of_aisle x.j) x.hours.windows o.k here, o.invariant.1) refl,
-      rw (add-one o.k, any_more t x.hours.windows o.k here, o.invariant.2) refl,
-    )
-
-pub returns : goal.returns
-unfolding hours_of open_at
-returns c =
-    let o = c.loop-k in
-    let all : o.k ≡ c.args.hours.count = omega arith in
-    rw (not-false c.args.hours.timed c.if-not-hours.false-raw, ← all, o.invariant.1, o.invariant.2) refl
+pub returns-else-not-named : goal.returns-else-not-named
+unfolding open_at
+returns-else-not-named c =
+    let clock = c.args.clock.now in
+    let xs = take clock.count clock.windows in
+    let test : Window → Bool = λ w. of_aisle c.args.aisle w && in_window clock.minute w in
+    let inside = any_from_yields_List test _ _ c.any.result c.any.ensures.ran (YieldsList-from_slice xs cc) (λ x b q k. search (rules, tests)) ∙ any_same _ xs in
+    let e = named (goal.at.returns-else-not-named c).After-any-named in
+    let n = c.if-not-named.false in
+    rw (← e, n, inside) refl

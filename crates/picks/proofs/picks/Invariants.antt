@@ -1,12 +1,11 @@
--- `picks::picks` meets its contract. The loop's invariant: j aisles and c cells of the next are visited, and the picks listed,
--- with those from the cells left, are all. The measure counts the cells left in a store of 16 aisles with 24 cells.
-use Prim.Native.Nat.{◌+◌, ◌*◌, ◌-◌, ◌<◌}
+-- `picks::picks` meets its contract. The loops' invariant: j aisles and c cells of the next are visited, and the picks listed,
+-- with those from the cells left, are all.
+
 use Rattle.picks.proofs.Turns.{Walked}
 use Rattle.picks.proofs.picks.Given as goal
 
 abbrev pub invariant-loop-j : goal.invariant-loop-j
-invariant-loop-j l =
-    (l.c < l.cells) × Walked l.initial.lacking l.cells l.shelf l.plan l.list l.count l.lacking l.j l.c
+invariant-loop-j l = Walked l.fn.lines l.cells l.shelf l.fn.plan l.picks.items l.lacking l.j 0
 
-abbrev pub decreases-loop-j : goal.decreases-loop-j
-decreases-loop-j l = (16 - l.j) * 24 + (24 - l.c)
+abbrev pub invariant-loop-c : goal.invariant-loop-c
+invariant-loop-c l = Walked l.fn.lines l.cells l.shelf l.fn.plan l.picks.items l.lacking l.j l.c

@@ -1,10 +1,7 @@
 use native.Mathlib.Omega.{arith}
 use mathlib.Core.Path.{sym}
-use Rattle.ranks.proofs.RankLaws.{gap_start, gap_next, gap_found, gap_once, gap_twice}
+use Rattle.ranks.proofs.RankLaws.{gap_next, gap_found, gap_once, gap_twice}
 use Rattle.ranks.proofs.gap_at.Goals as goal
-
-pub loop-h-init : goal.loop-h-init
-loop-h-init c = gap_start c.args.cells c.args.g c.requires.1
 
 pub returns-then-rest-cells : goal.returns-then-rest-cells
 returns-then-rest-cells c =
@@ -21,12 +18,10 @@ pub returns-then-rest-eq0 : goal.returns-then-rest-eq0
 returns-then-rest-eq0 c =
     let x = c.args in
     let loop = c.loop-h in
-    let once = gap_once x.cells x.g loop.h loop.rest loop.invariant (omega arith) c.if-rest-eq0.true in
-    sym once
+    sym (gap_once x.cells x.g loop.h loop.rest loop.invariant (omega arith) (omega arith))
 
 pub returns-else-rest-eq0 : goal.returns-else-rest-eq0
 returns-else-rest-eq0 c =
     let x = c.args in
     let loop = c.loop-h in
-    let twice = gap_twice x.cells x.g loop.h loop.rest loop.invariant (omega arith) c.if-rest-eq0.false in
-    sym twice
+    sym (gap_twice x.cells x.g loop.h loop.rest loop.invariant (omega arith) c.if-rest-eq0.false)

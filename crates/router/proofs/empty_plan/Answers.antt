@@ -4,4 +4,4 @@ use Rattle.router.proofs.EmptyLists.{stages_empty}
 use Rattle.router.proofs.empty_plan.Goals as goal
 
 pub returns : goal.returns
-returns c = (refl, stages_empty c.args.layout c.requires)
+returns c = (refl, stages_empty c.args.layout c.requires _)

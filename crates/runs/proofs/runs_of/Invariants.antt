@@ -1,10 +1,10 @@
--- `runs::runs_of` meets its contract. The loop's invariant: the runs of the letters passed are made, but for the one that goes on.
-use Prim.Native.Nat.{◌-◌}
-use Rattle.runs.proofs.Running.{Ran}
+-- `runs::runs_of` meets its contract. The loop's invariant: the runs made, and those of the steps that are left, are all runs.
+use Rattle.std.proofs.Common.{◌≡◌, ◌+◌, ◌≤◌, ◌++◌, length}
+use Rattle.rules.specs.Sheet.{runs_of}
 use Rattle.runs.proofs.runs_of.Given as goal
 
-abbrev pub invariant-loop-at : goal.invariant-loop-at
-invariant-loop-at l = Ran l.letters l.n l.runs l.count l.steps l.at
+abbrev pub invariant-loop-direction : goal.invariant-loop-direction
+invariant-loop-direction l = (l.runs.items ++ runs_of l.rest ≡ runs_of l.walk) × (length l.runs.items + length l.rest ≤ 860)
 
-abbrev pub decreases-loop-at : goal.decreases-loop-at
-decreases-loop-at l = l.n - l.at
+abbrev pub decreases-loop-direction : goal.decreases-loop-direction
+decreases-loop-direction l = length l.rest

@@ -1,13 +1,12 @@
--- `aisles::layers::admit` meets its contract: `acc` and the ones beside it hold the best back turns from height i on.
+-- `aisles::layers::admit` meets its contract: the back turns from height i on are let in.
 use Prim.Native.Nat.{◌+◌, ◌≤◌}
-use mathlib.Core.Path.{◌≡◌}
-use lib.ListN.{length}
+use lib.ListN.{get_or}
 use Rattle.aisles.specs.Turns.{BacksHeld}
 use Rattle.aisles.proofs.layers.admit.Given as goal
 
 abbrev pub invariant-loop-i : goal.invariant-loop-i
 invariant-loop-i l =
-    (l.least ≤ l.i) × (l.i ≤ l.t.top + 1) × (length l.acc ≡ length l.initial.acc) × (length l.spared ≡ length l.initial.spared) × BacksHeld l.acc l.spared l.perm l.theirs l.backs l.t l.weight l.i
-
-abbrev pub decreases-loop-i : goal.decreases-loop-i
-decreases-loop-i l = l.i
+    (l.turns.top ≤ 25)
+    × (l.i ≤ l.turns.top + 1)
+    × (get_or l.turns.from l.h 0 ≤ l.i)
+    × BacksHeld l.best.lengths l.best.ones l.way.lengths l.way.ones l.maps.backs l.turns l.weight l.i

@@ -1,20 +1,18 @@
 -- `aisles::layers::step_rows` meets its contract: both rows have the numbers of the states that are led to, and VOID spares the aisle.
+use mathlib.Core.Path.{sym, ◌∙◌}
 use Rattle.aisles.proofs.RowsHeld.{stepped_entered, stepped_spared}
 use Rattle.aisles.proofs.layers.step_rows.Goals as goal
 
-pub returns-then-kind-eq0 : goal.returns-then-kind-eq0
-returns-then-kind-eq0 c =
+pub returns-then-eq : goal.returns-then-eq
+returns-then-eq c =
     let p = c.args in
-    let x = c.permute in
-    let y = c.permute-2 in
-    let spared = c.spare_one in
-    stepped_spared p.perm.now x.new.perm p.spared.now y.new.perm p.after.now p.theirs.now p.steps p.kind p.weight x.ensures y.ensures
-    spared.new.spared c.if-kind-eq0.true spared.ensures
+    let after = p.after.now in
+    stepped_spared p.way.now.lengths c.permute.new.perm p.way.now.ones c.permute-2.new.perm after.lengths after.ones p.steps p.kind p.weight
+    c.permute.ensures c.permute-2.ensures c.spare_one.new.spared (sym c.eq.ensures ∙ c.if-eq.true) c.spare_one.ensures
 
-pub returns-else-kind-eq0 : goal.returns-else-kind-eq0
-returns-else-kind-eq0 c =
+pub returns-else-eq : goal.returns-else-eq
+returns-else-eq c =
     let p = c.args in
-    let x = c.permute in
-    let y = c.permute-2 in
-    stepped_entered p.perm.now x.new.perm p.spared.now y.new.perm p.after.now p.theirs.now p.steps p.kind p.weight x.ensures y.ensures
-    c.if-kind-eq0.false
+    let after = p.after.now in
+    stepped_entered p.way.now.lengths c.permute.new.perm p.way.now.ones c.permute-2.new.perm after.lengths after.ones p.steps p.kind p.weight
+    c.permute.ensures c.permute-2.ensures (sym c.eq.ensures ∙ c.if-eq.false)

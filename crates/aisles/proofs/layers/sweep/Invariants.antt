@@ -1,18 +1,9 @@
--- `aisles::layers::sweep` meets its contract: `acc` and `ones` beside it hold the best back turns that go with height h, the rows
--- all pairs whose front turn is at h or past it.
-use Prim.Native.Nat.{◌≤◌}
-use mathlib.Core.Path.{◌≡◌}
-use lib.ListN.{length, get_or}
+-- `aisles::layers::sweep` meets its contract: the pairs whose front turn is at height h or past it are looked at.
+use lib.ListN.{get_or}
 use Rattle.aisles.specs.Turns.{BacksHeld, RowsSwept}
 use Rattle.aisles.proofs.layers.sweep.Given as goal
 
 abbrev pub invariant-loop-h : goal.invariant-loop-h
 invariant-loop-h l =
-    (l.h ≤ l.t.top)
-    × (length l.acc ≡ 2048)
-    × (length l.ones ≡ length l.initial.ones)
-    × BacksHeld l.acc l.ones l.perm l.theirs l.backs l.t l.weight (get_or l.t.from l.h 0)
-    × RowsSwept l.initial.row l.row l.initial.spared l.spared l.perm l.theirs l.fronts l.backs l.t l.weight l.h
-
-abbrev pub decreases-loop-h : goal.decreases-loop-h
-decreases-loop-h l = l.h
+    BacksHeld l.best.lengths l.best.ones l.way.lengths l.way.ones l.maps.backs l.turns l.weight (get_or l.turns.from l.h 0)
+    × RowsSwept l.initial.rows.lengths l.rows.lengths l.initial.rows.ones l.rows.ones l.way.lengths l.way.ones l.maps.fronts l.maps.backs l.turns l.weight l.h

@@ -16,8 +16,8 @@ fill-requires c =
     let r = plan_range c.args.z c.args.plan c.requires in
     (r.1, r.0, refl)
 
-pub depot_number-depot-requires : goal.depot_number-depot-requires
-depot_number-depot-requires c = c.requires.bounds
+pub depot_number-requires : goal.depot_number-requires
+depot_number-requires c = c.requires.bounds
 
 -- the store has at most 16 aisles
 pub overflow_add-z : goal.overflow_add-z
@@ -33,11 +33,11 @@ reaches-requires c =
     let filled : c.fill.new.left ≡ plan_list c.args.z c.args.plan = c.fill.ensures in
     let below = depot_below c.args.z c.args.plan c.requires in
     let ranged = treads_ranged c.args.z c.args.plan c.requires in
-    (omega (arith, c.depot_number-depot.ensures, below), subst (λ (l : List ℕ). Ranged l (26 * (c.args.z.aisles + 1))) (sym filled) ranged)
+    (omega (arith, c.depot_number.ensures, below), subst (λ (l : List ℕ). Ranged l (26 * (c.args.z.aisles + 1))) (sym filled) ranged)
 
 pub returns : goal.returns
 returns c =
     let filled : c.fill.new.left ≡ plan_list c.args.z c.args.plan = c.fill.ensures in
     let t = reached_together c.args.z c.args.plan c.requires in
-    let r = subst₂ (λ (l : List ℕ) (n : ℕ). (c.reaches.result ≡ true) ↔ AllReached l n) filled c.depot_number-depot.ensures c.reaches.ensures in
+    let r = subst₂ (λ (l : List ℕ) (n : ℕ). (c.reaches.result ≡ true) ↔ AllReached l n) filled c.depot_number.ensures c.reaches.ensures in
     (λ e. t.0 (r.0 e), λ j. r.1 (t.1 j))

@@ -12,15 +12,15 @@ pub overflow_mul-result : goal.overflow_mul-result
 unfolding passage_length
 overflow_mul-result c =
     -- the treads of both edges, times w
-    let counted : (let x = c.args in (c.back_treads.result + c.front_treads.result) * x.z.width ≡ passage_length x.z x.passage) = let x = c.args in
-    ap (λ n. (n + c.front_treads.result) * x.z.width) c.back_treads.ensures
-    ∙ ap (λ n. (back_treads x.passage + n) * x.z.width) c.front_treads.ensures in
+    let counted : (let x = c.args in (c.from.result + c.from-2.result) * x.z.width ≡ passage_length x.z x.passage) = let x = c.args in
+    ap (λ n. (n + c.from-2.result) * x.z.width) (c.from.ensures ∙ c.back_treads.ensures)
+    ∙ ap (λ n. (back_treads x.passage + n) * x.z.width) (c.from-2.ensures ∙ c.front_treads.ensures) in
     omega (arith, counted, passage_few c.args.z c.args.passage c.requires)
 
 pub returns : goal.returns
 unfolding passage_length
 returns c =
-    let counted : (let x = c.args in (c.back_treads.result + c.front_treads.result) * x.z.width ≡ passage_length x.z x.passage) = let x = c.args in
-    ap (λ n. (n + c.front_treads.result) * x.z.width) c.back_treads.ensures
-    ∙ ap (λ n. (back_treads x.passage + n) * x.z.width) c.front_treads.ensures in
+    let counted : (let x = c.args in (c.from.result + c.from-2.result) * x.z.width ≡ passage_length x.z x.passage) = let x = c.args in
+    ap (λ n. (n + c.from-2.result) * x.z.width) (c.from.ensures ∙ c.back_treads.ensures)
+    ∙ ap (λ n. (back_treads x.passage + n) * x.z.width) (c.from-2.ensures ∙ c.front_treads.ensures) in
     (counted, omega (arith, counted, passage_few c.args.z c.args.passage c.requires))

@@ -11,9 +11,5 @@ use Rattle.annex_policy.proofs.asked.betweens.Given as goal
 
 abbrev pub invariant-loop-j : goal.invariant-loop-j
 invariant-loop-j l =
-    (l.j ≤ l.aisles)
-    × (length l.out ≡ 3)
-    × ((job : Job) (policy : Policy) → ShelfFor job l.z policy l.shelf → (d : Between) (i : ℕ) → 1 ≤ i → i ≤ l.j → get_or l.out (i - 1) d ≡ between_of l.gaps job i)
-
-abbrev pub decreases-loop-j : goal.decreases-loop-j
-decreases-loop-j l = l.aisles - l.j
+    (length l.betweens ≡ 3)
+    × ((job : Job) (policy : Policy) → ShelfFor job l.z policy l.shelf → (d : Between) (i : ℕ) → 1 ≤ i → i ≤ l.j → get_or l.betweens (i - 1) d ≡ between_of l.gaps job i)

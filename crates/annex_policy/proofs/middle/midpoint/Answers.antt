@@ -28,14 +28,8 @@ array_of gaps job z betweens j asked h =
     let e : j + 1 - 1 ≡ j = omega arith in
     ap (λ i. get_or betweens i none) (sym e) ∙ asked.at (j + 1) none (omega arith) (omega (arith, h))
 
-pub row_of-row-requires : goal.row_of-row-requires
-row_of-row-requires c =
-    -- the plan has at most 16 aisles
-    let few : c.args.plan.aisles ≤ 16 = let r = plan_range c.args.z c.args.plan c.requires.0 in omega (arith, r.0, r.4) in
-    few
-
 pub loop-j-init : goal.loop-j-init
-loop-j-init c = (omega arith, λ gaps job z e f asked j l h. absurd (omega arith))
+loop-j-init c = λ gaps job asked j l h. absurd (omega arith)
 
 pub offset_bounds-betweens-j : goal.offset_bounds-betweens-j
 offset_bounds-betweens-j c =
@@ -44,16 +38,6 @@ offset_bounds-betweens-j c =
 
 pub bounds-betweens-j : goal.bounds-betweens-j
 bounds-betweens-j c = omega (arith, c.loop-j-test.true, c.requires.1, c.requires.0.aisles)
-
-pub overflow_add-j : goal.overflow_add-j
-overflow_add-j c =
-    let few : c.args.plan.aisles ≤ 16 = let r = plan_range c.args.z c.args.plan c.requires.0 in omega (arith, r.0, r.4) in
-    omega (arith, c.loop-j-test.true, few)
-
-pub action_of-requires : goal.action_of-requires
-action_of-requires c =
-    let few : c.args.plan.aisles ≤ 16 = let r = plan_range c.args.z c.args.plan c.requires.0 in omega (arith, r.0, r.4) in
-    (omega arith, omega (arith, c.loop-j-test.true), few)
 
 pub mid_at-requires : goal.mid_at-requires
 mid_at-requires c =
@@ -71,32 +55,28 @@ returns-then-not-mid_at c =
       λ f. absurd (false≢true f),
       λ rule. absurd (false≢true (
           let all = rule_mid x.z x.plan c.requires.0 c.row_of-row.result c.row_of-row.ensures (side_of x.z) (between_said gaps job) (void_said gaps job) rule in
-          let here = subst₂ (Asks gaps job (j + 1)) (sym c.depot_side-side.ensures) (sym c.action_of.ensures) (all (j + 1) (omega arith) (omega (arith, c.loop-j-test.true))) in
+          let here = subst₂ (Asks gaps job (j + 1)) (sym c.side-side.ensures) (sym c.action_of.ensures) (all (j + 1) (omega arith) (omega (arith, c.loop-j-test.true))) in
           let array = array_of gaps job x.z x.betweens j asked (omega (arith, c.loop-j-test.true, c.requires.0.aisles)) in
-          sym c.if-not-mid_at.true ∙ (c.mid_at.ensures gaps job (j + 1) array (ap (λ (z : Layout). z.cells) asked.layout)).1 here
+          sym c.if-not-mid_at.true ∙ (c.mid_at.ensures gaps job (j + 1) array (ap (λ (z : Layout). z.cells) asked.layout)).1
+          (subst (λ e. MidAt c.side-side.result (eqb c.row_of-row.result.entered 1) e c.action_of.result (between_said gaps job (j + 1) c.action_of.result)) (sym c.is_end-end.ensures) here)
           )),
     )
-
-pub loop-j-smaller : goal.loop-j-smaller
-loop-j-smaller c = omega (arith, c.loop-j-test.true)
 
 pub loop-j-preserved : goal.loop-j-preserved
 loop-j-preserved c =
     let Asks : (Bool → Job → ℕ → Side → Action → Type 0) = λ gaps job j s a. let row = c.row_of-row.result in
     MidAt s (eqb row.entered 1) (eqb j row.first || eqb j row.last) a (between_said gaps job j a) in
-    let side = c.depot_side-side.result in
+    let side = c.side-side.result in
     let x = c.args in
     let j = c.loop-j.j in
-    let row = c.row_of-row.result in (
-      omega (arith, c.loop-j-test.true),
-      λ gaps job z same count asked. (
-          let array = array_of gaps job z x.betweens j asked (omega (arith, c.loop-j-test.true, count)) in
-          let cells = sym same ∙ ap (λ (y : Layout). y.cells) asked.layout in
-          let here = (c.mid_at.ensures gaps job (j + 1) array cells).0 c.if-not-mid_at.false in
-          mid_more side (plan_of x.plan) (eqb row.entered 1) row.first row.last (between_said gaps job) j
-          (c.loop-j.invariant.1 gaps job z same count asked)
-          (subst (Asks gaps job (j + 1) side) c.action_of.ensures here)
-          ),
+    let row = c.row_of-row.result in
+    λ gaps job asked. (
+    let array = array_of gaps job x.z x.betweens j asked (omega (arith, c.loop-j-test.true, c.requires.0.aisles)) in
+    let here = subst (λ e. MidAt side (eqb row.entered 1) e c.action_of.result (between_said gaps job (j + 1) c.action_of.result)) c.is_end-end.ensures
+    ((c.mid_at.ensures gaps job (j + 1) array (ap (λ (y : Layout). y.cells) asked.layout)).0 c.if-not-mid_at.false) in
+    mid_more side (plan_of x.plan) (eqb row.entered 1) row.first row.last (between_said gaps job) j
+    (c.loop-j.invariant gaps job asked)
+    (subst (Asks gaps job (j + 1) side) c.action_of.ensures here)
     )
 
 pub returns : goal.returns
@@ -104,9 +84,9 @@ returns c =
     let x = c.args in
     λ gaps job asked. (
       λ e. (
-          let all = c.loop-j.invariant.1 gaps job x.z refl (sym c.requires.0.aisles) asked in
+          let all = c.loop-j.invariant gaps job asked in
           let seen : Side → Type 0 = λ q. MidTo q (plan_of x.plan) (eqb c.row_of-row.result.entered 1) c.row_of-row.result.first c.row_of-row.result.last (between_said gaps job) c.loop-j.j in
-          let told = subst seen c.depot_side-side.ensures all in
+          let told = subst seen c.side-side.ensures all in
           mid_rule x.z x.plan c.requires.0 c.row_of-row.result c.row_of-row.ensures (side_of x.z) (between_said gaps job) (void_said gaps job)
           (λ j l h. told j l (omega (arith, h, c.loop-j-test.false)))
           ),

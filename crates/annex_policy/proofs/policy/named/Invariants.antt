@@ -1,5 +1,4 @@
 -- `annex_policy::policy::named` meets its contract: the aisles up to j and the passages behind them are named, and VOID where they may not be entered.
-use Prim.Native.Nat.{◌-◌, ◌≤◌}
 use mathlib.Core.Path.{◌≡◌}
 use Rattle.rules.specs.declared.Layout.{Layout}
 use Rattle.rules.specs.Store.{side_of}
@@ -11,7 +10,4 @@ use Rattle.annex_policy.proofs.policy.named.Given as goal
 
 abbrev pub invariant-loop-j : goal.invariant-loop-j
 invariant-loop-j l =
-    (l.j ≤ l.aisles) × ((job : Job) (z : Layout) → l.side ≡ side_of z → RulesAsked job z l.may l.policy l.plan → NamedTo job (plan_of l.plan) l.j)
-
-abbrev pub decreases-loop-j : goal.decreases-loop-j
-decreases-loop-j l = l.aisles - l.j
+    ((job : Job) (z : Layout) → l.side ≡ side_of z → RulesAsked job z l.may l.policy l.plan → NamedTo job (plan_of l.plan) l.j)

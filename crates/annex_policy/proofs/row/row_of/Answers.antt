@@ -6,27 +6,18 @@ use Rattle.annex_policy.proofs.RowLaws.{row_none}
 use Rattle.annex_policy.proofs.row.row_of.Goals as goal
 
 pub loop-j-init : goal.loop-j-init
-loop-j-init c = (omega arith, row_none (plan_of c.args.plan))
-
-pub overflow_add-j : goal.overflow_add-j
-overflow_add-j c = omega (arith, c.loop-j-test.true, c.requires)
-
-pub action_of-requires : goal.action_of-requires
-action_of-requires c = (omega arith, omega (arith, c.loop-j-test.true), c.requires)
+loop-j-init c = row_none (plan_of c.args.plan)
 
 pub with_aisle-row-requires : goal.with_aisle-row-requires
-with_aisle-row-requires c = omega (arith, c.loop-j.invariant.1.few, c.loop-j-test.true, c.requires)
-
-pub loop-j-smaller : goal.loop-j-smaller
-loop-j-smaller c = omega (arith, c.loop-j-test.true)
+with_aisle-row-requires c = omega (arith, c.loop-j.invariant.few, c.loop-j-test.true, c.requires)
 
 pub loop-j-preserved : goal.loop-j-preserved
 loop-j-preserved c =
     let x = c.args in
-    (omega (arith, c.loop-j-test.true), c.with_aisle-row.ensures (plan_of x.plan) c.loop-j.j refl c.loop-j.invariant.1 c.action_of.ensures)
+    c.with_aisle-row.ensures (plan_of x.plan) c.loop-j.j refl c.loop-j.invariant c.action_of.ensures
 
 pub returns : goal.returns
 returns c =
     let i = c.loop-j.invariant in
-    let e : c.loop-j.j ≡ c.args.plan.aisles = omega (arith, i.0, c.loop-j-test.false) in
-    subst (λ n. RowTo (plan_of c.args.plan) n c.loop-j.row) e i.1
+    let e : c.loop-j.j ≡ c.args.plan.aisles = omega (arith, c.loop-j.auto.j-end, c.loop-j-test.false) in
+    subst (λ n. RowTo (plan_of c.args.plan) n c.loop-j.row) e i

@@ -1,26 +1,29 @@
--- `annex_policy::row::walks_as` meets its contract: VOID or the kind asked for is the kind asked for if entered.
-use mathlib.Core.Path.{◌≡◌, sym, ap, ap₂, subst, ◌∙◌}
-use mathlib.Core.Logic.{◌↔◌}
-use mathlib.Core.Bool.{Bool, true, ◌||◌}
-use lib.Dec.{eqb}
-use Rattle.annex_policy.specs.Rows.{WalksAs}
-use Rattle.annex_policy.proofs.KindLaws.{void_or_back, void_or_once}
+-- `annex_policy::row::walks_as` meets its contract: action by action what is said is what is asked.
+use mathlib.Core.Path.{refl}
+use mathlib.Core.Bool.{true, false, not}
+use mathlib.Core.Logic.{inl, inr}
+use Rattle.annex_policy.proofs.KindLaws.{walks_said}
 use Rattle.annex_policy.proofs.row.walks_as.Goals as goal
 
-pub returns-then-back : goal.returns-then-back
-returns-then-back c =
-    let x = c.args in
-    let e = ap₂ (λ k s. eqb k 0 || eqb k s) c.kind-k.ensures c.side_kind.ensures in
-    let v = void_or_back x.side x.action in
-    subst (λ (b : Bool). (eqb c.kind-k.result 0 || eqb c.kind-k.result c.side_kind.result ≡ true) ↔ WalksAs x.side x.action b)
-    (sym c.if-back.true)
-    (λ r. v.0 (sym e ∙ r), λ w. e ∙ v.1 w)
+pub returns-in-FrontSide : goal.returns-in-FrontSide
+returns-in-FrontSide c = let x = c.args in walks_said x.side x.action x.back true (rw (c.in-Bottom.is, c.if-back.true, c.in-FrontSide.is) refl)
 
-pub returns : goal.returns
-returns c =
+pub returns-in_default : goal.returns-in_default
+returns-in_default c = let x = c.args in walks_said x.side x.action x.back false (rw (c.in-Bottom.is, c.if-back.true, c.in_default.is) refl)
+
+pub returns-in-BackSide : goal.returns-in-BackSide
+returns-in-BackSide c = let x = c.args in walks_said x.side x.action x.back true (rw (c.in-Top.is, c.if-back-2.true, c.in-BackSide.is) refl)
+
+pub returns-in_default-matches : goal.returns-in_default-matches
+returns-in_default-matches c = let x = c.args in walks_said x.side x.action x.back false (rw (c.in-Top.is, c.if-back-2.true, c.in_default-matches.is) refl)
+
+pub returns-in-Once : goal.returns-in-Once
+returns-in-Once c = let x = c.args in walks_said x.side x.action x.back (not x.back) (rw c.in-Once.is refl)
+
+pub returns-in-Gap : goal.returns-in-Gap
+returns-in-Gap c =
     let x = c.args in
-    let e = ap (λ k. eqb k 0 || eqb k 4) c.kind-k.ensures in
-    let v = void_or_once x.side x.action in
-    subst (λ (b : Bool). (eqb c.kind-k.result 0 || eqb c.kind-k.result 4 ≡ true) ↔ WalksAs x.side x.action b)
-    (sym c.if-back.false)
-    (λ r. v.0 (sym e ∙ r), λ w. e ∙ v.1 w)
+    elim c.in-Gap.is [
+      | inl e ↦ walks_said x.side x.action x.back false (rw e.2 refl)
+      | inr e ↦ walks_said x.side x.action x.back false (rw e refl)
+    ]

@@ -1,54 +1,41 @@
-use mathlib.Core.Path.{◌≡◌, sym, ◌∙◌, ap}
-use native.Mathlib.Omega.{arith}
-use lib.ListN.{length, take}
-use Rattle.rules.specs.Lists.{any_two}
+-- The chain looks for the line's article on the lines behind it.
+use Rattle.std.proofs.Common.{ℕ, rules, tests, ◌+◌, ◌<◌, ◌≡◌, ◌||◌, List, length, drop, get_or, drop-cons, add-one, sym, ◌∙◌, ap, refl, arith, length-drop}
+use lib.ListN.{drop_of_length-le}
+use lib.Seq.{take_all}
+use Rattle.std.proofs.lemmas.Iterator.{YieldsList-from_slice}
+use Rattle.std.proofs.lemmas.Iterator.Search.{any_from_yields_List}
+use Rattle.rules.specs.declared.OrderLine.{OrderLine}
+use Rattle.rules.specs.Lists.{any_of, any_two}
 use Rattle.rules.specs.Refusals.{same_article}
-use Rattle.values.specs.Values.{no_line, job_of}
-use Rattle.jobfile.proofs.Left.{left_all, two_none, two_found, two_more}
+use Rattle.rules.proofs.Chains.{any_same}
+use Rattle.values.specs.Values.{no_line}
 use Rattle.jobfile.proofs.twice.article_twice.Goals as goal
-use Rattle.jobfile.proofs.twice.article_twice.Goals.{Start}
+use Rattle.jobfile.proofs.twice.article_twice.Goals.{After-any}
 
-pub loop-i-init : goal.loop-i-init
-loop-i-init c = let job = c.args.job in ap (any_two same_article) (left_all job.orders job.lines)
+-- whether the article stands on one of the others
+others : (c : After-any) → c.any.result ≡ any_of (same_article (get_or c.args.lines.now c.loop-i.i no_line)) (drop (c.loop-i.i + 1) c.args.lines.now)
+unfolding same_article
+others c =
+    let line = get_or c.args.lines.now c.loop-i.i no_line in
+    let xs = drop (c.loop-i.i + 1) c.args.lines.now in
+    any_from_yields_List (same_article line) _ _ c.any.result c.any.ensures.ran (YieldsList-from_slice xs (c.iter.ensures.rest ∙ take_all _ xs (simp length-drop (omega arith)))) (λ x b q k. search (rules, tests)) ∙ any_same _ xs
 
-pub offset_bounds-lines-i : goal.offset_bounds-lines-i
-offset_bounds-lines-i c = omega (arith, c.requires.count)
+-- the line there, and the lines behind it
+from_line : (lines : List OrderLine) (i : ℕ) → i < length lines
+    → any_two same_article (drop i lines) ≡ any_of (same_article (get_or lines i no_line)) (drop (i + 1) lines) || any_two same_article (drop (i + 1) lines)
+from_line lines i h = rw (add-one, drop-cons lines i no_line h) refl
 
-pub bounds-lines-i : goal.bounds-lines-i
-bounds-lines-i c = omega (arith, c.requires.count)
-
-pub overflow_add-i : goal.overflow_add-i
-overflow_add-i c = omega (arith, c.requires.count)
-
-pub article_from-requires : goal.article_from-requires
-article_from-requires c = c.requires.count
-
-pub returns-then-article_from : goal.returns-then-article_from
-unfolding job_of
-returns-then-article_from c =
-    -- the array's room
-    let size : length c.args.job.lines ≡ 8 = c.well_formed.0.1.1.1.1.1.1.1.0.1.0.1 in
+pub returns-then-any : goal.returns-then-any
+returns-then-any c =
     let l = c.loop-i in
-    let job = c.args.job in
-    let all = any_two same_article (take job.orders job.lines) in
-    let here = sym c.article_from.ensures ∙ c.if-article_from.true in
-    sym (two_found same_article job.orders job.lines all l.i no_line c.loop-i-test.true (omega (arith, size, c.requires.count)) l.invariant here)
-
-pub overflow_add-i-in-loop-i : goal.overflow_add-i-in-loop-i
-overflow_add-i-in-loop-i c = omega (arith, c.requires.count)
+    let found = sym (others (goal.at.returns-then-any c).After-any) ∙ c.if-any.true in
+    sym (sym l.invariant ∙ from_line c.args.lines.now l.i c.loop-i-test.true ∙ ap (λ b. b || any_two same_article (drop (l.i + 1) c.args.lines.now)) found)
 
 pub loop-i-preserved : goal.loop-i-preserved
 loop-i-preserved c =
-    let size : length c.args.job.lines ≡ 8 = c.well_formed.0.1.1.1.1.1.1.1.0.1.0.1 in
     let l = c.loop-i in
-    let job = c.args.job in
-    let all = any_two same_article (take job.orders job.lines) in
-    let here = sym c.article_from.ensures ∙ c.if-article_from.false in
-    two_more same_article job.orders job.lines all l.i no_line c.loop-i-test.true (omega (arith, size, c.requires.count)) l.invariant here
+    let none = sym (others (goal.at.loop-i-preserved c).After-any) ∙ c.if-any.false in
+    sym (ap (λ b. b || any_two same_article (drop (l.i + 1) c.args.lines.now)) none) ∙ sym (from_line c.args.lines.now l.i c.loop-i-test.true) ∙ l.invariant
 
 pub returns : goal.returns
-unfolding job_of
-returns c =
-    let l = c.loop-i in
-    let job = c.args.job in
-    sym (two_none same_article job.orders job.lines (any_two same_article (take job.orders job.lines)) l.i l.invariant c.loop-i-test.false)
+returns c = let l = c.loop-i in ap (any_two same_article) (sym (drop_of_length-le c.args.lines.now c.loop-i-test.false)) ∙ l.invariant

@@ -1,46 +1,58 @@
--- `page::text::text_of` meets its contract: the low half of the host's number tells whether the page or a refusal is printed.
+-- `page::text::text_of` meets its contract: the page call, on spaces and a work area that are all zero, answers what is printed.
 use native.Mathlib.Omega.{arith}
-use Prim.Native.Nat.{◌-◌, ◌%◌}
-use mathlib.Core.Path.{ap, ◌∙◌}
-use mathlib.Core.List.{◌++◌}
-use lib.ListN.{drop, replicate, length}
-use lib.Seq.{take-append_seam}
-use Rattle.io.proofs.Counting.{prefix_len_of_le}
+use Prim.Native.Nat.{ℕ, ◌<◌}
+use mathlib.Core.Path.{◌≡◌, ap, sym, ◌∙◌}
+use mathlib.Core.List.{List, ◌++◌}
+use lib.ListN.{length, replicate, take}
+use Rattle.arrayvec.specs.ArrayVec.{with_items}
+use Rattle.arrayvec.proofs.ArrayVecLemmas.{items-with_items}
 use Rattle.rules.specs.JobFile.{line_feed, header, field}
 use Rattle.rules.specs.Answers.{sheet_limit, letter_r}
 use Rattle.rules.specs.PageAnswers.{PageAnswer, host_page_answer, page_limit, page_printed, page_output}
+use Rattle.rules.proofs.Answering.{number_small}
+use Rattle.finishing.specs.Paged.{sheet_reply, page_count}
 use Rattle.lines.proofs.Sizes.{refusal_short}
-use Rattle.page.proofs.Printing.{host_counts, page_prints, refusal_printed}
+use Rattle.lines.proofs.Writing.{written_front}
 use Rattle.page.proofs.text.text_of.Goals as goal
 
-pub returns-then-low-lt65536 : goal.returns-then-low-lt65536
-unfolding page_output
-returns-then-low-lt65536 c =
+pub returns-in-Ok : goal.returns-in-Ok
+unfolding page_output host_page_answer
+returns-in-Ok c =
     let job = c.args.job.now in
-    let h = c.plan_page-number in
-    let a : PageAnswer = host_page_answer job (replicate sheet_limit 0) (replicate page_limit 0) in
-    let p = page_prints a (host_counts job (replicate sheet_limit 0) (replicate page_limit 0)) h.result h.ensures.number h.new.page c.if-low-lt65536.true in
-    record {
-      printed = p.0 ∙ ap (page_printed a.call.reply a.count) h.ensures.page_bytes;
-      within = prefix_len_of_le _ h.new.page (omega (arith, p.1, h.auto.page));
-    }
+    let h = c.plan_page in
+    let sheet : List ℕ = replicate sheet_limit 0 in
+    -- the page is lent as zeros
+    let zeros : c.as_mut_slice.result.now ≡ replicate page_limit 0 = c.as_mut_slice.ensures.value ∙ c.from-text.ensures.0 in
+    let a : PageAnswer = host_page_answer job sheet (replicate page_limit 0) in
+    let reply : sheet_reply h.result ≡ a.call.reply = h.ensures.replied.replied.reply ∙ ap (λ p. (host_page_answer job sheet p).call.reply) zeros in
+    let count : page_count h.result ≡ a.count = h.ensures.replied.count ∙ ap (λ p. (host_page_answer job sheet p).count) zeros in
+    c.truncate.ensures.items
+    ∙ ap (take c.in-Ok.counts.page) (items-with_items c.from-text.result h.new.page (omega (arith, h.auto.page, ap length c.as_mut_slice.ensures.value)))
+    ∙ ap (λ r. page_printed (sheet_reply r) (page_count r) h.new.page) (sym c.in-Ok.is)
+    ∙ ap (λ q. page_printed q (page_count h.result) h.new.page) reply
+    ∙ ap (λ n. page_printed a.call.reply n h.new.page) count
+    ∙ ap (page_printed a.call.reply a.count) (h.ensures.replied.page ∙ ap (λ p. (host_page_answer job sheet p).page) zeros)
 
 pub write_refusal-count-requires : goal.write_refusal-count-requires
 write_refusal-count-requires c =
-    let h = c.plan_page-number in
-    omega (arith, refusal_short (h.result % 4294967296 - 65536) (omega arith), h.auto.page)
+    let h = c.plan_page in
+    let kept = items-with_items c.from-text.result h.new.page (omega (arith, h.auto.page, ap length c.as_mut_slice.ensures.value)) in
+    let small : c.from.result < 10000000000 = omega (arith, number_small c.in-Err.cause, c.from.ensures) in
+    omega (arith, refusal_short c.from.result small, ap length c.as_mut_slice-in-Err.ensures.value, ap length kept, h.auto.page, ap length c.as_mut_slice.ensures.value, ap length c.from-text.ensures.0)
 
-pub returns : goal.returns
-unfolding page_output
-returns c =
+pub returns-in-Err : goal.returns-in-Err
+unfolding page_output host_page_answer
+returns-in-Err c =
     let job = c.args.job.now in
-    let h = c.plan_page-number in
+    let h = c.plan_page in
     let w = c.write_refusal-count in
-    let a : PageAnswer = host_page_answer job (replicate sheet_limit 0) (replicate page_limit 0) in
-    let number = h.result % 4294967296 - 65536 in
-    let text = header letter_r 1 ++ field line_feed number in
-    record {
-      printed = rw (w.ensures.bytes, w.ensures.count) (take-append_seam text (drop (length text) h.new.page))
-          ∙ refusal_printed a (host_counts job (replicate sheet_limit 0) (replicate page_limit 0)) h.result h.ensures.number a.page c.if-low-lt65536.false;
-      within = prefix_len_of_le w.result w.new.sheet (omega (arith, w.ensures.count, refusal_short number (omega arith), w.auto.sheet, h.auto.page));
-    }
+    let sheet : List ℕ = replicate sheet_limit 0 in
+    let zeros : c.as_mut_slice.result.now ≡ replicate page_limit 0 = c.as_mut_slice.ensures.value ∙ c.from-text.ensures.0 in
+    let a : PageAnswer = host_page_answer job sheet (replicate page_limit 0) in
+    let reply : sheet_reply h.result ≡ a.call.reply = h.ensures.replied.replied.reply ∙ ap (λ p. (host_page_answer job sheet p).call.reply) zeros in
+    c.truncate-in-Err.ensures.items
+    ∙ ap (take w.result) (items-with_items (with_items c.from-text.result h.new.page) w.new.sheet (omega (arith, w.auto.sheet, ap length c.as_mut_slice-in-Err.ensures.value)))
+    ∙ written_front w.ensures
+    ∙ ap (λ n. header letter_r 1 ++ field line_feed n) c.from.ensures
+    ∙ ap (λ r. page_printed (sheet_reply r) a.count a.page) (sym c.in-Err.is)
+    ∙ ap (λ q. page_printed q a.count a.page) reply

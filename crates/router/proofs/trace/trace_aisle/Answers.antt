@@ -49,92 +49,80 @@ module _ (o : Order) (n : ℕ) (t : Trace) (next theirs : List ℕ) (here : ℕ)
 pub overflow_add-j : goal.overflow_add-j
 overflow_add-j c =
     let x = c.args in
-    let r = c.requires.0 in
-    let l = few x.o x.n x.t x.next.now x.theirs.now x.here r.0 r.1 r.2 in omega arith
+    let r = c.requires in
+    let l = few x.order.now x.n x.trace x.next.now.lengths x.next.now.ones x.here r.0 r.1 r.2 in omega arith
 
 pub fill_maps-requires : goal.fill_maps-requires
 fill_maps-requires c =
     let x = c.args in
-    let r = c.requires.0 in
-    let l = in_order x.o x.n x.t x.next.now x.theirs.now x.here r.0 r.1 r.2 in
-    (omega arith, omega arith, (r.0, maps_asked r.0 x.o r.1 (x.n + 1) l.0 l.1))
+    let r = c.requires in
+    let l = in_order x.order.now x.n x.trace x.next.now.lengths x.next.now.ones x.here r.0 r.1 r.2 in
+    (r.0, maps_asked r.0 x.order.now r.1 (x.n + 1) l.0 l.1)
 
-pub aisle_of-x-requires : goal.aisle_of-x-requires
-aisle_of-x-requires c =
+pub aisle_of-aisle-requires : goal.aisle_of-aisle-requires
+aisle_of-aisle-requires c =
     let x = c.args in
-    let r = c.requires.0 in
-    let l = in_order x.o x.n x.t x.next.now x.theirs.now x.here r.0 r.1 r.2 in ((r.0, r.1), l.0, l.1)
+    let r = c.requires in
+    let l = in_order x.order.now x.n x.trace x.next.now.lengths x.next.now.ones x.here r.0 r.1 r.2 in ((r.0, r.1), l.0, l.1)
 
 pub fill_after-requires : goal.fill_after-requires
 fill_after-requires c =
-    let r = c.requires.0 in
-    let range = in_range r.0 _ c.aisle_of-x.result (c.aisle_of-x.ensures r.0 r.1) r.1.admitted in
-    let small = range.small in
-    record {
-      aisle = range;
-      after_long = omega arith;
-      after_spared_long = omega arith;
-      next_long = omega (arith, c.requires.1);
-      next_spared_long = omega (arith, c.requires.2);
-    }
+    let r = c.requires in
+    in_range r.0 _ c.aisle_of-aisle.result (c.aisle_of-aisle.ensures r.0 r.1) r.1.admitted
 
-pub take_action-a-requires : goal.take_action-a-requires
-take_action-a-requires c =
+pub take_action-taken-requires : goal.take_action-taken-requires
+take_action-taken-requires c =
     let args = c.args in
     let maps = c.fill_maps in
-    let r = c.requires.0 in
-    let x = c.aisle_of-x.result in
-    let l = in_order args.o args.n args.t args.next.now args.theirs.now args.here r.0 r.1 r.2 in
-    let h = aisled args.o args.n args.t args.next.now args.theirs.now args.here r.0 r.1 r.2 x (c.aisle_of-x.ensures r.0 r.1) maps.new.fronts maps.new.backs
-    c.fill_after.new.after c.fill_after.new.spared (maps.ensures.0 r.0 (maps_asked r.0 args.o r.1 (args.n + 1) l.0 l.1)) c.fill_after.ensures.0 in
+    let r = c.requires in
+    let x = c.aisle_of-aisle.result in
+    let l = in_order args.order.now args.n args.trace args.next.now.lengths args.next.now.ones args.here r.0 r.1 r.2 in
+    let h = aisled args.order.now args.n args.trace args.next.now.lengths args.next.now.ones args.here r.0 r.1 r.2 x (c.aisle_of-aisle.ensures r.0 r.1) maps.new.maps.fronts maps.new.maps.backs
+    c.fill_after.new.rows.lengths c.fill_after.new.rows.ones (maps.ensures r.0 (maps_asked r.0 args.order.now r.1 (args.n + 1) l.0 l.1)) c.fill_after.ensures.0 in
     let traced = r.2.traced in (
       record {
-        ready = ready r.0 _ x h.numbers r.1.admitted _ _ h.maps (omega (arith, maps.ensures.1)) (omega (arith, maps.ensures.2));
-        long = omega (arith, c.fill_after.ensures.1);
-        spared_long = omega (arith, c.fill_after.ensures.2);
+        ready = ready r.0 _ x h.numbers r.1.admitted _ _ h.maps;
         state_below = omega (arith, traced.state_below);
         demand_below = omega (arith, same_weight r.0 _ x h.numbers, traced.demand_below);
-        aisle_below = few args.o args.n args.t args.next.now args.theirs.now args.here r.0 r.1 r.2;
-        left_few = omega (arith, order_few r.0 args.o r.1);
+        aisle_below = few args.order.now args.n args.trace args.next.now.lengths args.next.now.ones args.here r.0 r.1 r.2;
+        left_few = omega (arith, order_few r.0 args.order.now r.1);
       },
       action_there h r.2,
     )
 
-pub take_passage-p-requires : goal.take_passage-p-requires
-take_passage-p-requires c =
+pub take_passage-requires : goal.take_passage-requires
+take_passage-requires c =
     let args = c.args in
     let maps = c.fill_maps in
-    let r = c.requires.0 in
-    let x = c.aisle_of-x.result in
-    let l = in_order args.o args.n args.t args.next.now args.theirs.now args.here r.0 r.1 r.2 in
-    let h = aisled args.o args.n args.t args.next.now args.theirs.now args.here r.0 r.1 r.2 x (c.aisle_of-x.ensures r.0 r.1) maps.new.fronts maps.new.backs
-    c.fill_after.new.after c.fill_after.new.spared (maps.ensures.0 r.0 (maps_asked r.0 args.o r.1 (args.n + 1) l.0 l.1)) c.fill_after.ensures.0 in
-    let to = taken_lands h r.2 c.take_action-a.ensures in
+    let r = c.requires in
+    let x = c.aisle_of-aisle.result in
+    let l = in_order args.order.now args.n args.trace args.next.now.lengths args.next.now.ones args.here r.0 r.1 r.2 in
+    let h = aisled args.order.now args.n args.trace args.next.now.lengths args.next.now.ones args.here r.0 r.1 r.2 x (c.aisle_of-aisle.ensures r.0 r.1) maps.new.maps.fronts maps.new.maps.backs
+    c.fill_after.new.rows.lengths c.fill_after.new.rows.ones (maps.ensures r.0 (maps_asked r.0 args.order.now r.1 (args.n + 1) l.0 l.1)) c.fill_after.ensures.0 in
+    let to = taken_lands h r.2 c.take_action-taken.ensures in
     let light = r.1.admitted.light in (
       record {
         aisle = in_range r.0 _ x h.numbers r.1.admitted;
-        long = omega (arith, c.requires.1);
-        spared_long = omega (arith, c.requires.2);
         demand = omega arith;
         state_below = to.0;
-        left_few = taken_left h r.2 c.take_action-a.ensures;
+        left_few = taken_left h r.2 c.take_action-taken.ensures;
       },
-      passage_there h r.2 c.take_action-a.ensures,
+      passage_there h r.2 c.take_action-taken.ensures,
     )
 
 pub with_stage-requires : goal.with_stage-requires
 with_stage-requires c =
     let x = c.args in
-    let r = c.requires.0 in
-    few x.o x.n x.t x.next.now x.theirs.now x.here r.0 r.1 r.2
+    let r = c.requires in
+    few x.order.now x.n x.trace x.next.now.lengths x.next.now.ones x.here r.0 r.1 r.2
 
 pub returns : goal.returns
 returns c =
     let args = c.args in
     let maps = c.fill_maps in
-    let x = c.aisle_of-x.result in
+    let x = c.aisle_of-aisle.result in
     λ job of asked.
-    let l = in_order args.o args.n args.t args.next.now args.theirs.now args.here job of asked in
-    let h = aisled args.o args.n args.t args.next.now args.theirs.now args.here job of asked x (c.aisle_of-x.ensures job of) maps.new.fronts maps.new.backs
-    c.fill_after.new.after c.fill_after.new.spared (maps.ensures.0 job (maps_asked job args.o of (args.n + 1) l.0 l.1)) c.fill_after.ensures.0 in
-    subst (Traced job _) (sym c.with_stage.ensures) (trace_next h asked c.take_action-a.ensures c.take_passage-p.ensures)
+    let l = in_order args.order.now args.n args.trace args.next.now.lengths args.next.now.ones args.here job of asked in
+    let h = aisled args.order.now args.n args.trace args.next.now.lengths args.next.now.ones args.here job of asked x (c.aisle_of-aisle.ensures job of) maps.new.maps.fronts maps.new.maps.backs
+    c.fill_after.new.rows.lengths c.fill_after.new.rows.ones (maps.ensures job (maps_asked job args.order.now of (args.n + 1) l.0 l.1)) c.fill_after.ensures.0 in
+    subst (Traced job _) (sym c.with_stage.ensures) (trace_next h asked c.take_action-taken.ensures c.take_passage.ensures)

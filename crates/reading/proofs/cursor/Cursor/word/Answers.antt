@@ -1,30 +1,27 @@
-use mathlib.Core.Path.{sym}
-use native.Mathlib.Omega.{arith}
-use lib.ListN.{drop}
+-- Either the bytes start with the word or they do not.
+use Rattle.std.proofs.Common.{ℕ, ◌+◌, ◌≡◌, List, length, take, drop, Option, Some, None, Bor, MatchOption, eqb, true, false, sym, ap, ◌∙◌}
+use lib.Pointwise.{pointwise}
+use Rattle.std.proofs.Math.Option.{none, some}
 use Rattle.rules.specs.JobFile.{read_word}
-use Rattle.reading.proofs.Behind.{behind_nothing, word_over, word_other, word_more, word_read}
+use Rattle.reading.specs.Places.{passed}
+use Rattle.reading.proofs.Words.{word_there, word_other}
 use Rattle.reading.proofs.cursor.Cursor.word.Goals as goal
 
-pub loop-i-init : goal.loop-i-init
-loop-i-init c = let x = c.args in sym (behind_nothing (read_word x.w.now (drop x.self.at x.s.now)))
+-- what is left behind the word
+abbrev Stripped : List ℕ → List ℕ → Option (Bor (List ℕ)) → Type 0
+Stripped w s r =
+    MatchOption r (pointwise eqb (take (length w) s) w ≡ false) (λ x. (pointwise eqb (take (length w) s) w ≡ true) × (x.now ≡ drop (length w) s) × (length x.now + length w ≡ length s))
 
-pub returns-then-s-at : goal.returns-then-s-at
-returns-then-s-at c =
-    let l = c.loop-i in
-    let x = c.args in
-    sym (word_over x.w.now x.s.now x.self.at l.at l.i l.invariant c.loop-i-test.true c.if-s-at.true)
+missing : (w s : List ℕ) (r : Option (Bor (List ℕ))) → Stripped w s r → r ≡ None → none ≡ read_word w s
+missing w s None h e = sym (word_other w s h)
+missing w s (Some x) h e = cc
 
-pub returns-then-s-at-2 : goal.returns-then-s-at-2
-returns-then-s-at-2 c =
-    let l = c.loop-i in
-    let x = c.args in
-    sym (word_other x.w.now x.s.now x.self.at l.at l.i l.invariant (omega arith) (omega arith) c.if-s-at-2.true)
+found : (w s : List ℕ) (x : Bor (List ℕ)) → Stripped w s (Some x) → some (w, x.now) ≡ read_word w s
+found w s x h = ap (λ t. some (w, t)) h.1 ∙ sym (word_there w s h.0)
 
-pub loop-i-preserved : goal.loop-i-preserved
-loop-i-preserved c =
-    let l = c.loop-i in
-    let x = c.args in
-    word_more x.w.now x.s.now x.self.at l.at l.i l.invariant (omega arith) (omega arith) c.if-s-at-2.false
+pub returns-in_err-rest : goal.returns-in_err-rest
+returns-in_err-rest c =
+    ap (passed c.args.word.now) c.from_residual.ensures ∙ missing c.args.word.now c.args.self.rest.now c.strip_prefix.result c.strip_prefix.ensures.cases c.in_err-rest.was
 
 pub returns : goal.returns
-returns c = let l = c.loop-i in let x = c.args in sym (word_read x.w.now x.s.now x.self.at l.at l.i l.invariant c.loop-i-test.false)
+returns c = found c.args.word.now c.args.self.rest.now c.in_ok-rest.rest c.in_ok-rest.ensures.cases

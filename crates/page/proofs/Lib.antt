@@ -1,2 +1,0 @@
--- Laws of what the program prints.
-pub mod Printing
