@@ -1,7 +1,10 @@
 -- The two jobs whose sheets are printed.
-use Rattle.std.specs.Prelude.{[], ◌∷◌}
+use Rattle.std.specs.Prelude.{ℕ, List, [], ◌∷◌}
 use Rattle.rules.specs.declared.Policy.TheVariants.{Exact, Midpoint}
 use Rattle.rules.specs.declared.Posts.TheVariants.{NoPosts}
+use Rattle.rules.specs.declared.Direction.{Direction}
+use Rattle.rules.specs.declared.Direction.TheVariants.{Back, Front, Left, Right}
+use Rattle.rules.specs.declared.Run.{Run}
 use Rattle.rules.specs.Hours.{NoHours}
 use Rattle.rules.specs.Jobs.{Job}
 use Rattle.rules.specs.Examples.{stocked, ◌⨯◌, alpha}
@@ -20,3 +23,16 @@ top_job =
       hours = NoHours;
       lines = (3 ⨯ 3) ∷ (5 ⨯ 1) ∷ (4 ⨯ 1) ∷ [];
     }
+
+-- a run, told by its direction and its steps
+abbrev pub run_of : Direction × ℕ → Run
+run_of r = record { direction = r.0; steps = r.1 }
+
+-- the walk of the first: R, B, F, L, a step each
+abbrev pub worked_walk : List Run
+worked_walk = run_of (Right, 1) ∷ run_of (Back, 1) ∷ run_of (Front, 1) ∷ run_of (Left, 1) ∷ []
+
+-- the walk of the second
+abbrev pub top_walk : List Run
+top_walk =
+    run_of (Back, 3) ∷ run_of (Right, 1) ∷ run_of (Front, 1) ∷ run_of (Back, 1) ∷ run_of (Right, 1) ∷ run_of (Front, 3) ∷ run_of (Left, 2) ∷ []

@@ -4,7 +4,8 @@
 mod top_job;
 mod worked_job;
 
-ghost use Rattle.std.specs.Prelude.{◌≤◌, length};
+ghost use Rattle.std.specs.Prelude.{◌≡◌, ◌≤◌, length, map};
+ghost use Rattle.sheets_test.specs.Jobs.{run_of};
 
 use rules::{Direction, Policy, Run};
 use sheets::Sheet;
@@ -14,6 +15,7 @@ use values::RunList;
 // The runs of a walk.
 fn walk_of(runs: &[(Direction, usize)]) -> RunList
     requires { length runs.now ≤ 860 }
+    ensures { result.items ≡ map run_of runs.now }
 {
     let mut walk = RunList::new();
     for (direction, steps) in runs {

@@ -1,7 +1,7 @@
 // A job whose plan enters from the back: its lines, its shelf, its plan and its walk.
 ghost use Rattle.std.specs.Prelude.{◌≡◌, take};
 ghost use Rattle.values.specs.Shelves.{ShelfOf};
-ghost use Rattle.sheets_test.specs.Jobs.{top_job};
+ghost use Rattle.sheets_test.specs.Jobs.{top_job, top_walk};
 
 use crate::walk_of;
 use rules::{Action, Direction, OrderLine, Passage};
@@ -69,7 +69,9 @@ pub fn plan() -> PlanValue
 }
 
 // Its walk: B, R, F, B, R, F, L.
-pub fn runs() -> RunList {
+pub fn runs() -> RunList
+    ensures { result.items ≡ top_walk }
+{
     walk_of(&[
         (Direction::Back, 3),
         (Direction::Right, 1),

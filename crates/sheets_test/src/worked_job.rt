@@ -1,7 +1,7 @@
 // The job that document 01 walks through: its line, its shelf, its plan and its walk.
 ghost use Rattle.std.specs.Prelude.{◌≡◌, take};
 ghost use Rattle.values.specs.Shelves.{ShelfOf};
-ghost use Rattle.sheets_test.specs.Jobs.{worked_job};
+ghost use Rattle.sheets_test.specs.Jobs.{worked_job, worked_walk};
 
 use crate::walk_of;
 use rules::{Action, Direction, OrderLine, Passage};
@@ -50,7 +50,9 @@ pub fn plan() -> PlanValue
 }
 
 // Its walk: R, B, F, L, a step each.
-pub fn runs() -> RunList {
+pub fn runs() -> RunList
+    ensures { result.items ≡ worked_walk }
+{
     walk_of(&[
         (Direction::Right, 1),
         (Direction::Back, 1),

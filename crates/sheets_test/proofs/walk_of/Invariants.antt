@@ -1,6 +1,7 @@
--- `sheets_test::walk_of` meets its contract. The loop's invariant: a run for each pair so far.
-use Rattle.std.proofs.Common.{◌≡◌, length}
+-- `sheets_test::walk_of` meets its contract. The loop's invariant: the runs of the pairs so far are in the list.
+use Rattle.std.proofs.Common.{◌≡◌, take, map}
+use Rattle.sheets_test.specs.Jobs.{run_of}
 use Rattle.sheets_test.proofs.walk_of.Given as goal
 
 abbrev pub invariant-loop-direction : goal.invariant-loop-direction
-invariant-loop-direction l = length l.walk.items ≡ l.direction-index
+invariant-loop-direction l = l.walk.items ≡ map run_of (take l.direction-index l.runs)
