@@ -6,7 +6,7 @@ use mathlib.Core.Path.{◌≡◌, refl, sym, ◌∙◌, ap, ap₂, subst}
 use mathlib.Core.Logic.{◌⊎◌, inl, inr, ⊎_elim}
 use mathlib.Core.List.{List, Memᴰ}
 use mathlib.Core.Bool.{Bool, true, false, cond, not, ◌&&◌, ◌||◌, and-eq-true_iff, true≢false}
-use lib.ListN.{get_or}
+use lib.ListN.{length, get_or}
 use Rattle.rules.specs.declared.Action.{Action}
 use Rattle.rules.specs.declared.Kind.{Kind}
 use Rattle.rules.specs.declared.Kind.TheVariants.{Void as VOID, Bottom as BOTTOM, Top as TOP, Gap as GAP, Once as ONCE, Twice as TWICE}
@@ -59,9 +59,9 @@ turns_graded x kind true t range turns =
     }
 
 -- an aisle that is ready lets the turns of a kind be swept
-pub sweep_ready : (x : Aisle) (fronts backs : List ℕ) (kind : Kind) (between : Bool) (t : Turns) → AisleReady x fronts backs → TurnsOf x kind between t
-    → SweepReady fronts backs t x.weight
-sweep_ready x fronts backs kind between t ready turns =
+pub sweep_ready : (x : Aisle) (row spared fronts backs : List ℕ) (kind : Kind) (between : Bool) (t : Turns) → AisleReady x fronts backs
+    → 2048 ≤ length row → 2048 ≤ length spared → TurnsOf x kind between t → SweepReady row spared fronts backs t x.weight
+sweep_ready x row spared fronts backs kind between t ready row_long spared_long turns =
     let w = within x.layout ready.aisle.bounds in
     let light = ready.aisle.small in
     let top-is = turns.top in
@@ -70,8 +70,12 @@ sweep_ready x fronts backs kind between t ready turns =
         small = light;
         top_fits = omega (arith, w.cells.1);
         graded = turns_graded x kind between t ready.aisle turns;
+        backs_long = ready.backs_long;
         back_below = λ i q l m n. ready.back_below i q l (omega arith) n;
       };
+      row_long = omega arith;
+      spared_long = omega arith;
+      fronts_long = ready.fronts_long;
       front_below = λ h q l m. ready.front_below h q (omega arith) m;
     }
 

@@ -77,7 +77,7 @@ module _ (row spared perm perm-spared fronts backs : List ℕ) (t : Turns) (weig
 
 -- rows that are swept over the turns that are kept are swept over all turns
 pub rows_thin : (row row' spared spared' perm perm-spared fronts backs : List ℕ) (weight : ℕ) (t : Turns) (same : Repeats) (u : Turns) → Thinned t same u
-    → SweepReady fronts backs t weight → RepeatsTo fronts weight same.front t.top → RepeatsTo backs weight same.back t.top
+    → SweepReady row spared fronts backs t weight → RepeatsTo fronts weight same.front t.top → RepeatsTo backs weight same.back t.top
     → RowsSwept row row' spared spared' perm perm-spared fronts backs u weight 0 → RowsSwept row row' spared spared' perm perm-spared fronts backs t weight 0
 rows_thin row row' spared spared' perm perm-spared fronts backs weight t same u thin ready Front-same back-same swept =
     record {
@@ -176,6 +176,12 @@ module _ (x : Aisle) (row row' spared spared' after after-spared fronts backs st
             )
             );
       }
+
+-- the maps that a lane holds are those that are given
+pub maps_given : (x : Aisle) (row row' spared spared' after after-spared : List ℕ) (kind : Kind) (between : Bool)
+    → {fronts fronts' backs backs' : List ℕ} → fronts ≡ fronts' → backs ≡ backs'
+    → RowsPassed x row row' spared spared' after after-spared fronts backs kind between → RowsPassed x row row' spared spared' after after-spared fronts' backs' kind between
+maps_given x row row' spared spared' after after-spared kind between front-is back-is passed = rw (sym front-is, sym back-is) passed
 
 -- two rows after the first n kinds and the first m that are asked the test, with r aisles behind this one, whatever r is
 abbrev pub RowsPassedTo : Aisle → List ℕ → List ℕ → List ℕ → List ℕ → List ℕ → List ℕ → ℕ → ℕ → Type 0

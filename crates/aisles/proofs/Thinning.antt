@@ -105,9 +105,9 @@ kept_or_none : (map : List ℕ) (weight : ℕ) (costs kept : List ℕ) (h near :
 kept_or_none map weight costs kept h near k = ⊎_elim (λ p. inl p) (λ n. inr n.0) k
 
 -- where all turns can be swept, so can those that are kept
-pub sweep_kept : (fronts backs : List ℕ) (t : Turns) (same : Repeats) (r : Turns) (weight : ℕ)
-    → SweepReady fronts backs t weight → Thinned t same r → SweepReady fronts backs r weight
-sweep_kept fronts backs t same r weight ready thin =
+pub sweep_kept : (row spared fronts backs : List ℕ) (t : Turns) (same : Repeats) (r : Turns) (weight : ℕ)
+    → SweepReady row spared fronts backs t weight → Thinned t same r → SweepReady row spared fronts backs r weight
+sweep_kept row spared fronts backs t same r weight ready thin =
     let top-is = thin.top in
     let b = ready.behind in
     record {
@@ -115,8 +115,12 @@ sweep_kept fronts backs t same r weight ready thin =
         small = b.small;
         top_fits = omega (arith, b.top_fits);
         graded = subst (λ from. Graded from r.top) (sym thin.from) (subst (Graded t.from) (sym thin.top) b.graded);
+        backs_long = b.backs_long;
         back_below = λ i q l m n. b.back_below i q l (omega arith) n;
       };
+      row_long = ready.row_long;
+      spared_long = ready.spared_long;
+      fronts_long = ready.fronts_long;
       front_below = λ h q l m. ready.front_below h q (omega arith) m;
     }
 

@@ -1,5 +1,5 @@
 -- How far the parts of an action reach, what they cost, and the test for aisles between.
-use Rattle.std.specs.Prelude.{ℕ, suc, ◌*◌, ◌-◌, List, [], ◌∷◌, ◌++◌, map, Bool, not, ◌&&◌}
+use Rattle.std.specs.Prelude.{ℕ, suc, ◌+◌, ◌*◌, ◌-◌, List, [], ◌∷◌, ◌++◌, map, Bool, false, not, ◌&&◌}
 use Rattle.rules.specs.declared.Layout.{Layout}
 use Rattle.rules.specs.declared.Action.{Action}
 use Rattle.rules.specs.declared.Action.TheVariants.{Void, Bottom, Top, Gap, Once, Twice}
@@ -41,6 +41,19 @@ front_cost z TWICE h = 2 * aisle_length z
 -- what the back part costs: there and back, from the back crossing
 abbrev pub back_cost : Layout → ℕ → ℕ
 back_cost z i = 2 * (aisle_length z - position z i)
+
+-- what the parts of a kind of action cost that reach so far
+abbrev pub parts_length : Layout → Kind → ℕ → ℕ → ℕ
+parts_length z kind front back = front_cost z kind front + back_cost z back
+
+-- whether an action of a kind whose parts reach so far passes the test for aisles between: it is walked there and back, and its two turns pass
+abbrev pub parts_between : Between → Kind → ℕ → ℕ → Bool
+parts_between b VOID front back = allows_turns b front back
+parts_between b BOTTOM front back = allows_turns b front back
+parts_between b TOP front back = allows_turns b front back
+parts_between b GAP front back = allows_turns b front back
+parts_between b ONCE front back = false
+parts_between b TWICE front back = false
 
 -- whether an action passes the test for aisles between: it is walked there and back, and its two turns pass
 unfoldable pub passes_between : Between → ℕ → Action → Bool

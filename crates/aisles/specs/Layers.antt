@@ -17,7 +17,7 @@ use Rattle.machine.specs.States.{state_code, state_of}
 use Rattle.machine.specs.Steps.{sample_action, seen_kind, step_of}
 use Rattle.aisles.specs.Actions.{front_of, back_of, passes_between}
 use Rattle.demand.specs.Digits.{demands}
-use Rattle.demand.specs.Maps.{entry}
+use Rattle.demand.specs.Maps.{entry, map_size}
 use Rattle.rows.specs.Rows.{states, tab}
 use Rattle.rows.specs.Pairs.{key_at, next_key, SoundRow, Holds}
 use Rattle.aisles.specs.Repeating.{RepeatsTo}
@@ -63,14 +63,16 @@ through_action x after fronts backs s q a = sum_up_to no_key (action_key x a) (a
 -- an aisle's numbers are in range, and its maps lead to demands below the weight
 pub record AisleReady (x : Aisle) (fronts backs : List ℕ) : Type 0 where
   pub aisle : InRange x
+  pub fronts_long : map_size ≤ length fronts
+  pub backs_long : map_size ≤ length backs
   pub front_below : (h q : ℕ) → h ≤ x.layout.cells → q < x.weight → entry fronts h q < x.weight
   pub back_below : (i q : ℕ) → 1 ≤ i → i ≤ suc x.layout.cells → q < x.weight → entry backs i q < x.weight
 
 -- an aisle that is ready, with the rows of its maps that repeat the row before
 pub record LaneReady (lane : Lane) : Type 0 where
-  pub ready : AisleReady lane.aisle lane.maps.now.fronts lane.maps.now.backs
-  pub front : RepeatsTo lane.maps.now.fronts lane.aisle.weight lane.same.front (lane.aisle.layout.cells + 1)
-  pub back : RepeatsTo lane.maps.now.backs lane.aisle.weight lane.same.back (lane.aisle.layout.cells + 1)
+  pub ready : AisleReady lane.aisle lane.maps.fronts.now lane.maps.backs.now
+  pub front : RepeatsTo lane.maps.fronts.now lane.aisle.weight lane.same.front (lane.aisle.layout.cells + 1)
+  pub back : RepeatsTo lane.maps.backs.now lane.aisle.weight lane.same.back (lane.aisle.layout.cells + 1)
 
 -- the way over an action, with the answer of the test for aisles between given
 unfoldable pub way_with : Aisle → (ℕ → ℕ → ℕ) → List ℕ → List ℕ → Bool → ℕ → ℕ → Action → ℕ

@@ -9,7 +9,7 @@ use Rattle.aisles.specs.declared.layers.Turns.{Turns}
 use Rattle.aisles.specs.declared.repeats.Repeats.{Repeats}
 use Rattle.aisles.specs.Actions.{front_cost, back_cost}
 use Rattle.demand.specs.Digits.{demands}
-use Rattle.demand.specs.Maps.{entry}
+use Rattle.demand.specs.Maps.{entry, map_size}
 use Rattle.rows.specs.Rows.{states}
 use Rattle.rows.specs.Pairs.{walk, key_at, SoundRow}
 
@@ -110,9 +110,13 @@ pub record BacksReady (backs : List ℕ) (t : Turns) (weight : ℕ) : Type 0 whe
   pub small : weight ≤ demands
   pub top_fits : t.top ≤ 25
   pub graded : Graded t.from t.top
+  pub backs_long : map_size ≤ length backs
   pub back_below : (i q : ℕ) → 1 ≤ i → i ≤ t.top → q < weight → entry backs i q < weight
 
 -- what the sweep needs
-pub record SweepReady (fronts backs : List ℕ) (t : Turns) (weight : ℕ) : Type 0 where
+pub record SweepReady (row spared fronts backs : List ℕ) (t : Turns) (weight : ℕ) : Type 0 where
   pub behind : BacksReady backs t weight
+  pub row_long : weight * states ≤ length row
+  pub spared_long : weight * states ≤ length spared
+  pub fronts_long : map_size ≤ length fronts
   pub front_below : (h q : ℕ) → h < t.top → q < weight → entry fronts h q < weight

@@ -1,11 +1,12 @@
 // How far the parts of an action reach, what it costs, and the test for aisles between.
 ghost use Rattle.std.specs.Prelude.{◌<◌, ◌≤◌, true, ◌≡◌};
 ghost use Rattle.demand.specs.Maps.{heights};
-ghost use Rattle.aisles.specs.Actions.{back_cost, back_of, front_cost, front_of, passes_between};
+ghost use Rattle.aisles.specs.Actions.{back_cost, back_of, front_cost, front_of, parts_between, parts_length, passes_between};
 ghost use Rattle.rules.specs.Lengths.{action_length};
 ghost use Rattle.rules.specs.Store.{layout_in_bounds};
 
 use crate::layers::Aisle;
+use between::Between;
 use between::positions::{aisle_length, position_of};
 use rules::{Action, Kind, Layout};
 
@@ -52,13 +53,34 @@ pub(crate) fn back_cost(z: Layout, i: usize) -> usize
     2 * (aisle_length(z) - position_of(z, i))
 }
 
+impl Reach {
+    // What the parts of a kind of action cost that reach so far.
+    pub fn length(self, z: Layout, kind: Kind) -> usize
+        requires { layout_in_bounds z ≡ true }
+        ensures { (result ≡ parts_length z kind self.front self.back) × (result ≤ 4160) }
+    {
+        front_cost(z, kind, self.front) + back_cost(z, self.back)
+    }
+
+    // Whether an action of a kind whose parts reach so far passes the test for aisles between: it is walked there and back, and its two
+    // turns pass.
+    pub fn passes_between(self, between: Between, kind: Kind) -> bool
+        requires { (self.front < heights) × (self.back < heights) }
+        ensures { result ≡ parts_between between kind self.front self.back }
+    {
+        match kind {
+            Kind::Once | Kind::Twice => false,
+            _ => between.allows(self.front, self.back),
+        }
+    }
+}
+
 // What an action adds to the length of a plan: what its two parts cost.
 pub fn action_length(z: Layout, action: Action) -> usize
     requires { layout_in_bounds z ≡ true }
     ensures { (result ≡ action_length z action) × (result ≤ 4160) }
 {
-    let reach = reach_of(z.cells, action);
-    front_cost(z, action.kind(), reach.front) + back_cost(z, reach.back)
+    reach_of(z.cells, action).length(z, action.kind())
 }
 
 impl Aisle {

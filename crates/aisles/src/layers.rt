@@ -1,11 +1,12 @@
 // One aisle of the table: the ways over all its actions, a kind of action at a time. Lengths and ones go side by side
-// (rows/src/lib.rt). The least is the shortest, and of equals the one that spares more aisles.
-ghost use Rattle.std.specs.Prelude.{◌*◌, ◌+◌, ◌<◌, ◌≤◌, ◌||◌, ℕ, get_or, not, true, ◌≡◌};
+// (rows/src/lib.rt): `spared` has the ones beside the row that is written, `theirs` those beside the row that is read. The least is
+// the shortest, and of equals the one that spares more aisles.
+ghost use Rattle.std.specs.Prelude.{◌*◌, ◌+◌, ◌<◌, ◌≤◌, ◌||◌, ℕ, get_or, length, not, true, ◌≡◌};
 ghost use Rattle.demand.specs.Digits.{demands};
 ghost use Rattle.demand.specs.Maps.{heights};
 ghost use Rattle.aisles.specs.Layers.{AisleReady, LaneReady, RowFilled, RowsPassed, RowsStepped, TurnsOf, step_with};
 ghost use Rattle.rows.specs.Pairs.{KeysRelaxed, RelaxReady};
-ghost use Rattle.rows.specs.Rows.{PastKept, states};
+ghost use Rattle.rows.specs.Rows.{PastKept, numbers, states};
 ghost use Rattle.aisles.specs.Turns.{BacksHeld, BacksReady, RowsSwept, SweepReady, Thinned, back_at, back_turn, front_at, front_turn, kept_turn, least_back};
 ghost use Rattle.machine.specs.Tables.{is_tested};
 ghost use Rattle.rules.specs.Store.{layout_in_bounds};
@@ -14,7 +15,6 @@ use crate::actions::{back_cost, front_cost};
 use crate::repeats::{Repeats, repeats_of};
 use between::{Between, HEIGHTS};
 use demand::digits::DEMANDS;
-use demand::maps::Maps;
 use machine::{Method, Place, seen_kind};
 use rows::{NONE, Rows, STATES, fill_none, lives, permute, relax_row, spare_one};
 use rules::{Kind, Layout};
@@ -55,11 +55,18 @@ pub struct Turns {
     pub top: usize,
 }
 
+// The maps of an aisle, as they are lent.
+#[derive(Clone, Copy)]
+struct MapsRef<'a> {
+    fronts: &'a [u16],
+    backs: &'a [u16],
+}
+
 // An aisle, its maps, and which cells of it supply nothing new.
 #[derive(Clone, Copy)]
 struct Lane<'a> {
     aisle: Aisle,
-    maps: &'a Maps,
+    maps: MapsRef<'a>,
     same: Repeats,
 }
 
@@ -203,49 +210,91 @@ fn thin(turns: Turns, same: Repeats) -> Turns
 }
 
 // Two rows relaxed over a turn at height h, if there is one.
-fn relax_turn(rows: &mut Rows, way: &Rows, map: &[u16], h: usize, cost: u16, weight: usize)
-    requires { (h < heights) × RelaxReady map.now (h * demands) weight }
-    ensures { KeysRelaxed rows.old.lengths rows.new.lengths rows.old.ones rows.new.ones
-        way.now.lengths way.now.ones map.now (h * demands) cost weight }
+fn relax_turn(
+    row: &mut [u16],
+    spared: &mut [u16],
+    perm: &[u16],
+    theirs: &[u16],
+    map: &[u16],
+    h: usize,
+    cost: u16,
+    weight: usize,
+)
+    requires { (h < heights) × RelaxReady row.old spared.old perm.now theirs.now map.now (h * demands) weight }
+    ensures { KeysRelaxed row.old row.new spared.old spared.new
+        perm.now theirs.now map.now (h * demands) cost weight }
 {
     if cost < NONE {
-        relax_row(rows, way, map, h * DEMANDS, cost, weight);
+        relax_row(row, spared, perm, theirs, map, h * DEMANDS, cost, weight);
     }
 }
 
 // The back turns that go with a front turn at height h, let in to those that go with one at the next height.
-fn admit(best: &mut Rows, way: &Rows, maps: &Maps, turns: Turns, h: usize, weight: usize)
-    requires { BacksReady maps.now.backs turns weight × (h < turns.top)
-        × BacksHeld best.old.lengths best.old.ones way.now.lengths way.now.ones maps.now.backs turns weight (get_or turns.from (h + 1) 0) }
-    ensures { BacksHeld best.new.lengths best.new.ones way.now.lengths way.now.ones maps.now.backs turns weight (get_or turns.from h 0) }
+fn admit(best: &mut Rows, way: &Rows, backs: &[u16], turns: Turns, h: usize, weight: usize)
+    requires { BacksReady backs.now turns weight × (h < turns.top)
+        × BacksHeld best.old.lengths best.old.ones way.now.lengths way.now.ones backs.now turns weight (get_or turns.from (h + 1) 0) }
+    ensures { BacksHeld best.new.lengths best.new.ones way.now.lengths way.now.ones backs.now turns weight (get_or turns.from h 0) }
 {
     for i in (turns.from[h]..turns.from[h + 1]).rev() {
-        relax_turn(best, way, &maps.backs, i, turns.back[i], weight);
+        relax_turn(
+            &mut best.lengths,
+            &mut best.ones,
+            &way.lengths,
+            &way.ones,
+            backs,
+            i,
+            turns.back[i],
+            weight,
+        );
     }
 }
 
 // All actions of a kind in one sweep: the best over the back turns that go with height h is kept while h falls, so that each
 // turn costs a row, and not each pair of turns.
-fn sweep(rows: &mut Rows, best: &mut Rows, way: &Rows, maps: &Maps, turns: Turns, weight: usize)
-    requires { SweepReady maps.now.fronts maps.now.backs turns weight }
-    ensures { RowsSwept rows.old.lengths rows.new.lengths rows.old.ones rows.new.ones
-        way.now.lengths way.now.ones maps.now.fronts maps.now.backs turns weight 0 }
+fn sweep(
+    row: &mut [u16],
+    spared: &mut [u16],
+    best: &mut Rows,
+    way: &Rows,
+    maps: MapsRef,
+    turns: Turns,
+    weight: usize,
+)
+    requires { SweepReady row.old spared.old maps.fronts.now maps.backs.now turns weight }
+    ensures { RowsSwept row.old row.new spared.old spared.new
+        way.now.lengths way.now.ones maps.entry.fronts.now maps.entry.backs.now turns weight 0 }
 {
     fill_none(&mut best.lengths, weight * STATES);
     for h in (0..turns.top).rev() {
-        admit(best, way, maps, turns, h, weight);
-        relax_turn(rows, best, &maps.fronts, h, turns.front[h], weight);
+        admit(best, way, maps.backs, turns, h, weight);
+        relax_turn(
+            row,
+            spared,
+            &best.lengths,
+            &best.ones,
+            maps.fronts,
+            h,
+            turns.front[h],
+            weight,
+        );
     }
 }
 
 // Two rows as a kind of action sees them: for each state the numbers of the state that it leads to, and under VOID a one more, since
 // the aisle is spared.
-fn step_rows(way: &mut Rows, after: &Rows, steps: [usize; STATES], kind: Kind, weight: usize)
-    requires { weight ≤ demands }
-    ensures { RowsStepped way.new.lengths way.new.ones after.now.lengths after.now.ones steps kind weight }
+fn step_rows(
+    way: &mut Rows,
+    after: &[u16],
+    theirs: &[u16],
+    steps: [usize; STATES],
+    kind: Kind,
+    weight: usize,
+)
+    requires { (weight ≤ demands) × (numbers ≤ length after.now) × (numbers ≤ length theirs.now) }
+    ensures { RowsStepped way.new.lengths way.new.ones after.now theirs.now steps kind weight }
 {
-    permute(&mut way.lengths, &after.lengths, steps, weight);
-    permute(&mut way.ones, &after.ones, steps, weight);
+    permute(&mut way.lengths, after, steps, weight);
+    permute(&mut way.ones, theirs, steps, weight);
     if kind == Kind::Void {
         spare_one(&mut way.ones, weight * STATES);
     }
@@ -253,25 +302,29 @@ fn step_rows(way: &mut Rows, after: &Rows, steps: [usize; STATES], kind: Kind, w
 
 // The ways over the actions of a kind; with the test those that pass the test for aisles between.
 fn relax_kind(
-    rows: &mut Rows,
+    row: &mut [u16],
+    spared: &mut [u16],
     scratch: &mut Scratch,
-    after: &Rows,
+    after: &[u16],
+    theirs: &[u16],
     lane: Lane,
     kind: Kind,
     between: bool,
 )
-    requires { LaneReady lane × (between ≡ true → is_tested kind ≡ true) }
-    ensures { RowsPassed lane.entry.aisle rows.old.lengths rows.new.lengths rows.old.ones rows.new.ones
-        after.now.lengths after.now.ones lane.entry.maps.now.fronts lane.entry.maps.now.backs kind between }
+    requires { LaneReady lane × (numbers ≤ length row.old) × (numbers ≤ length spared.old)
+        × (numbers ≤ length after.now) × (numbers ≤ length theirs.now) × (between ≡ true → is_tested kind ≡ true) }
+    ensures { RowsPassed lane.entry.aisle row.old row.new spared.old spared.new
+        after.now theirs.now lane.entry.maps.fronts.now lane.entry.maps.backs.now kind between }
 {
     let aisle = lane.aisle;
     let weight = aisle.weight;
     let steps = steps_of(aisle, kind, between);
     if lives(steps) {
-        step_rows(&mut scratch.way, after, steps, kind, weight);
+        step_rows(&mut scratch.way, after, theirs, steps, kind, weight);
         let turns = thin(turns_of(aisle, kind, between), lane.same);
         sweep(
-            rows,
+            row,
+            spared,
             &mut scratch.best,
             &scratch.way,
             lane.maps,
@@ -282,36 +335,47 @@ fn relax_kind(
 }
 
 // An aisle with the cells that supply nothing new, by its maps.
-fn lane_of<'a>(aisle: Aisle, maps: &'a Maps) -> Lane<'a>
-    requires { AisleReady aisle maps.now.fronts maps.now.backs }
-    ensures { (result.aisle ≡ aisle) × (result.maps.now ≡ maps.now) × LaneReady result }
+fn lane_of<'a>(aisle: Aisle, fronts: &'a [u16], backs: &'a [u16]) -> Lane<'a>
+    requires { AisleReady aisle fronts.now backs.now }
+    ensures { (result.aisle ≡ aisle) × (result.maps.fronts.now ≡ fronts.now) × (result.maps.backs.now ≡ backs.now) × LaneReady result }
 {
     let top = aisle.layout.cells + 1;
-    let front = repeats_of(&maps.fronts, top, aisle.weight);
-    let back = repeats_of(&maps.backs, top, aisle.weight);
+    let front = repeats_of(fronts, top, aisle.weight);
+    let back = repeats_of(backs, top, aisle.weight);
+    let maps = MapsRef { fronts, backs };
     let same = Repeats { front, back };
     Lane { aisle, maps, same }
 }
 
 // The rows of an aisle: for each demand and state the least over all actions. Behind the kinds in turn, MIDPOINT and LARGEST take BOTTOM,
 // TOP and GAP once more, as far as they pass the test for aisles between.
-pub fn fill_row(rows: &mut Rows, after: &Rows, maps: &Maps, aisle: Aisle)
-    requires { AisleReady aisle maps.now.fronts maps.now.backs }
-    ensures { RowFilled aisle rows.new.lengths rows.new.ones after.now.lengths after.now.ones maps.now.fronts maps.now.backs
-        × PastKept aisle.weight rows.old.lengths rows.new.lengths × PastKept aisle.weight rows.old.ones rows.new.ones }
+pub fn fill_row(
+    row: &mut [u16],
+    spared: &mut [u16],
+    after: &[u16],
+    theirs: &[u16],
+    fronts: &[u16],
+    backs: &[u16],
+    aisle: Aisle,
+)
+    requires { AisleReady aisle fronts.now backs.now × (numbers ≤ length row.old) × (numbers ≤ length spared.old)
+        × (numbers ≤ length after.now) × (numbers ≤ length theirs.now) }
+    ensures { RowFilled aisle row.new spared.new after.now theirs.now fronts.now backs.now
+        × (length row.new ≡ length row.old) × (length spared.new ≡ length spared.old)
+        × PastKept aisle.weight row.old row.new × PastKept aisle.weight spared.old spared.new }
 {
-    let lane = lane_of(aisle, maps);
+    let lane = lane_of(aisle, fronts, backs);
     let mut scratch = Scratch {
         way: Rows::EMPTY,
         best: Rows::EMPTY,
     };
-    fill_none(&mut rows.lengths, aisle.weight * STATES);
+    fill_none(row, aisle.weight * STATES);
     for kind in KINDS {
-        relax_kind(rows, &mut scratch, after, lane, kind, false);
+        relax_kind(row, spared, &mut scratch, after, theirs, lane, kind, false);
     }
     if aisle.method.asks_between() {
         for kind in TESTED {
-            relax_kind(rows, &mut scratch, after, lane, kind, true);
+            relax_kind(row, spared, &mut scratch, after, theirs, lane, kind, true);
         }
     }
 }

@@ -72,7 +72,7 @@ fn hangs_together(z: Layout, plan: PlanValue) -> bool
     ensures { (result ≡ true) ↔ Joined z (multiplicity (plan_of plan)) (depot_point z) }
 {
     let mut treads = [0u8; EDGES];
-    fill(z, plan, &mut treads);
+    fill(z, &plan.stages, &mut treads);
     flood::reaches(&treads, depot_number(z), HEIGHTS * (z.aisles + 1))
 }
 

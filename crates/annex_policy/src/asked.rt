@@ -37,7 +37,7 @@ pub fn enterable(z: Layout, policy: Policy, shelf: Shelf) -> [bool; 16]
     let mut may = [false; 16];
     for j in 0..z.aisles {
         // `&` and `|`: with `&&` and `||` one equation would be proved in three cases.
-        may[j] = shelf.open[j] & (any | holds_listed(shelf, z.cells, j + 1));
+        may[j] = shelf.open[j] & (any | holds_listed(&shelf, z.cells, j + 1));
     }
     may
 }
@@ -48,10 +48,10 @@ pub fn betweens(z: Layout, policy: Policy, shelf: Shelf) -> [Between; 3]
     ensures { (job : Job) → ShelfFor job z policy shelf → BetweenAsked (is_largest policy) job z result }
 {
     let gaps = is_largest(policy);
-    let first = between_of(z, gaps, listed_cells(shelf, z.cells, 1));
+    let first = between_of(z, gaps, listed_cells(&shelf, z.cells, 1));
     let mut betweens = [first; 3];
     for j in 0..z.aisles {
-        betweens[j] = between_of(z, gaps, listed_cells(shelf, z.cells, j + 1));
+        betweens[j] = between_of(z, gaps, listed_cells(&shelf, z.cells, j + 1));
     }
     betweens
 }

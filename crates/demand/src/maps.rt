@@ -80,21 +80,21 @@ fn less_row(map: &mut [u16], to: usize, from: usize, x: Digit, n: usize, weight:
 }
 
 // A row of a map behind another one: its demands after one more cell, which holds n for its line, if it has one.
-fn map_row(map: &mut [u16], to: usize, from: usize, d: Digits, line: Option<u8>, n: usize)
+fn map_row(map: &mut [u16], to: usize, from: usize, d: Digits, line: Option<usize>, n: usize)
     requires { RowAsked map.old to from d.weight × RowBelow map.old from d.weight × IfSome line (λ l. (l < 8) × Within (get_or d.digit l no_digit) d.weight) }
     ensures { RowSet map.old map.new to d.weight (λ q. less_line d line n (entry map.old from q)) }
 {
     let weight = d.weight;
     match line {
         None => copy_row(map, to, from, weight),
-        Some(l) => less_row(map, to, from, d.digit[usize::from(l)], n, weight),
+        Some(l) => less_row(map, to, from, d.digit[l], n, weight),
     }
 }
 
 // The map by a part of an action: the rows of the cells that it reaches, one after the other.
-fn fill_map(map: &mut [u16], shelf: Shelf, d: Digits, cells: usize, j: usize, part: Part)
-    requires { (map_size ≤ length map.old) × ((job : Job) × MapsAsked job shelf d cells j) }
-    ensures { ((job : Job) → MapsAsked job shelf d cells j → RowsTo job cells j part (suc cells) map.new) × (length map.new ≡ length map.old) }
+fn fill_map(map: &mut [u16], shelf: &Shelf, d: Digits, cells: usize, j: usize, part: Part)
+    requires { (map_size ≤ length map.old) × ((job : Job) × MapsAsked job shelf.now d cells j) }
+    ensures { ((job : Job) → MapsAsked job shelf.now d cells j → RowsTo job cells j part (suc cells) map.new) × (length map.new ≡ length map.old) }
 {
     plain_row(map, part.height(cells, 0), d.weight);
     for n in 0..cells {
@@ -106,10 +106,18 @@ fn fill_map(map: &mut [u16], shelf: Shelf, d: Digits, cells: usize, j: usize, pa
 }
 
 // The maps of an aisle, into places that are lent: a call's stack has no room for more of them.
-pub fn fill_maps(maps: &mut Maps, shelf: Shelf, d: Digits, cells: usize, j: usize)
-    requires { (job : Job) × MapsAsked job shelf d cells j }
-    ensures { (job : Job) → MapsAsked job shelf d cells j → MapsReady job j maps.new.fronts maps.new.backs }
+pub fn fill_maps(
+    fronts: &mut [u16],
+    backs: &mut [u16],
+    shelf: &Shelf,
+    d: Digits,
+    cells: usize,
+    j: usize,
+)
+    requires { (map_size ≤ length fronts.old) × (map_size ≤ length backs.old) × ((job : Job) × MapsAsked job shelf.now d cells j) }
+    ensures { ((job : Job) → MapsAsked job shelf.now d cells j → MapsReady job j fronts.new backs.new)
+        × (length fronts.new ≡ length fronts.old) × (length backs.new ≡ length backs.old) }
 {
-    fill_map(&mut maps.fronts, shelf, d, cells, j, Part::Front);
-    fill_map(&mut maps.backs, shelf, d, cells, j, Part::Back);
+    fill_map(fronts, shelf, d, cells, j, Part::Front);
+    fill_map(backs, shelf, d, cells, j, Part::Back);
 }

@@ -1,14 +1,18 @@
 -- A set of entered aisles as a number: a bit for each aisle.
 use Prim.Native.Nat.{ℕ, ◌+◌, ◌*◌, ◌^◌}
 use mathlib.Core.List.{List, [], ◌∷◌}
-use mathlib.Core.Bool.{cond}
+use mathlib.Core.Bool.{Bool, cond}
 use lib.Bits.{bit_or}
 use Rattle.rules.specs.declared.Action.{Action}
 use Rattle.rules.specs.Plans.{Plan, entered}
 
--- a set with the aisle whose bit has that number, if the action enters it
+-- a set with the aisle whose bit has that number, if it is entered
+abbrev pub with_aisle_if : ℕ → ℕ → Bool → ℕ
+with_aisle_if set aisle entered = cond entered (bit_or set (2 ^ aisle)) set
+
+-- the same, if the action enters it
 unfoldable pub with_aisle : ℕ → ℕ → Action → ℕ
-with_aisle set aisle action = cond (entered action) (bit_or set (2 ^ aisle)) set
+with_aisle set aisle action = with_aisle_if set aisle (entered action)
 
 -- the set of the aisles that a list of actions enters, the first one's bit the lowest
 abbrev pub set_of : List Action → ℕ

@@ -6,7 +6,7 @@ ghost use lib.Count.{ones};
 ghost use mathlib.Core.Path.{◌≡◌};
 ghost use Rattle.rules.specs.Plans.{entered};
 ghost use Rattle.values.specs.Values.{plan_of};
-ghost use Rattle.entered.specs.Sets.{entered_set, with_aisle};
+ghost use Rattle.entered.specs.Sets.{entered_set, with_aisle, with_aisle_if};
 
 use rules::Action;
 use values::PlanValue;
@@ -18,16 +18,21 @@ pub fn enters(action: Action) -> bool
     !matches!(action, Action::Void)
 }
 
+// The set of entered aisles with the one of that number, if it is entered.
+pub fn with_aisle_if(set: u16, aisle: usize, entered: bool) -> u16
+    requires { aisle < 16 }
+    ensures { result ≡ with_aisle_if set aisle entered }
+{
+    if entered { set | (1 << aisle) } else { set }
+}
+
 // The set of entered aisles with the one of that number, if the action enters it.
+#[tactic(auto, unfolding(crate::specs::Sets::with_aisle))]
 pub fn with_aisle(set: u16, aisle: usize, action: Action) -> u16
     requires { aisle < 16 }
     ensures { result ≡ with_aisle set aisle action }
 {
-    if enters(action) {
-        set | (1 << aisle)
-    } else {
-        set
-    }
+    with_aisle_if(set, aisle, enters(action))
 }
 
 // How many aisles a set has: its ones. (`as`, since Rust has no `From<u32>` for usize.)

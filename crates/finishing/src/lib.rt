@@ -8,6 +8,7 @@ ghost use Rattle.rules.specs.Sheet.{sheet_text};
 ghost use Rattle.sheets.specs.Parts.{text_of};
 ghost use Rattle.values.specs.Values.{Sound, RoutedOf, job_of};
 ghost use Rattle.values.specs.Shelves.{ShelfOf};
+ghost use Rattle.values.specs.FixedLists.{items};
 ghost use Rattle.finishing.specs.Answered.{written, Replied};
 ghost use Rattle.finishing.specs.Paged.{page_written, PageReplied};
 ghost use Rattle.finishing.specs.Toured.{Toured};
@@ -26,7 +27,7 @@ pub struct RoutedJob {
 }
 
 // The picks of a routed job's plan, and the runs of its walk.
-#[derive(Drop)]
+#[derive(Clone, Copy)]
 struct Tour {
     picks: PickList,
     runs: RunList,
@@ -35,7 +36,7 @@ struct Tour {
 impl RoutedJob {
     // The picks and the runs of its plan.
     fn tour(&self) -> Tour
-        ensures { Toured (job_of self.now.job) result.picks.items result.runs.items }
+        ensures { Toured (job_of self.now.job) (items result.picks) (items result.runs) }
     {
         let layout = self.job.layout;
         let plan = self.routed.plan;
@@ -46,7 +47,7 @@ impl RoutedJob {
 
     // The parts of its sheet; refused where their text is longer than its space.
     fn sheet<'a>(&'a self, tour: &'a Tour, space: usize) -> Result<Sheet<'a>, Refusal>
-        requires { Toured (job_of self.now.job) tour.now.picks.items tour.now.runs.items }
+        requires { Toured (job_of self.now.job) (items tour.now.picks) (items tour.now.runs) }
         ensures ok { IfOk result (λ s. (text_of s ≡ sheet_text (job_of self.now.job)) × (length (text_of s) ≤ space)) }
         ensures err { IfErr result (λ cause. (cause ≡ SheetSpace) × (space < length (sheet_text (job_of self.now.job)))) }
     {

@@ -1,11 +1,11 @@
 -- The flood fill: what one edge, a sweep and the whole flood do to the seen points.
-use Rattle.std.proofs.Common.{ℕ, zero, suc, ◌+◌, ◌≤◌, ◌<◌, ◌≡◌, ◌⊎◌, inl, inr, ◌↔◌, Bool, true, false, cond, ◌||◌, eqb, List, [], ◌∷◌, length, get_or, set, replicate, refl, sym, ap, ◌∙◌, subst, arith}
+use Rattle.std.proofs.Common.{ℕ, zero, suc, ◌+◌, ◌-◌, ◌≤◌, ◌<◌, ◌≡◌, ◌⊎◌, inl, inr, ◌↔◌, Bool, true, false, cond, ◌||◌, eqb, List, [], ◌∷◌, length, get_or, set, replicate, refl, sym, ap, ap₂, ◌∙◌, subst, arith}
 use Rattle.std.proofs.lemmas.List.{set-get_or, get_or-set_same, get_or-set_other}
 use lib.ListN.{length-set, length-replicate, get_or-eq_default}
 use borrow.Author.Tests.{eqb-true, eqb-false, eq-eqb, ne_eqb}
 use mathlib.Core.Bool.{beq}
 use Rattle.closedwalks.proofs.Splits.{equal_or_below, below_or_from}
-use Rattle.flood.specs.Flooded.{Seen, unseen, Reach, here, backward, forward, rightward, leftward, Starts, AllReached, Ranged, spread_edge, spread_at}
+use Rattle.flood.specs.Flooded.{Seen, unseen, Reach, here, backward, forward, rightward, leftward, Starts, AllReached, Ranged, spread_edge, spread_at, swept_up, swept_down}
 use Rattle.flood.specs.Flooded.{Alike, Calm, CalmTo, Grown, Swept, Flooded, AllSeen}
 
 -- a point that is seen newly is one unseen less
@@ -89,6 +89,22 @@ module _ (a b : ℕ) (seen : List Bool) (differ : beq (get_or seen a false) (get
       go true false e f d = omega (arith, unseen_set seen b in_list.1 f)
       go false true e f d = omega (arith, unseen_set seen a in_list.0 e)
       go false false e f d = cc
+
+-- one point more is swept upwards
+pub up_more : (left : List ℕ) (at : ℕ) (first : List Bool) {seen after : List Bool} → 26 ≤ at → seen ≡ swept_up left (at - 26) first → after ≡ spread_at left at seen
+    → after ≡ swept_up left (at + 1 - 26) first
+up_more left at first low p q =
+    let number : at ≡ 26 + (at - 26) = omega arith in
+    let next : suc (at - 26) ≡ at + 1 - 26 = omega arith in
+    q ∙ ap₂ (λ (k : ℕ) (l : List Bool). spread_at left k l) number p ∙ ap (λ (k : ℕ). swept_up left k first) next
+
+-- one point more downwards
+pub down_more : (left : List ℕ) (at : ℕ) (seen : List Bool) {last after : List Bool} → 26 < at → swept_down left (at - 26) seen ≡ last → after ≡ spread_at left (at - 1) seen
+    → swept_down left (at - 1 - 26) after ≡ last
+down_more left at seen low p q =
+    let number : at - 1 ≡ 26 + (at - 1 - 26) = omega arith in
+    let next : suc (at - 1 - 26) ≡ at - 26 = omega arith in
+    ap (swept_down left (at - 1 - 26)) (q ∙ ap (λ (k : ℕ). spread_at left k seen) number) ∙ ap (λ (k : ℕ). swept_down left k seen) next ∙ p
 
 module _ (left : List ℕ) where
   -- ways joined

@@ -1,5 +1,5 @@
 -- What the flood fill finds, by the numbers of points and edges: the edges of point p are at p (towards the back) and at 442 + p (to the right).
-use Rattle.std.specs.Prelude.{ℕ, suc, ◌+◌, ◌≤◌, ◌<◌, ◌≡◌, ◌⊎◌, ◌↔◌, Bool, true, false, cond, eqb, List, [], ◌∷◌, length, get_or, set}
+use Rattle.std.specs.Prelude.{ℕ, zero, suc, ◌+◌, ◌≤◌, ◌<◌, ◌≡◌, ◌⊎◌, ◌↔◌, Bool, true, false, cond, eqb, List, [], ◌∷◌, length, get_or, set}
 
 -- a point is seen
 abbrev pub Seen : List Bool → ℕ → Type 0
@@ -43,6 +43,16 @@ spread_edge n a b seen =
 -- the edges towards the back and to the right of a point
 unfoldable pub spread_at : List ℕ → ℕ → List Bool → List Bool
 spread_at left p seen = spread_edge (get_or left (442 + p) 0) p (p + 26) (spread_edge (get_or left p 0) p (p + 1) seen)
+
+-- n points from 26 on, upwards
+abbrev pub swept_up : List ℕ → ℕ → List Bool → List Bool
+swept_up left zero seen = seen
+swept_up left (suc n) seen = spread_at left (26 + n) (swept_up left n seen)
+
+-- the same points downwards
+abbrev pub swept_down : List ℕ → ℕ → List Bool → List Bool
+swept_down left zero seen = seen
+swept_down left (suc n) seen = swept_down left n (spread_at left (26 + n) seen)
 
 -- both points are seen, or neither is
 abbrev pub Alike : List Bool → ℕ → ℕ → Type 0

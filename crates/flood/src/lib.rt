@@ -2,10 +2,10 @@
 // each point is seen. The points lie below `end`, where the last aisle's numbers end.
 #![tactic(auto)]
 
-ghost use Rattle.std.specs.Prelude.{◌≡◌, true, ◌↔◌, ◌≤◌, ◌<◌, length};
+ghost use Rattle.std.specs.Prelude.{◌≡◌, true, ◌↔◌, ◌-◌, ◌≤◌, ◌<◌, length};
 ghost use Rattle.rules.specs.Store.{layout_in_bounds};
 ghost use Rattle.flood.specs.Points.{depot_number, next_by};
-ghost use Rattle.flood.specs.Flooded.{unseen, AllReached, Ranged, spread_edge, spread_at, Swept, Flooded, AllSeen};
+ghost use Rattle.flood.specs.Flooded.{unseen, AllReached, Ranged, spread_edge, spread_at, swept_up, swept_down, Swept, Flooded, AllSeen};
 
 use rules::{Direction, Layout, Side};
 
@@ -83,7 +83,8 @@ impl Edges<'_> {
     // Sweeps the points upwards and then downwards. Whether a point is seen newly.
     fn sweep(&self, seen: &mut [bool]) -> bool
         requires { length seen.old ≡ 442 }
-        ensures { Swept self.now.left.now self.now.end seen.old seen.new result }
+        ensures seen_after { seen.new ≡ swept_down self.now.left.now (self.now.end - 26) (swept_up self.now.left.now (self.now.end - 26) seen.old) }
+        ensures grown { Swept self.now.left.now self.now.end seen.old seen.new result }
     {
         let mut news = false;
         for at in HEIGHTS..self.end {

@@ -113,7 +113,8 @@ automaton_at (suc zero) = TraversalRight
 automaton_at (suc (suc zero)) = MidpointOrLargest
 automaton_at (suc (suc (suc m))) = TraversalLeft
 
-automaton_small : (a : Automaton) → automaton_number a < 4
+-- there are four automata
+pub automaton_small : (a : Automaton) → automaton_number a < 4
 automaton_small Lawful = omega arith
 automaton_small TraversalRight = omega arith
 automaton_small MidpointOrLargest = omega arith

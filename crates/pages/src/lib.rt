@@ -6,6 +6,7 @@ mod columns;
 ghost use Rattle.std.specs.Prelude.{◌≡◌, ◌*◌, ◌≤◌, length};
 ghost use Rattle.rules.specs.Lists.{concat_of};
 ghost use Rattle.rules.specs.Page.{page_line};
+ghost use Rattle.values.specs.FixedLists.{items};
 ghost use Rattle.lines.specs.Written.{Written};
 
 use crate::columns::write_line;
@@ -16,15 +17,15 @@ const LINE: usize = 25;
 
 // The byte count of the page of these picks. (That each line has 25 bytes where its numbers fit is proved: proofs/PageLines)
 pub fn page_size(picks: &PickList) -> usize
-    ensures { result ≡ 25 * length picks.now.items }
+    ensures { result ≡ 25 * length (items picks.now) }
 {
     LINE * picks.len()
 }
 
 // Writes the lines of the picks, in their order. (A pick's line here is not its line in the P section, which is its `Line`.)
 pub fn write_page(page: &mut [u8], picks: &PickList) -> usize
-    requires { length (concat_of page_line picks.now.items) ≤ length page.old }
-    ensures { Written (concat_of page_line picks.now.items) page.old page.new result }
+    requires { length (concat_of page_line (items picks.now)) ≤ length page.old }
+    ensures { Written (concat_of page_line (items picks.now)) page.old page.new result }
 {
     let mut at = 0;
     for pick in picks.as_slice() {

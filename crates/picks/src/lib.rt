@@ -6,6 +6,7 @@ ghost use Rattle.rules.specs.Jobs.{Job};
 ghost use Rattle.rules.specs.Plans.{passes_cell};
 ghost use Rattle.rules.specs.Picks.{picks_of};
 ghost use Rattle.values.specs.Shelves.{cell_number};
+ghost use Rattle.values.specs.FixedLists.{items};
 ghost use Rattle.values.specs.Values.{plan_of};
 ghost use Rattle.picks.specs.Picking.{Asked, PickedAt};
 
@@ -47,7 +48,7 @@ fn pick_at(
     if !passes(action, cell) {
         return None;
     }
-    let line = &mut lacking[usize::from(number)];
+    let line = &mut lacking[number];
     let quantity = line.quantity.min(shelf.quantity[place]);
     if quantity == 0 {
         return None;
@@ -64,7 +65,7 @@ fn pick_at(
 // The picks of a plan for a job with these lines, so many cells to an aisle, and this shelf.
 pub fn picks(lines: [OrderLine; 8], cells: usize, shelf: &Shelf, plan: PlanValue) -> PickList
     requires { (job : Job) × Asked job lines cells shelf.now plan }
-    ensures { (job : Job) → Asked job lines cells shelf.now plan → result.items ≡ picks_of job (plan_of plan) }
+    ensures { (job : Job) → Asked job lines cells shelf.now plan → items result ≡ picks_of job (plan_of plan) }
 {
     let mut picks = PickList::new();
     let mut lacking = lines;

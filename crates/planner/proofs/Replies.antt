@@ -5,7 +5,7 @@ use mathlib.Core.Logic.{◌⊎◌, inl, inr}
 use mathlib.Core.List.{List}
 use mathlib.Core.Bool.{Bool, true, false}
 use lib.Dec.{ltb}
-use lib.ListN.{length}
+use lib.ListN.{length, replicate}
 use borrow.Author.Tests.{ltb-true, ltb-false}
 use Rattle.rules.specs.declared.Refusal.{Refusal}
 use Rattle.rules.specs.declared.Refusal.TheVariants.{WorkArea}
@@ -23,7 +23,7 @@ use Rattle.planner.specs.Answered.{Answered}
 use Rattle.planner.specs.Tried.{Routes, Stops}
 
 -- a refusal that leaves the work area as it was
-refusal_answered : (x : Refusal) (before work : List ℕ) → work ≡ work_after x work → Answered (refused x before work) (Err x) before work
+pub refusal_answered : (x : Refusal) (before work : List ℕ) → work ≡ work_after x work → Answered (refused x before work) (Err x) before work
 unfolding refused
 refusal_answered x before work e = record { replied = record { reply = refl; sheet = refl }; work = e }
 
@@ -46,7 +46,12 @@ module _ (bytes before work : List ℕ) where
       go false t = rw (t, written) (answer_served bytes before work h job (sym e) (ltb-false (length before) (length (sheet_text job)) t))
 
   -- and the work area is all zero
+  pub answered_written : work_limit ≤ length work → (job : Job) (reply : Reply) (after zeros : List ℕ) → good job ≡ check_bytes bytes
+      → Replied (written job before work) reply after → zeros ≡ replicate (length work) 0 → Answered (answer bytes before work) reply after zeros
+  answered_written h job reply after zeros e p z = rw (answer_written h job e) (record { replied = p; work = z ∙ written_clears job before work })
+
+  -- the same of a routed job
   pub routes_answered : (routed : RoutedJob) (reply : Reply) (after numbers : List ℕ) → Routes bytes routed work numbers
       → Replied (written (job_of routed.job) before work) reply after → Answered (answer bytes before work) reply after numbers
   routes_answered routed reply after numbers r p =
-      rw (answer_written r.space (job_of routed.job) r.checked) (record { replied = p; work = r.cleared ∙ written_clears (job_of routed.job) before work })
+      answered_written r.space (job_of routed.job) reply after numbers r.checked p r.cleared

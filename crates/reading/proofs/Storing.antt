@@ -5,7 +5,7 @@ use lib.Seq.{take-nil, take_all, take-append-le, take-append_seam, set-append_se
 use Rattle.std.proofs.lemmas.List.{drop-replicate, length-replicate}
 use Rattle.std.proofs.Math.Option.{none, some}
 use Rattle.rules.specs.JobFile.{Reading, ◌>>=◌, read_lines}
-use Rattle.reading.specs.Kept.{filled, padded, noted}
+use Rattle.reading.specs.Kept.{filled, padded, readable_lines, noted}
 
 module _ {A : Type 0} where
   -- what is read behind xs, with xs in front
@@ -23,7 +23,7 @@ module _ {A : Type 0} where
   behind_one xs x (some r) = rw append_assoc refl
 
   -- no line stands in the places
-  filled_none : (places : List A) → filled places [] ≡ places
+  pub filled_none : (places : List A) → filled places [] ≡ places
   unfolding filled
   filled_none places = rw (filled, take-nil {A = A} (length places)) refl
 
@@ -54,6 +54,7 @@ pub record LinesTo {A N : Type 0} (read : List ℕ → Reading A) (noting : N �
   pub told : notes ≡ noted noting first lines
   pub stored : places ≡ filled before lines
   pub so_far : read_lines read n s ≡ behind lines (read_lines read (n - i) rest)
+  pub ahead : readable_lines read n s ≡ lines ++ readable_lines read (n - i) rest
 
 module _ {A N : Type 0} (read : List ℕ → Reading A) (noting : N → A → N) (n : ℕ) (s : List ℕ) (before : List A) (first : N) where
   -- no line has been read
@@ -63,12 +64,17 @@ module _ {A N : Type 0} (read : List ℕ → Reading A) (noting : N → A → N)
     told = refl;
     stored = sym (filled_none before);
     so_far = let z : n - 0 ≡ n = omega arith in rw z (sym (behind_nothing (read_lines read n s)));
+    ahead = let z : n - 0 ≡ n = omega arith in rw z refl;
   }
 
   module _ (i : ℕ) (rest : List ℕ) (places : List A) (notes : N) (lines : List A) (r : LinesTo read noting n s before first i rest places notes lines) where
     -- all lines have been read
     pub lines_read : n ≤ i → read_lines read n s ≡ some (lines, rest)
     lines_read h = let e : n - i ≡ 0 = omega arith in rw (r.so_far, e, read_lines, append-nil lines) refl
+
+    -- and stand in the places
+    pub all_kept : n ≤ i → places ≡ filled before (readable_lines read n s)
+    all_kept h = let e : n - i ≡ 0 = omega arith in r.stored ∙ ap (filled before) (sym (rw (r.ahead, e, readable_lines, append-nil lines) refl))
 
     module _ (h : i < n) where
       -- what is left is a line and the others
@@ -79,6 +85,10 @@ module _ {A N : Type 0} (read : List ℕ → Reading A) (noting : N → A → N)
       pub lines_fail : read rest ≡ none → read_lines read n s ≡ none
       lines_fail e = rw (r.so_far, left, read_lines, e) refl
 
+      -- those in front of it stand in the places
+      pub front_kept : read rest ≡ none → places ≡ filled before (readable_lines read n s)
+      front_kept e = r.stored ∙ ap (filled before) (sym (rw (r.ahead, left, readable_lines, e, append-nil lines) refl))
+
       -- one line more has been read, and stands in its place if it has one
       module _ (x : A) (next : List ℕ) (e : read rest ≡ some (x, next)) where
         one_more : (after : List A) → after ≡ filled before (lines ++ (x ∷ [])) → LinesTo read noting n s before first (i + 1) next after (noting notes x) (lines ++ (x ∷ []))
@@ -87,6 +97,7 @@ module _ {A N : Type 0} (read : List ℕ → Reading A) (noting : N → A → N)
           told = ap (λ t. noting t x) r.told ∙ sym (noted_more noting first lines x);
           stored = kept;
           so_far = r.so_far ∙ rw (left, read_lines, e) (behind_one lines x (read_lines read (n - (i + 1)) next));
+          ahead = r.ahead ∙ rw (left, readable_lines, e) (sym (append_assoc lines (x ∷ []) (readable_lines read (n - (i + 1)) next)));
         }
 
         pub lines_stored : i < length before → LinesTo read noting n s before first (i + 1) next (set places i x) (noting notes x) (lines ++ (x ∷ []))

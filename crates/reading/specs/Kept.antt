@@ -1,5 +1,5 @@
 -- What is kept of a job file: its lines are counted, and the first of them stand in arrays.
-use Rattle.std.specs.Prelude.{[], ◌∷◌, ℕ, ◌-◌, ◌≡◌, List, ◌++◌, length, take, drop, replicate, Some, None}
+use Rattle.std.specs.Prelude.{[], ◌∷◌, ℕ, zero, suc, ◌-◌, ◌≡◌, List, ◌++◌, length, take, drop, replicate, Some, None}
 use Rattle.std.specs.Prelude.{Option as Found}
 use Rattle.reading.specs.declared.cursor.Cursor.{Cursor}
 use Rattle.reading.specs.declared.raw.RawJob.{RawJob}
@@ -8,7 +8,7 @@ use Rattle.std.proofs.Math.Option.{Option, none, some}
 use Rattle.rules.specs.declared.StockRecord.{StockRecord}
 use Rattle.rules.specs.Hours.{Hours, NoHours, At}
 use Rattle.rules.specs.Jobs.{Job}
-use Rattle.rules.specs.JobFile.{Reading}
+use Rattle.rules.specs.JobFile.{Reading, read_header}
 use Rattle.values.specs.declared.Clock.{Clock}
 use Rattle.values.specs.declared.JobValue.{JobValue}
 use Rattle.values.specs.Values.{no_window, no_line}
@@ -25,6 +25,15 @@ filled places xs = take (length places) xs ++ drop (length xs) places
 -- an array with the first of the elements, as many as there is room for, and blanks behind them
 unfoldable pub padded : {A : Type 0} → ℕ → A → List A → List A
 padded room blank xs = take room xs ++ replicate (room - length xs) blank
+
+-- of n lines those in front of the first that cannot be read
+abbrev pub readable_lines : {A : Type 0} → (List ℕ → Reading A) → ℕ → List ℕ → List A
+readable_lines read zero s = []
+readable_lines read (suc n) s = elim (read s) [ none ↦ [] | some r ↦ r.0 ∷ readable_lines read n r.1 ]
+
+-- the same of a section's lines, of which none counts where its first line cannot be read
+unfoldable pub readable_section : {A : Type 0} → ℕ → (List ℕ → Reading A) → List ℕ → List A
+readable_section letter read s = elim (read_header letter s) [ none ↦ [] | some r ↦ readable_lines read r.0 r.1 ]
 
 -- what is noted of elements, one by one
 abbrev pub noted : {A N : Type 0} → (N → A → N) → N → List A → N

@@ -48,9 +48,22 @@ fn trace_aisle(next: &Rows, order: &Order, n: usize, trace: Trace, here: usize) 
     let mut maps = Maps::EMPTY;
     let mut after = Rows::EMPTY;
     let j = n + 1;
-    fill_maps(&mut maps, order.shelf, order.digits, order.layout.cells, j);
+    fill_maps(
+        &mut maps.fronts,
+        &mut maps.backs,
+        &order.shelf,
+        order.digits,
+        order.layout.cells,
+        j,
+    );
     let aisle = aisle_of(order, j);
-    fill_after(&mut after, next, aisle);
+    fill_after(
+        &mut after.lengths,
+        &mut after.ones,
+        &next.lengths,
+        &next.ones,
+        aisle,
+    );
     let sought = Sought {
         at: trace.at,
         length: here,

@@ -23,9 +23,13 @@ pub record PairShorter (row spared : List ℕ) (at : ℕ) (perm perm-spared : Li
   pub lengths : Shorter row at perm from cost r.lengths states
   pub ones : Fewer row spared at perm perm-spared from cost r.ones states
 
--- what relaxing two rows needs: a map that is long enough, and demands that stay below the weight
-pub record RelaxReady (map : List ℕ) (base weight : ℕ) : Type 0 where
+-- what relaxing two rows needs: lists that are long enough, demands that stay below the weight
+pub record RelaxReady (row spared perm perm-spared map : List ℕ) (base weight : ℕ) : Type 0 where
   pub small : weight ≤ demands
+  pub row_long : weight * states ≤ length row
+  pub spared_long : weight * states ≤ length spared
+  pub perm_long : weight * states ≤ length perm
+  pub perm_spared_long : weight * states ≤ length perm-spared
   pub map_long : base + weight ≤ length map
   pub below : (q : ℕ) → q < weight → get_or map (base + q) 0 < weight
 

@@ -9,7 +9,7 @@
 ghost use Rattle.std.specs.Prelude.{◌*◌, ◌+◌, ◌-◌, ◌<◌, ◌≤◌, length, cond, ◌≡◌};
 ghost use Rattle.demand.specs.Digits.{demands};
 ghost use Rattle.rows.specs.Pairs.{PairShorter, RelaxReady, RelaxedPair, SparedTo, ones_of};
-ghost use Rattle.rows.specs.Rows.{LivesAs, NoneTo, Permuted, StateSet, StoredTo, next_at, numbers, states};
+ghost use Rattle.rows.specs.Rows.{LivesAs, NoneTo, Permuted, StateSet, StoredTo, next_at, states};
 ghost use Rattle.std.specs.Int.Count.{ones};
 
 use demand::digits::DEMANDS;
@@ -41,9 +41,9 @@ impl Rows {
 // The lengths of eight states, and the ones beside them. (With a const parameter in place of two structs, a number would stand in
 // every signature and clause that names a row.)
 #[derive(Clone, Copy)]
-struct Pair {
-    lengths: [u16; STATES],
-    ones: [u16; STATES],
+pub struct Pair {
+    pub lengths: [u16; STATES],
+    pub ones: [u16; STATES],
 }
 
 // A number, if a test holds; 0 if not.
@@ -64,19 +64,28 @@ fn ones_of(here: u16, mine: u16, way: u16, theirs: u16) -> u16
 
 // For each of eight states the shorter of its length and the way of that cost, with the ones that go with it. All are read before
 // any is written: the compiler then takes the eight at once.
-fn shorter(rows: &Rows, at: usize, way: &Rows, from: usize, cost: u16) -> Pair
-    requires { (at + states ≤ numbers) × (from + states ≤ numbers) }
-    ensures { PairShorter rows.now.lengths rows.now.ones at way.now.lengths way.now.ones from cost result }
+fn shorter(
+    row: &[u16],
+    spared: &[u16],
+    at: usize,
+    perm: &[u16],
+    theirs: &[u16],
+    from: usize,
+    cost: u16,
+) -> Pair
+    requires { (at + states ≤ length row.now) × (at + states ≤ length spared.now)
+        × (from + states ≤ length perm.now) × (from + states ≤ length theirs.now) }
+    ensures { PairShorter row.now spared.now at perm.now theirs.now from cost result }
 {
     let mut lengths = [0u16; STATES];
     let mut ones = [0u16; STATES];
     for s in 0..STATES {
-        let here = rows.lengths[at + s];
-        let mine = rows.ones[at + s];
-        let there = cost.saturating_add(way.lengths[from + s]);
-        let theirs = way.ones[from + s];
-        lengths[s] = here.min(there);
-        ones[s] = ones_of(here, mine, there, theirs);
+        let here = row[at + s];
+        let mine = spared[at + s];
+        let way = cost.saturating_add(perm[from + s]);
+        let other = theirs[from + s];
+        lengths[s] = here.min(way);
+        ones[s] = ones_of(here, mine, way, other);
     }
     Pair { lengths, ones }
 }
@@ -93,17 +102,26 @@ fn put(row: &mut [u16], at: usize, eight: [u16; STATES])
 
 // For each demand and state the shorter of its length and the way of that cost to the demand that the map leads to, with the ones
 // that go with it.
-pub fn relax_row(rows: &mut Rows, way: &Rows, map: &[u16], base: usize, cost: u16, weight: usize)
-    requires { RelaxReady map.now base weight }
-    ensures { RelaxedPair rows.old.lengths rows.new.lengths rows.old.ones rows.new.ones
-        way.now.lengths way.now.ones map.now base cost weight }
+pub fn relax_row(
+    row: &mut [u16],
+    spared: &mut [u16],
+    perm: &[u16],
+    theirs: &[u16],
+    map: &[u16],
+    base: usize,
+    cost: u16,
+    weight: usize,
+)
+    requires { RelaxReady row.old spared.old perm.now theirs.now map.now base weight }
+    ensures { RelaxedPair row.old row.new spared.old spared.new
+        perm.now theirs.now map.now base cost weight }
 {
     for q in 0..weight {
         let from = usize::from(map[base + q]) * STATES;
         let at = q * STATES;
-        let eight = shorter(rows, at, way, from, cost);
-        put(&mut rows.lengths, at, eight.lengths);
-        put(&mut rows.ones, at, eight.ones);
+        let eight = shorter(row, spared, at, perm, theirs, from, cost);
+        put(row, at, eight.lengths);
+        put(spared, at, eight.ones);
     }
 }
 

@@ -3,6 +3,7 @@
 
 ghost use Rattle.std.specs.Prelude.{◌≡◌, ◌≤◌, length};
 ghost use Rattle.rules.specs.Sheet.{runs_of};
+ghost use Rattle.values.specs.FixedLists.{items};
 ghost use Rattle.runs.specs.Leading.{leading};
 
 use rules::{Direction, Run};
@@ -22,7 +23,7 @@ fn leading(walk: &[Direction], direction: Direction) -> usize
 // The runs of a walk.
 pub fn runs_of(walk: &[Direction]) -> RunList
     requires { length walk.now ≤ 860 }
-    ensures { result.items ≡ runs_of walk.now }
+    ensures { items result ≡ runs_of walk.now }
 {
     let mut runs = RunList::new();
     let mut rest = walk;

@@ -4,6 +4,7 @@ use Rattle.rules.specs.declared.Policy.{Policy}
 use Rattle.rules.specs.declared.Pick.{Pick}
 use Rattle.rules.specs.declared.Run.{Run}
 use Rattle.rules.specs.Plans.{Plan}
+use Rattle.values.specs.FixedLists.{items}
 use Rattle.values.specs.Values.{plan_of}
 use Rattle.sheets.specs.declared.Sheet.{Sheet}
 use Rattle.rules.specs.JobFile.{header, section_text}
@@ -20,4 +21,4 @@ sheet_of_parts policy total plan picks runs =
 
 -- the text of what stands on a sheet
 abbrev pub text_of : Sheet → List ℕ
-text_of s = sheet_of_parts s.policy s.length (plan_of s.plan.now) s.picks.now.items s.runs.now.items
+text_of s = sheet_of_parts s.policy s.length (plan_of s.plan.now) (items s.picks.now) (items s.runs.now)

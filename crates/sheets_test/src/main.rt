@@ -5,6 +5,7 @@ mod top_job;
 mod worked_job;
 
 ghost use Rattle.std.specs.Prelude.{◌≡◌, ◌≤◌, length, map};
+ghost use Rattle.values.specs.FixedLists.{items};
 ghost use Rattle.sheets_test.specs.Jobs.{run_of};
 
 use rules::{Direction, Policy, Run};
@@ -15,7 +16,7 @@ use values::RunList;
 // The runs of a walk.
 fn walk_of(runs: &[(Direction, usize)]) -> RunList
     requires { length runs.now ≤ 860 }
-    ensures { result.items ≡ map run_of runs.now }
+    ensures { items result ≡ map run_of runs.now }
 {
     let mut walk = RunList::new();
     for (direction, steps) in runs {

@@ -1,6 +1,7 @@
 // A job whose plan enters from the back: its lines, its shelf, its plan and its walk.
 ghost use Rattle.std.specs.Prelude.{◌≡◌, take};
 ghost use Rattle.values.specs.Shelves.{ShelfOf};
+ghost use Rattle.values.specs.FixedLists.{items};
 ghost use Rattle.sheets_test.specs.Jobs.{top_job, top_walk};
 
 use crate::walk_of;
@@ -70,7 +71,7 @@ pub fn plan() -> PlanValue
 
 // Its walk: B, R, F, B, R, F, L.
 pub fn runs() -> RunList
-    ensures { result.items ≡ top_walk }
+    ensures { items result ≡ top_walk }
 {
     walk_of(&[
         (Direction::Back, 3),

@@ -1,6 +1,7 @@
 // The job that document 01 walks through: its line, its shelf, its plan and its walk.
 ghost use Rattle.std.specs.Prelude.{◌≡◌, take};
 ghost use Rattle.values.specs.Shelves.{ShelfOf};
+ghost use Rattle.values.specs.FixedLists.{items};
 ghost use Rattle.sheets_test.specs.Jobs.{worked_job, worked_walk};
 
 use crate::walk_of;
@@ -51,7 +52,7 @@ pub fn plan() -> PlanValue
 
 // Its walk: R, B, F, L, a step each.
 pub fn runs() -> RunList
-    ensures { result.items ≡ worked_walk }
+    ensures { items result ≡ worked_walk }
 {
     walk_of(&[
         (Direction::Right, 1),

@@ -24,13 +24,13 @@ pub fn cell_number(aisle: usize, cell: usize) -> usize
 }
 
 // The number of the line of an article, if it is on one, as the shelf notes it.
-fn line_of(lines: &[OrderLine], article: usize) -> Option<u8>
+fn line_of(lines: &[OrderLine], article: usize) -> Option<usize>
     requires { length lines.now ≤ 8 }
     ensures { result ≡ line_from 0 lines.now article }
 {
     for (l, line) in lines.iter().enumerate() {
         if line.article == article {
-            return Some(l as u8);
+            return Some(l);
         }
     }
     None
@@ -61,9 +61,9 @@ pub fn shelve(job: JobValue) -> Shelf
 }
 
 // Whether an aisle holds an article of the list: whether one of its cells has a line.
-pub fn holds_listed(shelf: Shelf, cells: usize, j: usize) -> bool
+pub fn holds_listed(shelf: &Shelf, cells: usize, j: usize) -> bool
     requires { (cells ≤ 24) × (1 ≤ j) × (j ≤ 16) }
-    ensures { (job : Job) → Admitted job → ShelfOf job shelf → cells ≡ job.layout.cells → j ≤ job.layout.aisles → result ≡ holds_listed job j }
+    ensures { (job : Job) → Admitted job → ShelfOf job shelf.now → cells ≡ job.layout.cells → j ≤ job.layout.aisles → result ≡ holds_listed job j }
 {
     for c in 1..cells + 1 {
         if shelf.line[cell_number(j, c)].is_some() {
@@ -74,9 +74,9 @@ pub fn holds_listed(shelf: Shelf, cells: usize, j: usize) -> bool
 }
 
 // Which cells of an aisle hold an article of the list, by height: those that have a line.
-pub fn listed_cells(shelf: Shelf, cells: usize, j: usize) -> [bool; HEIGHTS]
+pub fn listed_cells(shelf: &Shelf, cells: usize, j: usize) -> [bool; HEIGHTS]
     requires { (cells ≤ 24) × (1 ≤ j) × (j ≤ 16) }
-    ensures { (job : Job) → Admitted job → ShelfOf job shelf → cells ≡ job.layout.cells → result ≡ listed_flags job j }
+    ensures { (job : Job) → Admitted job → ShelfOf job shelf.now → cells ≡ job.layout.cells → result ≡ listed_flags job j }
 {
     let mut listed = [false; HEIGHTS];
     for i in 1..cells + 1 {

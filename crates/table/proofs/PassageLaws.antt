@@ -1,7 +1,7 @@
 -- The ways on over the passages, one after the other.
 use Prim.Native.Nat.{ℕ, ◌+◌, ◌*◌, ◌≤◌, ◌<◌, min}
 use native.Mathlib.Omega.{arith}
-use mathlib.Core.Path.{◌≡◌, refl, sym, ◌∙◌, ap, ap₂}
+use mathlib.Core.Path.{◌≡◌, refl, sym, ◌∙◌, ap, ap₂, subst}
 use mathlib.Core.List.{List, [], ◌∷◌}
 use mathlib.Core.Bool.{Bool, true, false, cond}
 use mathlib.Core.Logic.{⊎_elim}
@@ -26,7 +26,7 @@ use Rattle.rows.specs.Rows.{Permuted, NoneTo}
 use Rattle.rows.specs.Pairs.{walk, key_at, next_key, SoundRow, KeysRelaxed}
 use Rattle.rows.proofs.KeyRows.{row_top, live_key, dead_key, sound_next, keys_none, keys_permuted, sound_permuted}
 use Rattle.aisles.proofs.ActionRows.{DeadNone}
-use Rattle.table.specs.Crossings.{cross_code, through_passage, least_over, least_after, PassageTried, AfterFilled}
+use Rattle.table.specs.Crossings.{cross_code, through_passage, least_over, least_after, Plain, PassageTried, AfterFilled}
 use Rattle.demand.proofs.Filling.{below}
 
 -- a passage by its place in the order
@@ -68,6 +68,10 @@ pub least_none : {A : Type 0} (f : A → ℕ) → ((x : A) → f x ≡ no_key) �
 least_none f e [] = refl
 least_none f e (x ∷ xs) = omega (arith, e x, least_none f e xs)
 
+-- a map that leaves each demand below n as it is leads to demands below n
+pub plain_below : (plain : List ℕ) (n : ℕ) → Plain plain n → (q : ℕ) → q < n → get_or plain (0 + q) 0 < n
+plain_below plain n same q h = subst (λ k. k < n) (sym (same q h)) h
+
 module _ (x : Aisle) (after after-spared next next-spared steps : List ℕ) (p : Passage)
     (steps-are : (s : ℕ) → s < 8 → get_or steps s 0 ≡ cross_code x p s) where
   -- what the passage costs
@@ -76,7 +80,7 @@ module _ (x : Aisle) (after after-spared next next-spared steps : List ℕ) (p :
 
   -- the rows behind a passage, their states put in order, then relaxed
   pub passage_relaxed : (after' after-spared' perm perm' perm-spared perm-spared' plain : List ℕ) (cost : ℕ) → x.weight ≤ 256
-      → cost ≡ cost_of_lem → ((q : ℕ) → q < x.weight → get_or plain (0 + q) 0 ≡ q)
+      → cost ≡ cost_of_lem → Plain plain x.weight
       → Permuted perm perm' next steps x.weight 8 → Permuted perm-spared perm-spared' next-spared steps x.weight 8
       → KeysRelaxed after after' after-spared after-spared' perm' perm-spared' plain 0 cost x.weight
       → PassageTried x after after' after-spared after-spared' next next-spared p

@@ -19,7 +19,7 @@ use Rattle.optimum.specs.Routing.{no_tour, no_key}
 use Rattle.machine.specs.States.{state_of}
 use Rattle.machine.specs.declared.Method.{Method}
 use Rattle.machine.specs.declared.Place.{Place}
-use Rattle.demand.specs.Maps.{MapsAsked, MapsReady}
+use Rattle.demand.specs.Maps.{map_size, MapsAsked, MapsReady}
 use Rattle.demand.proofs.Composition.{met_zero}
 use Rattle.demand.proofs.Filling.{zero_at}
 use Rattle.table.specs.declared.filling.Order.{Order}
@@ -107,11 +107,14 @@ aisle_range job ok j =
     }
 
 -- an aisle whose maps are filled is ready
-pub aisle_ready : (job : Job) → Admitted job → (j : ℕ) (fronts backs : List ℕ) → MapsReady job j fronts backs → AisleReady (aisle_of job j) fronts backs
+pub aisle_ready : (job : Job) → Admitted job → (j : ℕ) (fronts backs : List ℕ) → MapsReady job j fronts backs
+    → map_size ≤ length fronts → map_size ≤ length backs → AisleReady (aisle_of job j) fronts backs
 unfolding aisle_of
-aisle_ready job ok j fronts backs maps =
+aisle_ready job ok j fronts backs maps fronts_long backs_long =
     record {
       aisle = aisle_range job ok j;
+      fronts_long = fronts_long;
+      backs_long = backs_long;
       front_below = λ h q l w. subst (λ n. n < weight job.lines) (sym (maps.front h q l w)) (below_weight job j (Bottom h) q);
       back_below = λ i q l m w. subst (λ n. n < weight job.lines) (sym (maps.back i q l m w)) (below_weight job j (Top i) q);
     }
@@ -194,8 +197,9 @@ module _ (job : Job) (j : ℕ) (x : Aisle) (x-is : x ≡ aisle_of job j) where
     in_range = subst InRange (sym x-is) (aisle_range job ok j)
 
     -- with its maps the aisle is ready
-    pub ready : (fronts backs : List ℕ) → MapsReady job j fronts backs → AisleReady x fronts backs
-    ready fronts backs maps = subst (λ y. AisleReady y fronts backs) (sym x-is) (aisle_ready job ok j fronts backs maps)
+    pub ready : (fronts backs : List ℕ) → MapsReady job j fronts backs → map_size ≤ length fronts → map_size ≤ length backs → AisleReady x fronts backs
+    ready fronts backs maps fronts_long backs_long =
+        subst (λ y. AisleReady y fronts backs) (sym x-is) (aisle_ready job ok j fronts backs maps fronts_long backs_long)
 
     -- the rows of the aisle, out of the rows behind its actions
     pub layer_holds : right < 16 → (after after-spared fronts backs row row-spared : List ℕ) → MapsReady job j fronts backs → AfterHolds job right j after after-spared

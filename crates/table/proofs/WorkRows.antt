@@ -2,7 +2,7 @@
 use Prim.Native.Nat.{ℕ, suc, ◌+◌, ◌*◌, ◌-◌, ◌≤◌, ◌<◌}
 use native.Mathlib.Omega.{arith}
 use native.Mathlib.Nat.{eq-or-lt_of_le}
-use mathlib.Core.Path.{◌≡◌, sym, ◌∙◌, ap, subst}
+use mathlib.Core.Path.{◌≡◌, sym, ◌∙◌, ap, ap₂, subst}
 use mathlib.Core.Logic.{⊎_elim}
 use mathlib.Core.List.{List, ◌++◌}
 use lib.ListN.{length, get_or, take, drop, get_or-append}
@@ -16,6 +16,10 @@ use Rattle.rows.specs.Rows.{numbers}
 use Rattle.rows.specs.Pairs.{Holds}
 use Rattle.rows.proofs.Keys.{held_as}
 use Rattle.table.specs.TableHolds.{values, row_in, RowHolds, TableFrom}
+
+-- the numbers of aisle j as a part of a list
+pub part_is : (xs : List ℕ) (j a e : ℕ) → a ≡ (j - 1) * numbers → e ≡ a + numbers → take (e - a) (drop a xs) ≡ row_in xs j
+part_is xs j a e starts ends = let whole : e - a ≡ numbers = omega arith in ap₂ (λ n m. take n (drop m xs)) whole starts
 
 -- a list with other numbers from place a to place e
 module _ (xs ys : List ℕ) (a e : ℕ) (order : a ≤ e) (within : e ≤ length xs) (fits : length ys ≡ e - a) where

@@ -9,6 +9,8 @@ use Rattle.optimum.specs.Routing.{no_key}
 use Rattle.machine.specs.States.{state_code, state_of}
 use Rattle.machine.specs.Steps.{cross_of}
 use Rattle.aisles.specs.declared.layers.Aisle.{Aisle}
+use Rattle.aisles.specs.Layers.{InRange}
+use Rattle.demand.specs.Maps.{entry}
 use Rattle.rows.specs.Rows.{states, next_at}
 use Rattle.rows.specs.Pairs.{walk, key_at, next_key, SoundRow, Holds}
 
@@ -28,6 +30,18 @@ least_over x next s q n = least_or no_key (through_passage x next s q) (take n p
 -- the least over the passages that are tried, from a state and a demand behind the actions
 unfoldable pub least_after : Aisle → (ℕ → ℕ → ℕ) → ℕ → ℕ → ℕ
 least_after x next s q = least_over x next s q x.tried
+
+-- what the rows behind the actions need: rows that are long enough, numbers in range
+pub record CrossingReady (x : Aisle) (after after-spared next next-spared : List ℕ) : Type 0 where
+  pub aisle : InRange x
+  pub after_long : x.weight * states ≤ length after
+  pub after_spared_long : x.weight * states ≤ length after-spared
+  pub next_long : x.weight * states ≤ length next
+  pub next_spared_long : x.weight * states ≤ length next-spared
+
+-- a map that leaves each demand below n as it is
+abbrev pub Plain : List ℕ → ℕ → Type 0
+Plain plain n = (q : ℕ) → q < n → entry plain 0 q ≡ q
 
 -- each key of two rows is the lesser of what it was and the way on over a passage; nothing else changes
 pub record PassageTried (x : Aisle) (after after' after-spared after-spared' next next-spared : List ℕ) (passage : Passage) : Type 0 where

@@ -19,6 +19,7 @@ use Rattle.values.specs.Shelves.{ShelfOf}
 use Rattle.demand.specs.Digits.{DigitsOf, demands}
 use Rattle.table.specs.declared.filling.Order.{Order}
 use Rattle.aisles.specs.declared.layers.Aisle.{Aisle}
+use Rattle.aisles.specs.Layers.{InRange}
 use Rattle.rows.specs.Rows.{states, numbers, work_area, tab, next_at}
 use Rattle.rows.specs.Pairs.{Holds}
 
@@ -97,6 +98,18 @@ abbrev pub NextHolds : ℕ → ℕ → List ℕ → List ℕ → List ℕ → Li
 NextHolds aisles j work spared next next-spared =
     (job : Job) → job.layout.aisles ≡ aisles → weight job.lines ≤ demands → TableFrom job (suc j) work spared
     → RowHolds job (aisles - j) (suc j) next next-spared
+
+-- what the rows behind the actions of an aisle are made from: in the work area, and in the list of ones, are sixteen rows
+pub record BehindAsked (x : Aisle) (work spared : List ℕ) : Type 0 where
+  pub aisle : InRange x
+  pub few : x.layout.aisles ≤ 16
+  pub work_long : work_area ≤ length work
+  pub spared_long : work_area ≤ length spared
+
+-- with the rows behind aisle j filled, the rows behind its actions hold the table's values
+abbrev pub BehindFilled : Aisle → ℕ → List ℕ → List ℕ → List ℕ → List ℕ → Type 0
+BehindFilled x j after after-spared work spared =
+    (job : Job) → x ≡ aisle_of job j → TableFrom job (suc j) work spared → AfterHolds job (job.layout.aisles - j) j after after-spared
 
 -- what the rows of aisle j are made from
 pub record LayerAsked (o : Order) (j : ℕ) (work spared : List ℕ) : Type 0 where

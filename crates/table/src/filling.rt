@@ -4,7 +4,7 @@ ghost use Rattle.rules.specs.Jobs.{Job};
 ghost use Rattle.rules.specs.Policies.{walk_back_end};
 ghost use Rattle.rules.specs.Machine.{enterable};
 ghost use Rattle.rows.specs.Rows.{numbers, work_area};
-ghost use Rattle.table.specs.TableHolds.{LayerAsked, LayerFilled, NextHolds, OrderOf, TableFrom, aisle_of, end_row, method_of, place_of, row_in, tried_at};
+ghost use Rattle.table.specs.TableHolds.{BehindAsked, BehindFilled, LayerAsked, LayerFilled, NextHolds, OrderOf, TableFrom, aisle_of, end_row, method_of, place_of, row_in, tried_at};
 
 use crate::passages::fill_after;
 use aisles::layers::{Aisle, fill_row};
@@ -39,7 +39,7 @@ fn may_enter(o: &Order, j: usize) -> bool
     if o.method.enters_any() {
         return true;
     }
-    holds_listed(o.shelf, o.layout.cells, j)
+    holds_listed(&o.shelf, o.layout.cells, j)
 }
 
 // What the rows need of aisle j.
@@ -49,7 +49,7 @@ pub fn aisle_of(o: &Order, j: usize) -> Aisle
 {
     let layout = o.layout;
     let may = may_enter(o, j);
-    let listed = listed_cells(o.shelf, layout.cells, j);
+    let listed = listed_cells(&o.shelf, layout.cells, j);
     let between = between_of(layout, o.method.asks_gap(), listed);
     Aisle {
         layout,
@@ -108,14 +108,21 @@ pub fn method_of(policy: Policy, layout: Layout) -> Method
     }
 }
 
-// The rows behind the last aisle: only the closed state with nothing lacking is at the end, at length 0, and no aisle is left to spare.
+// The row behind the last aisle: only the closed state with nothing lacking is at the end, at length 0.
+pub fn end_row() -> [u16; NUMBERS]
+    ensures { result ≡ end_row }
+{
+    let mut row = [NONE; NUMBERS];
+    row[1] = 0;
+    row
+}
+
+// The rows behind the last aisle: the row of the end, and beside it that no aisle is left to spare.
 fn end_rows() -> Rows
     ensures { (result.lengths ≡ end_row) × (result.ones ≡ replicate numbers 0) }
 {
-    let mut lengths = [NONE; NUMBERS];
-    lengths[1] = 0;
     Rows {
-        lengths,
+        lengths: end_row(),
         ones: [0; NUMBERS],
     }
 }
@@ -144,25 +151,52 @@ pub fn rows_behind(work: &[u16], spared: &[u16], aisles: usize, j: usize) -> Row
     }
 }
 
+// The rows behind the actions of aisle j, out of those of the next aisle where they stand, or behind the last one out of the rows of
+// the end.
+fn fill_behind(after: &mut Rows, work: &[u16], spared: &[u16], x: Aisle, j: usize)
+    requires { BehindAsked x work.now spared.now }
+    ensures { BehindFilled x j after.new.lengths after.new.ones work.now spared.now }
+{
+    let lengths = &mut after.lengths;
+    let ones = &mut after.ones;
+    if j < x.layout.aisles {
+        let at = j * NUMBERS;
+        let end = at + NUMBERS;
+        fill_after(lengths, ones, &work[at..end], &spared[at..end], x);
+    } else {
+        let last = end_rows();
+        fill_after(lengths, ones, &last.lengths, &last.ones, x);
+    }
+}
+
 // The rows of aisle j, of lengths and of ones, in their places.
 fn fill_layer(work: &mut [u16], spared: &mut [u16], o: &Order, j: usize)
     requires { LayerAsked o.now j work.old spared.old }
     ensures { LayerFilled o.now j work.old work.new spared.old spared.new }
 {
     let mut maps = Maps::EMPTY;
-    fill_maps(&mut maps, o.shelf, o.digits, o.layout.cells, j);
-    let x = aisle_of(o, j);
     let mut after = Rows::EMPTY;
-    fill_after(
-        &mut after,
-        &rows_behind(work, spared, o.layout.aisles, j),
+    fill_maps(
+        &mut maps.fronts,
+        &mut maps.backs,
+        &o.shelf,
+        o.digits,
+        o.layout.cells,
+        j,
+    );
+    let x = aisle_of(o, j);
+    fill_behind(&mut after, work, spared, x, j);
+    let at = (j - 1) * NUMBERS;
+    let end = at + NUMBERS;
+    fill_row(
+        &mut work[at..end],
+        &mut spared[at..end],
+        &after.lengths,
+        &after.ones,
+        &maps.fronts,
+        &maps.backs,
         x,
     );
-    let mut rows = Rows::EMPTY;
-    fill_row(&mut rows, &after, &maps, x);
-    let at = (j - 1) * NUMBERS;
-    work[at..at + NUMBERS].copy_from_slice(&rows.lengths);
-    spared[at..at + NUMBERS].copy_from_slice(&rows.ones);
 }
 
 // The whole table: the lengths in the work area, and the ones beside them.

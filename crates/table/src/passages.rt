@@ -1,9 +1,7 @@
 // The rows behind the actions of an aisle, of lengths and of ones: the ways on over each passage.
-ghost use Rattle.std.specs.Prelude.{◌*◌, ◌+◌, ◌<◌, ◌≤◌, ℕ, get_or, ◌≡◌};
-ghost use Rattle.demand.specs.Digits.{demands};
+ghost use Rattle.std.specs.Prelude.{◌*◌, ◌+◌, ◌<◌, ◌≤◌, ℕ, get_or, length, ◌≡◌};
 ghost use Rattle.rows.specs.Rows.{PastKept, states};
-ghost use Rattle.aisles.specs.Layers.{InRange};
-ghost use Rattle.table.specs.Crossings.{AfterFilled, PassageTried, cross_code};
+ghost use Rattle.table.specs.Crossings.{AfterFilled, CrossingReady, PassageTried, Plain, cross_code};
 ghost use Rattle.rules.specs.Plans.{back_treads, front_treads};
 
 use aisles::layers::Aisle;
@@ -38,31 +36,52 @@ fn passage_steps(x: Aisle, passage: Passage) -> [usize; STATES]
     steps
 }
 
-// The ways over one passage behind an aisle, for each demand and state.
-fn relax_passage(rows: &mut Rows, next: &Rows, x: Aisle, passage: Passage)
-    requires { InRange x }
-    ensures { PassageTried x rows.old.lengths rows.new.lengths rows.old.ones rows.new.ones next.now.lengths next.now.ones passage }
+// The ways over one passage behind an aisle, for each demand and state. The rows of `way` are scratch, and `plain` leaves every demand
+// as it is.
+fn relax_passage(
+    after: &mut [u16],
+    spared: &mut [u16],
+    way: &mut Rows,
+    next: &[u16],
+    theirs: &[u16],
+    plain: &[u16; DEMANDS],
+    x: Aisle,
+    passage: Passage,
+)
+    requires { CrossingReady x after.old spared.old next.now theirs.now × Plain plain.now x.weight }
+    ensures { PassageTried x after.old after.new spared.old spared.new
+        next.now theirs.now passage }
 {
     let steps = passage_steps(x, passage);
     if lives(steps) {
-        let mut way = Rows::EMPTY;
-        permute(&mut way.lengths, &next.lengths, steps, x.weight);
-        permute(&mut way.ones, &next.ones, steps, x.weight);
-        let mut plain = [0; DEMANDS];
-        plain_row(&mut plain, 0, x.weight);
+        permute(&mut way.lengths, next, steps, x.weight);
+        permute(&mut way.ones, theirs, steps, x.weight);
         let cost = passage_length(passage, x.layout.width) as u16;
-        relax_row(rows, &way, &plain, 0, cost, x.weight);
+        relax_row(
+            after,
+            spared,
+            &way.lengths,
+            &way.ones,
+            plain,
+            0,
+            cost,
+            x.weight,
+        );
     }
 }
 
 // The rows behind the actions of an aisle: for each demand and state the least over the passages that are tried.
-pub fn fill_after(rows: &mut Rows, next: &Rows, x: Aisle)
-    requires { InRange x }
-    ensures { AfterFilled x rows.new.lengths rows.new.ones next.now.lengths next.now.ones
-        × PastKept x.weight rows.old.lengths rows.new.lengths × PastKept x.weight rows.old.ones rows.new.ones }
+pub fn fill_after(after: &mut [u16], spared: &mut [u16], next: &[u16], theirs: &[u16], x: Aisle)
+    requires { CrossingReady x after.old spared.old next.now theirs.now }
+    ensures { AfterFilled x after.new spared.new next.now theirs.now
+        × (length after.new ≡ length after.old) × (length spared.new ≡ length spared.old)
+        × PastKept x.weight after.old after.new × PastKept x.weight spared.old spared.new }
 {
-    fill_none(&mut rows.lengths, x.weight * STATES);
+    let mut way = Rows::EMPTY;
+    let mut plain = [0; DEMANDS];
+    plain_row(&mut plain, 0, x.weight);
+    fill_none(after, x.weight * STATES);
     for passage in &PASSAGES[..x.tried] {
-        relax_passage(rows, next, x, *passage);
+        relax_passage(after, spared, &mut way, next, theirs, &plain, x, *passage);
     }
 }

@@ -7,7 +7,7 @@ ghost use Rattle.treads.specs.Filling.{with_aisle, with_passage, with_aisles};
 
 use flood::{HEIGHTS, POINTS};
 use rules::{Action, Layout, Passage};
-use values::PlanValue;
+use values::Stage;
 
 // The numbers of edges: towards the back, and to the right (points: crate `flood`).
 pub const EDGES: usize = 2 * POINTS;
@@ -70,13 +70,13 @@ fn fill_passage(cells: usize, passage: Passage, aisle: usize, left: &mut [u8])
     left[front + cells + 1] = back_treads(passage);
 }
 
-// The treads of a plan.
-pub fn fill(layout: Layout, plan: PlanValue, left: &mut [u8])
+// The treads of a plan, by its stages.
+pub fn fill(layout: Layout, stages: &[Stage; 16], left: &mut [u8])
     requires { (layout.cells ≤ 24) × (layout.aisles ≤ 16) × (length left.old ≡ 884) }
-    ensures { left.new ≡ with_aisles layout.aisles layout.cells plan.stages layout.aisles left.old }
+    ensures { left.new ≡ with_aisles layout.aisles layout.cells stages.now layout.aisles left.old }
 {
     for aisle in 1..=layout.aisles {
-        let stage = plan.stages[aisle - 1];
+        let stage = stages[aisle - 1];
         fill_aisle(layout.cells, stage.action, aisle, left);
         if aisle < layout.aisles {
             fill_passage(layout.cells, stage.passage, aisle, left);

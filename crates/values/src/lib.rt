@@ -1,9 +1,11 @@
 // The values that the code crates hand to each other, where the definitions have lists: lists of fixed room, and arrays with a count.
 #![tactic(auto)]
 
+mod fixed_list;
+
 ghost use Rattle.std.specs.Prelude.{◌≡◌, ◌≤◌, take};
 
-use arrayvec::ArrayVec;
+pub use crate::fixed_list::FixedList;
 use rules::{Action, Layout, OrderLine, Passage, Pick, Policy, Run, StockRecord, Window};
 
 // What the sections M and H say: the minute of the day, and the windows; the first `count` of them count. (The count may be more than
@@ -30,10 +32,9 @@ pub struct JobValue {
 
 // What each cell of the store holds for the order lines, at (aisle - 1) * 24 + (cell - 1): the line of its article, by number from 0,
 // if it is on one, and the quantity of its record; cells of shut aisles hold nothing. And which aisles are open, at aisle - 1.
-// (The numbers are bytes, as a shelf is copied on a stack that the C header bounds.)
 #[derive(Clone, Copy)]
 pub struct Shelf {
-    pub line: [Option<u8>; 384],
+    pub line: [Option<usize>; 384],
     pub quantity: [usize; 384],
     pub open: [bool; 16],
 }
@@ -45,8 +46,8 @@ pub struct Stage {
     pub passage: Passage,
 }
 
-// A plan: the first `aisles` stages count, at most all of them; the passage of the last of them does not. (A plan is copied where it is
-// passed on, which a list of fixed room is not.)
+// A plan: the first `aisles` stages count, at most all of them; the passage of the last of them does not. (It is no list of fixed room,
+// since its two fields are read by name in many crates.)
 #[derive(Clone, Copy)]
 pub struct PlanValue {
     pub aisles: usize,
@@ -64,10 +65,10 @@ impl PlanValue {
 }
 
 // The picks of a plan: at most as many as a store has cells.
-pub type PickList = ArrayVec<Pick, 384>;
+pub type PickList = FixedList<Pick, 384>;
 
 // The runs of a walk: at most 860.
-pub type RunList = ArrayVec<Run, 860>;
+pub type RunList = FixedList<Run, 860>;
 
 // The plan of a job and its length.
 #[derive(Clone, Copy)]

@@ -4,11 +4,12 @@
 // the steps of the walk are followed, and a pick is taken out where the walk first meets it.
 #![tactic(auto)]
 
-ghost use Rattle.std.specs.Prelude.{◌≡◌, ◌<◌, length, [], ◌∷◌, ◌++◌};
+ghost use Rattle.std.specs.Prelude.{◌≡◌, ◌<◌, length, [], ◌∷◌};
 ghost use mathlib.Core.List.{Memᴰ};
 ghost use Rattle.rules.specs.Page.{along_walk};
+ghost use Rattle.values.specs.FixedLists.{items};
 ghost use Rattle.visits.specs.Visited.{steps_of_run, walk_of_runs, Walked};
-ghost use Rattle.visits.specs.Numbered.{spot_of, noted_all, picks_along, Ahead, Followed};
+ghost use Rattle.visits.specs.Numbered.{spot_of, noted_all, Ahead, Followed};
 
 use flood::{HEIGHTS, POINTS, depot_number, next_of};
 use rules::{Direction, Layout, Pick, Run};
@@ -31,8 +32,8 @@ fn step(
     from: usize,
     direction: Direction,
 ) -> usize
-    requires { Ahead (direction ∷ []) noted.old order.old.items from }
-    ensures { Followed (direction ∷ []) noted.old order.old.items from noted.new order.new.items result }
+    requires { Ahead (direction ∷ []) noted.old (items order.old) from }
+    ensures { Followed (direction ∷ []) noted.old (items order.old) from noted.new (items order.new) result }
 {
     let at = next_of(from, direction);
     if let Some(pick) = noted[at].take() {
@@ -43,8 +44,8 @@ fn step(
 
 // Takes the steps of a run.
 fn follow_run(noted: &mut [Option<Pick>], order: &mut PickList, from: usize, run: Run) -> usize
-    requires { Ahead (steps_of_run run) noted.old order.old.items from }
-    ensures { Followed (steps_of_run run) noted.old order.old.items from noted.new order.new.items result }
+    requires { Ahead (steps_of_run run) noted.old (items order.old) from }
+    ensures { Followed (steps_of_run run) noted.old (items order.old) from noted.new (items order.new) result }
 {
     let mut at = from;
     for _ in 0..run.steps {
@@ -54,20 +55,21 @@ fn follow_run(noted: &mut [Option<Pick>], order: &mut PickList, from: usize, run
 }
 
 // Takes the steps of all runs.
-fn follow(noted: &mut [Option<Pick>], order: &mut PickList, from: usize, runs: &[Run])
-    requires { Ahead (walk_of_runs runs.now) noted.old order.old.items from }
-    ensures { order.new.items ≡ order.old.items ++ picks_along from (walk_of_runs runs.now) noted.old }
+fn follow(noted: &mut [Option<Pick>], order: &mut PickList, from: usize, runs: &[Run]) -> usize
+    requires { Ahead (walk_of_runs runs.now) noted.old (items order.old) from }
+    ensures { Followed (walk_of_runs runs.now) noted.old (items order.old) from noted.new (items order.new) result }
 {
     let mut at = from;
     for run in runs {
         at = follow_run(noted, order, at, *run);
     }
+    at
 }
 
 // The picks in the order in which the walk of these runs first reaches their cells.
 pub fn in_order(layout: Layout, picks: &[Pick], runs: &[Run]) -> PickList
     requires { Walked layout picks.now runs.now }
-    ensures { result.items ≡ along_walk layout (walk_of_runs runs.now) picks.now }
+    ensures { items result ≡ along_walk layout (walk_of_runs runs.now) picks.now }
 {
     let mut noted = [None; POINTS];
     note(picks, &mut noted);

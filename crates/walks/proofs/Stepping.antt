@@ -26,7 +26,7 @@ use Rattle.closedwalks.proofs.Greedily.{spare_joined}
 use Rattle.closedwalks.proofs.Statements.{completed}
 use Rattle.treads.specs.Treads.{spot, point_at, slot_of, left_of, Charted}
 use Rattle.flood.specs.Flooded.{AllReached, Ranged}
-use Rattle.flood.specs.Points.{next_by}
+use Rattle.flood.specs.Points.{depot_number, next_by}
 use Rattle.walks.specs.Letters.{slot_by, treads_at, finds, Walkable, can_be, next_letter, letters_left}
 use Rattle.flood.proofs.Flooding.{same_or_not, seen_below, none_at}
 use Rattle.treads.proofs.Places.{spot_at_lem, spot_point, spot_range, left_in, left_without, charted_fewer, charted_range}
@@ -294,6 +294,19 @@ module _ (z : Layout) (left : List ℕ) (at : ℕ) (w : Walkable z left at) wher
           let t = w.charted.edge i h in
           let v = completed z (left_of z left) x (depot_point z) inside w.ready.balanced w.ready.joined in
           ap (λ (k : ℕ). get_or left k 0) (sym t.2) ∙ sym (left_in z left t.0 t.1) ∙ used v.0 v.1 v.2 t.0 t.1
+
+  -- and the walk has come to the depot
+  pub none_there : treads_at left at ≡ 0 → at ≡ depot_number z
+  unfolding spot depot_number
+  none_there e =
+      let v = completed z (left_of z left) x (depot_point z) inside w.ready.balanced w.ready.joined in
+      sym (spot_at_lem at) ∙ ap spot (over v.0 v.1 v.2)
+    where
+      over : (walk : Walk) → Leads z x walk (depot_point z) → ((f : Edge) → InStore z f → treads_from x walk f ≡ left_of z left f) → x ≡ depot_point z
+      over [] l t = l
+      over (d ∷ walk) l t =
+          let s = t (step_edge x d) (stepped z x inside d l.0).edge in
+          absurd (omega (arith, tread_at left at d (omega (arith, s, one_refl (step_edge x d), left_slot d l.0))))
 
   -- the first letter that can be next is the next letter
   pub first_tried : (k : ℕ) → k < 3 → ((i : ℕ) → i < k → can_be z left at (tried i) ≡ false) → can_be z left at (tried k) ≡ true → next_letter z left at ≡ some (tried k)

@@ -6,6 +6,7 @@ mod walker;
 ghost use Rattle.std.specs.Prelude.{◌≡◌};
 ghost use Rattle.rules.specs.FirstWalk.{first_walk};
 ghost use Rattle.rules.specs.Sheet.{runs_of};
+ghost use Rattle.values.specs.FixedLists.{items};
 ghost use Rattle.values.specs.Values.{plan_of};
 ghost use Rattle.walks.specs.Lawfully.{LawfulPlan};
 
@@ -21,7 +22,7 @@ fn walk_steps(layout: Layout, plan: PlanValue) -> Steps
     ensures { result.items ≡ first_walk layout (plan_of plan) }
 {
     let mut left = [0; EDGES];
-    treads::fill(layout, plan, &mut left);
+    treads::fill(layout, &plan.stages, &mut left);
     let mut walker = Walker {
         layout,
         left,
@@ -33,7 +34,7 @@ fn walk_steps(layout: Layout, plan: PlanValue) -> Steps
 // The runs of the walk.
 pub fn walk_runs(layout: Layout, plan: PlanValue) -> RunList
     requires { LawfulPlan layout plan }
-    ensures { result.items ≡ runs_of (first_walk layout (plan_of plan)) }
+    ensures { items result ≡ runs_of (first_walk layout (plan_of plan)) }
 {
     let steps = walk_steps(layout, plan);
     runs::runs_of(steps.as_slice())

@@ -6,6 +6,7 @@ ghost use Rattle.std.specs.Prelude.{◌≡◌, true, ◌↔◌, ◌+◌, ◌*◌
 ghost use Rattle.std.proofs.Math.Option.{some};
 ghost use Rattle.rules.specs.FirstWalk.{steps_of};
 ghost use Rattle.treads.specs.Treads.{left_of};
+ghost use Rattle.flood.specs.Points.{depot_number};
 ghost use Rattle.flood.specs.Flooded.{AllReached, Ranged};
 ghost use Rattle.walks.specs.Letters.{slot_by, treads_at, Walkable, can_be, next_letter, letters_left};
 
@@ -100,11 +101,13 @@ impl Walker {
         Direction::Right
     }
 
-    // The steps from here on; every tread is used up.
+    // The steps from here on; every tread is used up, and the walker stands at the depot.
     pub fn follow(&mut self) -> Steps
         requires { Walkable self.old.layout self.old.left self.old.at × (steps_of self.old.layout (left_of self.old.layout self.old.left) ≤ 860) }
         ensures steps { result.items ≡ letters_left self.old.layout self.old.left self.old.at }
+        ensures layout_unchanged { self.new.layout ≡ self.old.layout }
         ensures left_after { self.new.left ≡ replicate 884 0 }
+        ensures at_after { self.new.at ≡ depot_number self.old.layout }
     {
         let mut steps = Steps::new();
         while 0 < self.treads() {

@@ -21,7 +21,7 @@ loop-c-preserved c =
     rw c.as_slice-stage-items.ensures (get_or-take c.args.plan.aisles c.args.plan.stages c.loop-j.j no_stage in_plan)
     in
     elim c.match-pick_at.branch [
-      | in-Some w ↦ rw (w.picks-is, w.push.ensures.items) (walked_some c.loop-c.invariant in_plan c.loop-c-test.true (rw stage at w.in-Some.ensures))
+      | in-Some w ↦ rw (w.picks-is, w.push.ensures) (walked_some c.loop-c.invariant in_plan c.loop-c-test.true (rw stage at w.in-Some.ensures))
       | in_default w ↦ rw w.picks-is (walked_none c.loop-c.invariant in_plan c.loop-c-test.true (rw (stage, w.in_default.is) at c.pick_at.ensures))
     ]
 

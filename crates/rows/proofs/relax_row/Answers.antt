@@ -10,8 +10,8 @@ loop-q-preserved c =
     let o = c.loop-q in
     let eight = c.shorter-eight in
     let from = ap (λ n. n * 8) c.from-from.ensures in (
-      row_one p.rows.now.lengths o.rows.lengths _ eight.result.lengths p.way.now.lengths p.map.now p.base p.cost o.q _
+      row_one p.row.now o.row _ eight.result.lengths p.perm.now p.map.now p.base p.cost o.q _
           o.invariant.0 eight.ensures.lengths c.put.ensures from,
-      fewer_one p.rows.now.lengths o.rows.lengths p.rows.now.ones o.rows.ones _ eight.result.ones p.way.now.lengths p.way.now.ones p.map.now
+      fewer_one p.row.now o.row p.spared.now o.spared _ eight.result.ones p.perm.now p.theirs.now p.map.now
           p.base p.cost o.q _ o.invariant.0 o.invariant.1 eight.ensures.ones c.put-in-loop-q.ensures from,
     )

@@ -5,5 +5,5 @@ use Rattle.rows.proofs.relax_row.Given as goal
 
 abbrev pub invariant-loop-q : goal.invariant-loop-q
 invariant-loop-q l =
-    RelaxedRow l.initial.rows.lengths l.rows.lengths l.way.lengths l.map l.base l.cost l.q
-    × FewerRow l.initial.rows.lengths l.initial.rows.ones l.rows.ones l.way.lengths l.way.ones l.map l.base l.cost l.q
+    RelaxedRow l.initial.row l.row l.perm l.map l.base l.cost l.q
+    × FewerRow l.initial.row l.initial.spared l.spared l.perm l.theirs l.map l.base l.cost l.q

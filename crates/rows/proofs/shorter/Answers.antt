@@ -11,11 +11,11 @@ unfolding sum_up_to
 loop-s-preserved c =
     let p = c.args in
     let o = c.loop-s in
-    let way = c.saturating_add-there.ensures in
-    let here : ℕ → ℕ = λ s. get_or p.rows.now.lengths (p.at + s) 0 in
-    let mine : ℕ → ℕ = λ s. get_or p.rows.now.ones (p.at + s) 0 in
-    let there : ℕ → ℕ = λ s. sat p.cost (get_or p.way.now.lengths (p.from + s) 0) in
-    let theirs : ℕ → ℕ = λ s. get_or p.way.now.ones (p.from + s) 0 in (
+    let way = c.saturating_add-way.ensures in
+    let here : ℕ → ℕ = λ s. get_or p.row.now (p.at + s) 0 in
+    let mine : ℕ → ℕ = λ s. get_or p.spared.now (p.at + s) 0 in
+    let there : ℕ → ℕ = λ s. sat p.cost (get_or p.perm.now (p.from + s) 0) in
+    let theirs : ℕ → ℕ = λ s. get_or p.theirs.now (p.from + s) 0 in (
       length-set o.lengths o.s c.min.result ∙ o.invariant.0,
       length-set o.ones o.s c.ones_of.result ∙ o.invariant.1,
       filled_one (λ s. min (here s) (there s)) o.lengths o.s c.min.result (omega (arith, o.invariant.0)) o.invariant.2 (c.min.ensures ∙ ap (min (here o.s)) way),

@@ -7,5 +7,5 @@ use Rattle.rows.proofs.shorter.Given as goal
 abbrev pub invariant-loop-s : goal.invariant-loop-s
 invariant-loop-s l =
     (length l.lengths ≡ 8) × (length l.ones ≡ 8)
-    × Shorter l.rows.lengths l.at l.way.lengths l.from l.cost l.lengths l.s
-    × Fewer l.rows.lengths l.rows.ones l.at l.way.lengths l.way.ones l.from l.cost l.ones l.s
+    × Shorter l.row l.at l.perm l.from l.cost l.lengths l.s
+    × Fewer l.row l.spared l.at l.perm l.theirs l.from l.cost l.ones l.s

@@ -4,7 +4,7 @@ use Rattle.shelves.proofs.Shelving.{none_flagged, flag_more, flags_are}
 use Rattle.shelves.proofs.listed_cells.Goals as goal
 
 pub loop-i-init : goal.loop-i-init
-loop-i-init c = none_flagged c.args.shelf.line c.args.j
+loop-i-init c = none_flagged c.args.shelf.now.line c.args.j
 
 pub returns : goal.returns
 returns c =
@@ -15,4 +15,4 @@ pub loop-i-preserved : goal.loop-i-preserved
 loop-i-preserved c =
     let o = c.loop-i in
     let x = c.args in
-    rw c.is_some.ensures (flag_more x.shelf.line x.j o.i c.cell_number.result o.listed (omega arith) c.cell_number.ensures.0 o.invariant)
+    rw c.is_some.ensures (flag_more x.shelf.now.line x.j o.i c.cell_number.result o.listed (omega arith) c.cell_number.ensures.0 o.invariant)

@@ -4,4 +4,4 @@ use Rattle.treads.specs.Filling.{with_aisles}
 use Rattle.treads.proofs.fill.Given as goal
 
 abbrev pub invariant-loop-aisle : goal.invariant-loop-aisle
-invariant-loop-aisle l = (l.aisle ≤ suc l.layout.aisles) × (l.left ≡ with_aisles l.layout.aisles l.layout.cells l.plan.stages (l.aisle - 1) l.initial.left)
+invariant-loop-aisle l = (l.aisle ≤ suc l.layout.aisles) × (l.left ≡ with_aisles l.layout.aisles l.layout.cells l.stages (l.aisle - 1) l.initial.left)

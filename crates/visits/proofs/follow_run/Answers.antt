@@ -1,10 +1,11 @@
 use Rattle.std.proofs.Common.{◌≡◌, arith}
+use Rattle.values.specs.FixedLists.{items}
 use Rattle.visits.specs.Visited.{steps_of_run}
 use Rattle.visits.proofs.Steps.{followed_none, run_next, run_more}
 use Rattle.visits.proofs.follow_run.Goals as goal
 
 pub loop-init : goal.loop-init
-loop-init c = let x = c.args in followed_none x.noted.now x.order.now.items x.from
+loop-init c = let x = c.args in followed_none x.noted.now (items x.order.now) x.from
 
 pub step-at-requires : goal.step-at-requires
 unfolding steps_of_run

@@ -16,4 +16,4 @@ follow-requires c = let x = c.args in rw (c.note.ensures, c.new-order.ensures, c
 pub returns : goal.returns
 returns c =
     let x = c.args in
-    c.follow.ensures ∙ rw (c.note.ensures, c.new-order.ensures, c.depot_number.ensures) (walk_meets x.layout x.picks.now x.runs.now c.requires)
+    c.follow.ensures.met ∙ rw (c.note.ensures, c.new-order.ensures, c.depot_number.ensures) (walk_meets x.layout x.picks.now x.runs.now c.requires)

@@ -27,7 +27,11 @@ relax_turn-requires c =
       omega (arith, o.invariant.0, o.invariant.1),
       record {
         small = b.small;
-        map_long = omega (arith, b.small, o.invariant.0, o.invariant.1);
+        row_long = omega (arith, b.small);
+        spared_long = omega (arith, b.small);
+        perm_long = omega (arith, b.small);
+        perm_spared_long = omega (arith, b.small);
+        map_long = omega (arith, b.small, b.backs_long, o.invariant.0, o.invariant.1);
         below = λ q l. b.back_below (o.i - 1) q (omega arith) (omega (arith, o.invariant.1)) l;
       },
     )
@@ -37,13 +41,13 @@ loop-i-preserved c =
     let o = c.loop-i in
     let p = c.args in
     let way = p.way.now in
-    let new = c.relax_turn.new.rows in
+    let new = c.relax_turn.new in
     let e : o.i ≡ o.i - 1 + 1 = omega arith in (
       o.invariant.0,
       omega (arith, o.invariant.1),
       omega arith,
-      held_one way.lengths way.ones p.maps.now.backs p.turns p.weight o.best.lengths new.lengths o.best.ones new.ones (o.i - 1) (omega (arith, o.invariant.1))
-          (subst (BacksHeld o.best.lengths o.best.ones way.lengths way.ones p.maps.now.backs p.turns p.weight) e o.invariant.3) c.relax_turn.ensures,
+      held_one way.lengths way.ones p.backs.now p.turns p.weight o.best.lengths new.row o.best.ones new.spared (o.i - 1) (omega (arith, o.invariant.1))
+          (subst (BacksHeld o.best.lengths o.best.ones way.lengths way.ones p.backs.now p.turns p.weight) e o.invariant.3) c.relax_turn.ensures,
     )
 
 pub returns : goal.returns
@@ -52,4 +56,4 @@ returns c =
     let p = c.args in
     let way = p.way.now in
     let e : o.i ≡ get_or p.turns.from p.h 0 = omega (arith, o.invariant.2) in
-    subst (BacksHeld o.best.lengths o.best.ones way.lengths way.ones p.maps.now.backs p.turns p.weight) e o.invariant.3
+    subst (BacksHeld o.best.lengths o.best.ones way.lengths way.ones p.backs.now p.turns p.weight) e o.invariant.3

@@ -9,4 +9,4 @@ invariant-loop-i l =
     (l.turns.top ≤ 25)
     × (l.i ≤ l.turns.top + 1)
     × (get_or l.turns.from l.h 0 ≤ l.i)
-    × BacksHeld l.best.lengths l.best.ones l.way.lengths l.way.ones l.maps.backs l.turns l.weight l.i
+    × BacksHeld l.best.lengths l.best.ones l.way.lengths l.way.ones l.backs l.turns l.weight l.i

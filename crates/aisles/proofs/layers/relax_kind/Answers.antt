@@ -11,25 +11,26 @@ pub sweep-requires : goal.sweep-requires
 sweep-requires c =
     -- all turns of the kind can be swept, so those that are kept can
     let p = c.args in
-    sweep_kept p.lane.maps.now.fronts p.lane.maps.now.backs c.turns_of.result p.lane.same c.thin-turns.result p.lane.aisle.weight
-    (sweep_ready p.lane.aisle p.lane.maps.now.fronts p.lane.maps.now.backs p.kind p.between c.turns_of.result c.requires.0.ready c.turns_of.ensures) c.thin-turns.ensures
+    let r = c.requires in
+    let fronts = p.lane.maps.fronts.now in
+    let backs = p.lane.maps.backs.now in
+    sweep_kept p.row.now p.spared.now fronts backs c.turns_of.result p.lane.same c.thin-turns.result p.lane.aisle.weight
+    (sweep_ready p.lane.aisle p.row.now p.spared.now fronts backs p.kind p.between c.turns_of.result r.0.ready r.1 r.2 c.turns_of.ensures) c.thin-turns.ensures
 
 pub returns-then-lives : goal.returns-then-lives
 returns-then-lives c =
     let p = c.args in
     let r = c.requires in
     let x = p.lane.aisle in
-    let rows = p.rows.now in
-    let new = c.sweep.new.rows in
-    let after = p.after.now in
+    let new = c.sweep.new in
     let way = c.step_rows.new.way in
     let turns = c.turns_of in
-    let fronts = p.lane.maps.now.fronts in
-    let backs = p.lane.maps.now.backs in
-    rows_passed x rows.lengths new.lengths rows.ones new.ones after.lengths after.ones fronts backs c.steps_of-steps.result p.kind p.between
-    c.steps_of-steps.ensures r.0.ready r.1 turns.result turns.ensures way.lengths way.ones c.step_rows.ensures
-    (rows_thin rows.lengths new.lengths rows.ones new.ones way.lengths way.ones fronts backs x.weight turns.result p.lane.same c.thin-turns.result
-    c.thin-turns.ensures (sweep_ready x fronts backs p.kind p.between turns.result r.0.ready turns.ensures)
+    let fronts = p.lane.maps.fronts.now in
+    let backs = p.lane.maps.backs.now in
+    rows_passed x p.row.now new.row p.spared.now new.spared p.after.now p.theirs.now fronts backs c.steps_of-steps.result p.kind p.between
+    c.steps_of-steps.ensures r.0.ready r.5 turns.result turns.ensures way.lengths way.ones c.step_rows.ensures
+    (rows_thin p.row.now new.row p.spared.now new.spared way.lengths way.ones fronts backs x.weight turns.result p.lane.same c.thin-turns.result
+    c.thin-turns.ensures (sweep_ready x p.row.now p.spared.now fronts backs p.kind p.between turns.result r.0.ready r.1 r.2 turns.ensures)
     (subst (RepeatsTo fronts x.weight p.lane.same.front) (sym turns.ensures.top) r.0.front)
     (subst (RepeatsTo backs x.weight p.lane.same.back) (sym turns.ensures.top) r.0.back)
     c.sweep.ensures)
@@ -37,7 +38,5 @@ returns-then-lives c =
 pub returns-else-lives : goal.returns-else-lives
 returns-else-lives c =
     let p = c.args in
-    let rows = p.rows.now in
-    let after = p.after.now in
-    rows_skipped p.lane.aisle rows.lengths rows.lengths rows.ones rows.ones after.lengths after.ones p.lane.maps.now.fronts p.lane.maps.now.backs c.steps_of-steps.result
+    rows_skipped p.lane.aisle p.row.now p.row.now p.spared.now p.spared.now p.after.now p.theirs.now p.lane.maps.fronts.now p.lane.maps.backs.now c.steps_of-steps.result
     p.kind p.between c.steps_of-steps.ensures (subst (LivesAs c.steps_of-steps.result) c.if-lives.false c.lives.ensures)

@@ -5,15 +5,12 @@ use Rattle.aisles.proofs.layers.relax_turn.Goals as goal
 
 pub returns-then-cost-lt-NONE : goal.returns-then-cost-lt-NONE
 returns-then-cost-lt-NONE c =
-    let done = c.relax_row.new.rows in
+    let done = c.relax_row in
     let p = c.args in
-    let old = p.rows.now in
-    let way = p.way.now in
-    keys_relaxed old.lengths done.lengths old.ones done.ones way.lengths way.ones p.map.now (p.h * 256) p.cost p.weight c.requires.1.below c.relax_row.ensures
+    keys_relaxed p.row.now done.new.row p.spared.now done.new.spared p.perm.now p.theirs.now p.map.now (p.h * 256) p.cost p.weight
+    c.requires.1.below done.ensures
 
 pub returns-else-cost-lt-NONE : goal.returns-else-cost-lt-NONE
 returns-else-cost-lt-NONE c =
     let p = c.args in
-    let rows = p.rows.now in
-    let way = p.way.now in
-    keys_same rows.lengths rows.ones way.lengths way.ones p.map.now (p.h * 256) p.cost p.weight c.if-cost-lt-NONE.false
+    keys_same p.row.now p.spared.now p.perm.now p.theirs.now p.map.now (p.h * 256) p.cost p.weight c.if-cost-lt-NONE.false

@@ -5,5 +5,5 @@ use Rattle.aisles.proofs.layers.sweep.Given as goal
 
 abbrev pub invariant-loop-h : goal.invariant-loop-h
 invariant-loop-h l =
-    BacksHeld l.best.lengths l.best.ones l.way.lengths l.way.ones l.maps.backs l.turns l.weight (get_or l.turns.from l.h 0)
-    × RowsSwept l.initial.rows.lengths l.rows.lengths l.initial.rows.ones l.rows.ones l.way.lengths l.way.ones l.maps.fronts l.maps.backs l.turns l.weight l.h
+    BacksHeld l.best.lengths l.best.ones l.way.lengths l.way.ones l.maps.backs.now l.turns l.weight (get_or l.turns.from l.h 0)
+    × RowsSwept l.initial.row l.row l.initial.spared l.spared l.way.lengths l.way.ones l.maps.fronts.now l.maps.backs.now l.turns l.weight l.h

@@ -5,6 +5,7 @@ use lib.ListN.{length}
 use Rattle.rules.specs.Lists.{concat_of}
 use Rattle.rules.specs.Page.{page_line, page_text}
 use Rattle.std.proofs.lemmas.Result.{err_from_is_err_and}
+use Rattle.values.specs.FixedLists.{items}
 use Rattle.values.specs.Values.{job_of}
 use Rattle.lines.specs.Written.{Written}
 use Rattle.finishing.proofs.PageRoutes.{routed_walked, routed_page, routed_size}
@@ -22,7 +23,7 @@ returns-then-page-page_size c work =
     let t = c.tour-tour in
     page_short (job_of j.job) c.args.sheet.now c.args.page.now work
     (omega (arith, c.in_ok-parts.ensures.ok.1, ap length c.in_ok-parts.ensures.ok.0))
-    (omega (arith, c.if-page-page_size.true, c.page_size.ensures, routed_size j.job j.known.0 t.result.picks.items t.result.runs.items t.ensures))
+    (omega (arith, c.if-page-page_size.true, c.page_size.ensures, routed_size j.job j.known.0 (items t.result.picks) (items t.result.runs) t.ensures))
 
 -- the picks can be put in the order of the walk
 pub in_order-order-requires : goal.in_order-order-requires
@@ -37,21 +38,23 @@ write_page-page-requires c =
     let j = c.args.self.now in
     let t = c.tour-tour in
     -- the lines of the picks in order are the job's page
-    let page_known : concat_of page_line c.in_order-order.result.items ≡ page_text (job_of j.job) =
+    let page_known : concat_of page_line (items c.in_order-order.result) ≡ page_text (job_of j.job) =
     routed_page j.job j.known.0 c.as_slice-picks.result.now c.as_slice-runs.result.now
-    (record { its_picks = c.as_slice-picks.ensures.value ∙ t.ensures.its_picks; its_runs = c.as_slice-runs.ensures.value ∙ t.ensures.its_runs }) c.in_order-order.result.items c.in_order-order.ensures in
-    omega (arith, c.if-page-page_size.false, c.page_size.ensures, routed_size j.job j.known.0 t.result.picks.items t.result.runs.items t.ensures, ap length page_known)
+    (record { its_picks = c.as_slice-picks.ensures.value ∙ t.ensures.its_picks; its_runs = c.as_slice-runs.ensures.value ∙ t.ensures.its_runs })
+    (items c.in_order-order.result) c.in_order-order.ensures in
+    omega (arith, c.if-page-page_size.false, c.page_size.ensures, routed_size j.job j.known.0 (items t.result.picks) (items t.result.runs) t.ensures, ap length page_known)
 
 pub returns : goal.returns
 returns c work =
     let j = c.args.self.now in
     let t = c.tour-tour in
-    let page_known : concat_of page_line c.in_order-order.result.items ≡ page_text (job_of j.job) =
+    let page_known : concat_of page_line (items c.in_order-order.result) ≡ page_text (job_of j.job) =
     routed_page j.job j.known.0 c.as_slice-picks.result.now c.as_slice-runs.result.now
-    (record { its_picks = c.as_slice-picks.ensures.value ∙ t.ensures.its_picks; its_runs = c.as_slice-runs.ensures.value ∙ t.ensures.its_runs }) c.in_order-order.result.items c.in_order-order.ensures in
+    (record { its_picks = c.as_slice-picks.ensures.value ∙ t.ensures.its_picks; its_runs = c.as_slice-runs.ensures.value ∙ t.ensures.its_runs })
+    (items c.in_order-order.result) c.in_order-order.ensures in
     both_written (job_of j.job) c.args.sheet.now c.args.page.now work
     (omega (arith, c.in_ok-parts.ensures.ok.1, ap length c.in_ok-parts.ensures.ok.0))
     c.write-sheet.new.space c.write_page-page.new.page c.write-sheet.result c.write_page-page.result
-    (omega (arith, c.if-page-page_size.false, c.page_size.ensures, routed_size j.job j.known.0 t.result.picks.items t.result.runs.items t.ensures))
+    (omega (arith, c.if-page-page_size.false, c.page_size.ensures, routed_size j.job j.known.0 (items t.result.picks) (items t.result.runs) t.ensures))
     (subst (λ t. Written t c.args.sheet.now c.write-sheet.new.space c.write-sheet.result) c.in_ok-parts.ensures.ok.0 c.write-sheet.ensures)
     (subst (λ t. Written t c.args.page.now c.write_page-page.new.page c.write_page-page.result) page_known c.write_page-page.ensures)

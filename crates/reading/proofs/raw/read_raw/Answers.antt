@@ -19,7 +19,7 @@ returns-in_err-layout c = c.from_residual.ensures ∙ kept_none c.args.s.now (no
 pub returns-in_err-records : goal.returns-in_err-records
 returns-in_err-records c =
     let s = c.args.s.now in
-    let missing = lines_missing _ (replicate 384 c.default-stock.result) c.section.new.places (read_section letter_s read_record c.in_ok-layout.next.rest.now) c.section.result c.section.ensures c.in_err-records.was in
+    let missing = lines_missing _ (replicate 384 c.default-stock.result) c.section.new.places (read_section letter_s read_record c.in_ok-layout.next.rest.now) c.section.result c.section.ensures.found c.in_err-records.was in
     c.from_residual-in_err-records.ensures ∙ kept_none s (no_stock s (sym c.in_ok-layout.ensures) missing)
 
 -- the S section, where it was read
@@ -28,7 +28,7 @@ stock c =
     let h = c.default-stock.ensures in
     let blank : c.default-stock.result ≡ no_record = λ i. record { aisle = h.0 i; cell = h.1.0 i; article = h.1.1.0 i; quantity = h.1.1.1 i } in
     lines_there mark_of c.no_marks.result 384 no_record c.section.new.places c.default-stock.result blank (read_section letter_s read_record c.in_ok-layout.next.rest.now)
-    c.in_ok-records.records c.in_ok-records.marks c.in_ok-records.next c.in_ok-records.ensures
+    c.in_ok-records.records c.in_ok-records.marks c.in_ok-records.next c.in_ok-records.ensures.found
 
 pub returns-in_err-hours : goal.returns-in_err-hours
 returns-in_err-hours c =
@@ -44,7 +44,7 @@ pub returns-in_err-orders : goal.returns-in_err-orders
 returns-in_err-orders c =
     let s = c.args.s.now in
     let at = goal.at.returns-in_err-orders c in
-    let missing = lines_missing _ (replicate 8 c.default-lines.result) c.section-2.new.places (read_section letter_d read_line c.in_ok-hours.next.rest.now) c.section-2.result c.section-2.ensures c.in_err-orders.was in
+    let missing = lines_missing _ (replicate 8 c.default-lines.result) c.section-2.new.places (read_section letter_d read_line c.in_ok-hours.next.rest.now) c.section-2.result c.section-2.ensures.found c.in_err-orders.was in
     c.from_residual-in_err-orders.ensures ∙ kept_none s (no_list s (sym c.in_ok-layout.ensures) (stock at.In_ok-records).read (timed at.In_ok-hours).read missing)
 
 -- the D section
@@ -53,7 +53,7 @@ list c =
     let h = c.default-lines.ensures in
     let blank : c.default-lines.result ≡ no_line = λ i. record { article = h.0 i; quantity = h.1 i } in
     lines_there (λ (none : Unit {0}) (l : OrderLine). none) tt 8 no_line c.section-2.new.places c.default-lines.result blank (read_section letter_d read_line c.in_ok-hours.next.rest.now)
-    c.in_ok-orders.orders tt c.in_ok-orders.last c.in_ok-orders.ensures
+    c.in_ok-orders.orders tt c.in_ok-orders.last c.in_ok-orders.ensures.found
 
 pub returns-then-not-is_empty : goal.returns-then-not-is_empty
 returns-then-not-is_empty c =

@@ -57,7 +57,7 @@ fill_maps-requires c =
     let x = c.args in
     let r = c.requires in
     let l = in_order x.order.now x.n x.trace x.next.now.lengths x.next.now.ones x.here r.0 r.1 r.2 in
-    (r.0, maps_asked r.0 x.order.now r.1 (x.n + 1) l.0 l.1)
+    (omega arith, omega arith, (r.0, maps_asked r.0 x.order.now r.1 (x.n + 1) l.0 l.1))
 
 pub aisle_of-aisle-requires : goal.aisle_of-aisle-requires
 aisle_of-aisle-requires c =
@@ -68,7 +68,15 @@ aisle_of-aisle-requires c =
 pub fill_after-requires : goal.fill_after-requires
 fill_after-requires c =
     let r = c.requires in
-    in_range r.0 _ c.aisle_of-aisle.result (c.aisle_of-aisle.ensures r.0 r.1) r.1.admitted
+    let range = in_range r.0 _ c.aisle_of-aisle.result (c.aisle_of-aisle.ensures r.0 r.1) r.1.admitted in
+    let small = range.small in
+    record {
+      aisle = range;
+      after_long = omega arith;
+      after_spared_long = omega arith;
+      next_long = omega arith;
+      next_spared_long = omega arith;
+    }
 
 pub take_action-taken-requires : goal.take_action-taken-requires
 take_action-taken-requires c =
@@ -77,11 +85,11 @@ take_action-taken-requires c =
     let r = c.requires in
     let x = c.aisle_of-aisle.result in
     let l = in_order args.order.now args.n args.trace args.next.now.lengths args.next.now.ones args.here r.0 r.1 r.2 in
-    let h = aisled args.order.now args.n args.trace args.next.now.lengths args.next.now.ones args.here r.0 r.1 r.2 x (c.aisle_of-aisle.ensures r.0 r.1) maps.new.maps.fronts maps.new.maps.backs
-    c.fill_after.new.rows.lengths c.fill_after.new.rows.ones (maps.ensures r.0 (maps_asked r.0 args.order.now r.1 (args.n + 1) l.0 l.1)) c.fill_after.ensures.0 in
+    let h = aisled args.order.now args.n args.trace args.next.now.lengths args.next.now.ones args.here r.0 r.1 r.2 x (c.aisle_of-aisle.ensures r.0 r.1) maps.new.fronts maps.new.backs
+    c.fill_after.new.after c.fill_after.new.spared (maps.ensures.0 r.0 (maps_asked r.0 args.order.now r.1 (args.n + 1) l.0 l.1)) c.fill_after.ensures.0 in
     let traced = r.2.traced in (
       record {
-        ready = ready r.0 _ x h.numbers r.1.admitted _ _ h.maps;
+        ready = ready r.0 _ x h.numbers r.1.admitted _ _ h.maps (omega (arith, maps.ensures.1)) (omega (arith, maps.ensures.2));
         state_below = omega (arith, traced.state_below);
         demand_below = omega (arith, same_weight r.0 _ x h.numbers, traced.demand_below);
         aisle_below = few args.order.now args.n args.trace args.next.now.lengths args.next.now.ones args.here r.0 r.1 r.2;
@@ -97,8 +105,8 @@ take_passage-requires c =
     let r = c.requires in
     let x = c.aisle_of-aisle.result in
     let l = in_order args.order.now args.n args.trace args.next.now.lengths args.next.now.ones args.here r.0 r.1 r.2 in
-    let h = aisled args.order.now args.n args.trace args.next.now.lengths args.next.now.ones args.here r.0 r.1 r.2 x (c.aisle_of-aisle.ensures r.0 r.1) maps.new.maps.fronts maps.new.maps.backs
-    c.fill_after.new.rows.lengths c.fill_after.new.rows.ones (maps.ensures r.0 (maps_asked r.0 args.order.now r.1 (args.n + 1) l.0 l.1)) c.fill_after.ensures.0 in
+    let h = aisled args.order.now args.n args.trace args.next.now.lengths args.next.now.ones args.here r.0 r.1 r.2 x (c.aisle_of-aisle.ensures r.0 r.1) maps.new.fronts maps.new.backs
+    c.fill_after.new.after c.fill_after.new.spared (maps.ensures.0 r.0 (maps_asked r.0 args.order.now r.1 (args.n + 1) l.0 l.1)) c.fill_after.ensures.0 in
     let to = taken_lands h r.2 c.take_action-taken.ensures in
     let light = r.1.admitted.light in (
       record {
@@ -123,6 +131,6 @@ returns c =
     let x = c.aisle_of-aisle.result in
     λ job of asked.
     let l = in_order args.order.now args.n args.trace args.next.now.lengths args.next.now.ones args.here job of asked in
-    let h = aisled args.order.now args.n args.trace args.next.now.lengths args.next.now.ones args.here job of asked x (c.aisle_of-aisle.ensures job of) maps.new.maps.fronts maps.new.maps.backs
-    c.fill_after.new.rows.lengths c.fill_after.new.rows.ones (maps.ensures job (maps_asked job args.order.now of (args.n + 1) l.0 l.1)) c.fill_after.ensures.0 in
+    let h = aisled args.order.now args.n args.trace args.next.now.lengths args.next.now.ones args.here job of asked x (c.aisle_of-aisle.ensures job of) maps.new.fronts maps.new.backs
+    c.fill_after.new.after c.fill_after.new.spared (maps.ensures.0 job (maps_asked job args.order.now of (args.n + 1) l.0 l.1)) c.fill_after.ensures.0 in
     subst (Traced job _) (sym c.with_stage.ensures) (trace_next h asked c.take_action-taken.ensures c.take_passage.ensures)

@@ -1,10 +1,8 @@
 -- `table::filling::fill_layer` meets its contract: with the maps and the rows behind the actions, the rows of the aisle are put in
 -- their places.
-use Rattle.std.proofs.Common.{arith, ◌+◌, ◌*◌, ◌-◌, ◌≤◌, ◌<◌, ◌≡◌, suc, length, refl, sym, subst}
-use borrow.Rule.Slice.PartMut.{put_mid, same_len_mid}
-use Rattle.rules.specs.Jobs.{Job}
-use Rattle.table.specs.TableHolds.{OrderOf, RowHolds, TableFrom}
-use Rattle.table.proofs.TableFills.{order_aisles, maps_asked, in_range, ready, layer_holds, behind_holds}
+use Rattle.std.proofs.Common.{arith, ◌+◌, ◌*◌, ◌-◌, ◌≤◌, ◌<◌, refl, length, ◌∙◌}
+use borrow.Rule.Slice.PartMut.{mid_len, same_len_mid}
+use Rattle.table.proofs.TableFills.{order_aisles, maps_asked, same_aisles, in_range, ready, layer_holds}
 use Rattle.table.proofs.WorkRows.{row_written}
 use Rattle.table.proofs.filling.fill_layer.Goals as goal
 
@@ -12,57 +10,66 @@ pub fill_maps-requires : goal.fill_maps-requires
 fill_maps-requires c =
     let p = c.args in
     let r = c.requires in
-    (r.order.0, maps_asked r.order.0 p.o.now r.order.1 p.j r.here.0 r.here.1)
+    (omega arith, omega arith, (r.order.0, maps_asked r.order.0 p.o.now r.order.1 p.j r.here.0 r.here.1))
 
-pub fill_after-requires : goal.fill_after-requires
-fill_after-requires c =
-    let (job, of) = c.requires.order in
+pub fill_behind-requires : goal.fill_behind-requires
+fill_behind-requires c =
     let x = c.aisle_of-x in
-    in_range job c.args.j x.result (x.ensures job of) of.admitted
-
-pub fill_row-requires : goal.fill_row-requires
-fill_row-requires c =
     let p = c.args in
     let r = c.requires in
     let (job, of) = r.order in
+    let x-is = x.ensures job of in
+    record {
+      aisle = in_range job p.j x.result x-is of.admitted;
+      few = omega (arith, r.few, same_aisles job p.j x.result x-is, order_aisles job p.o.now of);
+      work_long = r.work_long;
+      spared_long = r.spared_long;
+    }
+
+pub fill_row-requires : goal.fill_row-requires
+fill_row-requires c =
+    let maps = c.fill_maps in
     let x = c.aisle_of-x in
-    let maps = c.fill_maps.new.maps in
-    let map_is = c.fill_maps.ensures job (maps_asked job p.o.now of p.j r.here.0 r.here.1) in
-    ready job p.j x.result (x.ensures job of) of.admitted maps.fronts maps.backs map_is
+    let p = c.args in
+    let r = c.requires in
+    let (job, of) = r.order in
+    let at = (p.j - 1) * 2048 in
+    -- the rows of the aisle are within the work area, and within the list of ones
+    let inside : at + 2048 ≤ length p.work.now = omega (arith, r.here, r.few, r.work_long) in
+    let inside' : at + 2048 ≤ length p.spared.now = omega (arith, r.here, r.few, r.spared_long) in
+    let map_is = maps.ensures.0 job (maps_asked job p.o.now of p.j r.here.0 r.here.1) in (
+      ready job p.j x.result (x.ensures job of) of.admitted maps.new.fronts maps.new.backs map_is (omega (arith, maps.ensures.1)) (omega (arith, maps.ensures.2)),
+      omega (arith, mid_len at (at + 2048) p.work.now inside),
+      omega (arith, mid_len at (at + 2048) p.spared.now inside'),
+      omega arith,
+      omega arith,
+    )
 
 pub returns : goal.returns
 returns c =
+    let maps = c.fill_maps in
+    let x = c.aisle_of-x in
+    let after = c.fill_behind.new.after in
+    let row = c.fill_row in
     let p = c.args in
     let r = c.requires in
-    let o = p.o.now in
     let work = p.work.now in
     let spared = p.spared.now in
-    let x = c.aisle_of-x in
-    let next = c.rows_behind in
-    let after = c.fill_after in
-    let row = c.fill_row in
-    let lengths = row.new.rows.lengths in
-    let ones = row.new.rows.ones in
-    let maps = c.fill_maps.new.maps in
     let at = (p.j - 1) * 2048 in
-    let in-work : at + 2048 ≤ length work = omega (arith, r.here, r.few, r.work_long) in
-    let in-spared : at + 2048 ≤ length spared = omega (arith, r.here, r.few, r.spared_long) in
-    let fits : length lengths ≡ at + 2048 - at = omega arith in
-    let fits' : length ones ≡ at + 2048 - at = omega arith in
-    let filled : (job : Job) → OrderOf job o → TableFrom job (suc p.j) work spared
-    → TableFrom job p.j (put_mid at (at + 2048 - at) work lengths) (put_mid at (at + 2048 - at) spared ones) = λ job of table.
-    let x-is = x.ensures job of in
-    let map_is = c.fill_maps.ensures job (maps_asked job o of p.j r.here.0 r.here.1) in
-    let aisles = order_aisles job o of in
-    let room : job.layout.aisles - p.j < 16 = omega (arith, r.here, r.few, aisles) in
-    let held = subst (λ n. RowHolds job (n - p.j) (suc p.j) next.result.lengths next.result.ones) aisles (next.ensures job (sym aisles) of.admitted.light table) in
-    let after_is = behind_holds job p.j x.result x-is (omega arith) after.new.rows.lengths after.new.rows.ones next.result.lengths next.result.ones held after.ensures.0 in
-    let row_is = layer_holds job p.j x.result x-is of.admitted room after.new.rows.lengths after.new.rows.ones maps.fronts maps.backs lengths ones
-    map_is after_is row.ensures.0 in
-    row_written job of.admitted.light work spared lengths ones p.j at (at + 2048) r.here.0 (omega (arith, r.here, aisles)) refl refl in-work in-spared
-    fits fits' table row_is in
+    let inside : at + 2048 ≤ length work = omega (arith, r.here, r.few, r.work_long) in
+    let inside' : at + 2048 ≤ length spared = omega (arith, r.here, r.few, r.spared_long) in
     record {
-      kept = same_len_mid at (at + 2048 - at) work c.copy_from_slice.new.self c.copy_from_slice.ensures.len;
-      spared_kept = same_len_mid at (at + 2048 - at) spared c.copy_from_slice-2.new.self c.copy_from_slice-2.ensures.len;
-      filled = rw (c.copy_from_slice.ensures.after, c.copy_from_slice-2.ensures.after) filled;
+      kept = same_len_mid at (at + 2048 - at) work row.new.row row.ensures.1;
+      spared_kept = same_len_mid at (at + 2048 - at) spared row.new.spared row.ensures.2;
+      filled = λ job of table.
+          let x-is = x.ensures job of in
+          let map_is = maps.ensures.0 job (maps_asked job p.o.now of p.j r.here.0 r.here.1) in
+          let after_is = c.fill_behind.ensures job x-is table in
+          let in-job : p.j ≤ job.layout.aisles = omega (arith, r.here, order_aisles job p.o.now of) in
+          let room : job.layout.aisles - p.j < 16 = omega (arith, r.here, r.few, order_aisles job p.o.now of) in
+          let row_is =
+          layer_holds job p.j x.result x-is of.admitted room after.lengths after.ones maps.new.fronts maps.new.backs row.new.row row.new.spared
+          map_is after_is row.ensures.0 in
+          row_written job of.admitted.light work spared row.new.row row.new.spared p.j at (at + 2048) r.here.0 in-job refl refl inside inside'
+          (row.ensures.1 ∙ mid_len at (at + 2048) work inside) (row.ensures.2 ∙ mid_len at (at + 2048) spared inside') table row_is;
     }

@@ -10,9 +10,25 @@ pub loop-passage-init : goal.loop-passage-init
 loop-passage-init c =
     let p = c.args in
     let none = c.fill_none in (
-      after_none p.x p.next.now.lengths p.next.now.ones none.new.row p.rows.now.ones (none.ensures.0, refl, λ k h. refl),
+      refl,
+      refl,
+      after_none p.x p.next.now p.theirs.now none.new.row p.spared.now (none.ensures.0, refl, λ k h. refl),
       λ k h. refl,
       λ k h. refl,
+    )
+
+pub relax_passage-requires : goal.relax_passage-requires
+relax_passage-requires c =
+    let r = c.requires in
+    let o = c.loop-passage in (
+      record {
+        aisle = r.aisle;
+        after_long = omega (arith, r.after_long, o.invariant.0, c.fill_none.ensures.1);
+        after_spared_long = omega (arith, r.after_spared_long, o.invariant.1);
+        next_long = r.next_long;
+        next_spared_long = r.next_spared_long;
+      },
+      c.plain_row.ensures.done,
     )
 
 pub loop-passage-preserved : goal.loop-passage-preserved
@@ -20,16 +36,17 @@ unfolding passages_in_order
 loop-passage-preserved c =
     let p = c.args in
     let o = c.loop-passage in
-    let next = p.next.now in
     let k = o.passage-index in
     let done = c.relax_passage in
-    let few = tried_length p.x.tried c.requires.few in
-    let tried = subst (λ (q : Passage). PassageTried p.x o.rows.lengths done.new.rows.lengths o.rows.ones done.new.rows.ones next.lengths next.ones q)
-    (passage_tried p.x.tried k (omega (arith, few)) c.requires.few) done.ensures in (
-      after_one p.x next.lengths next.ones o.rows.lengths done.new.rows.lengths o.rows.ones done.new.rows.ones k
-          (omega (arith, c.requires.few, few)) o.invariant.0 tried,
-      λ i h. tried.rest i h ∙ o.invariant.1 i h,
-      λ i h. tried.spared_rest i h ∙ o.invariant.2 i h,
+    let few = tried_length p.x.tried c.requires.aisle.few in
+    let tried = subst (λ (q : Passage). PassageTried p.x o.after done.new.after o.spared done.new.spared p.next.now p.theirs.now q)
+    (passage_tried p.x.tried k (omega (arith, few)) c.requires.aisle.few) done.ensures in (
+      tried.kept ∙ o.invariant.0,
+      tried.spared_kept ∙ o.invariant.1,
+      after_one p.x p.next.now p.theirs.now o.after done.new.after o.spared done.new.spared k
+          (omega (arith, c.requires.aisle.few, few)) o.invariant.2 tried,
+      λ i h. tried.rest i h ∙ o.invariant.3 i h,
+      λ i h. tried.spared_rest i h ∙ o.invariant.4 i h,
     )
 
 pub returns : goal.returns
@@ -37,11 +54,12 @@ unfolding passages_in_order
 returns c =
     let p = c.args in
     let o = c.loop-passage in
-    let next = p.next.now in
-    let few = tried_length p.x.tried c.requires.few in
+    let few = tried_length p.x.tried c.requires.aisle.few in
     let all : o.passage-index ≡ p.x.tried = omega (arith, few) in (
-      after_all p.x next.lengths next.ones o.rows.lengths o.rows.ones
-          (subst (λ n. AfterTried p.x o.rows.lengths o.rows.ones next.lengths next.ones n) all o.invariant.0),
-      λ k h. o.invariant.1 k h ∙ c.fill_none.ensures.2 k h,
-      o.invariant.2,
+      after_all p.x p.next.now p.theirs.now o.after o.spared
+          (subst (λ n. AfterTried p.x o.after o.spared p.next.now p.theirs.now n) all o.invariant.2),
+      o.invariant.0 ∙ c.fill_none.ensures.1,
+      o.invariant.1,
+      λ k h. o.invariant.3 k h ∙ c.fill_none.ensures.2 k h,
+      o.invariant.4,
     )
