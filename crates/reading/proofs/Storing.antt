@@ -48,13 +48,16 @@ noted_more : {A N : Type 0} (noting : N → A → N) (notes : N) (xs : List A) (
 noted_more noting notes [] x = refl
 noted_more noting notes (y ∷ xs) x = noted_more noting (noting notes y) xs x
 
+-- while lines are left, they are a line and the others
+one_left : (n i : ℕ) → i < n → n - i ≡ suc (n - (i + 1))
+one_left n i h = omega arith
+
 -- of n lines these i have been read and noted, and the first of them stand in the places
 pub record LinesTo {A N : Type 0} (read : List ℕ → Reading A) (noting : N → A → N) (n : ℕ) (s : List ℕ) (before : List A) (first : N) (i : ℕ) (rest : List ℕ) (places : List A) (notes : N) (lines : List A) : Type 0 where
   pub many : length lines ≡ i
   pub told : notes ≡ noted noting first lines
   pub stored : places ≡ filled before lines
   pub so_far : read_lines read n s ≡ behind lines (read_lines read (n - i) rest)
-  pub ahead : readable_lines read n s ≡ lines ++ readable_lines read (n - i) rest
 
 module _ {A N : Type 0} (read : List ℕ → Reading A) (noting : N → A → N) (n : ℕ) (s : List ℕ) (before : List A) (first : N) where
   -- no line has been read
@@ -64,7 +67,6 @@ module _ {A N : Type 0} (read : List ℕ → Reading A) (noting : N → A → N)
     told = refl;
     stored = sym (filled_none before);
     so_far = let z : n - 0 ≡ n = omega arith in rw z (sym (behind_nothing (read_lines read n s)));
-    ahead = let z : n - 0 ≡ n = omega arith in rw z refl;
   }
 
   module _ (i : ℕ) (rest : List ℕ) (places : List A) (notes : N) (lines : List A) (r : LinesTo read noting n s before first i rest places notes lines) where
@@ -72,22 +74,10 @@ module _ {A N : Type 0} (read : List ℕ → Reading A) (noting : N → A → N)
     pub lines_read : n ≤ i → read_lines read n s ≡ some (lines, rest)
     lines_read h = let e : n - i ≡ 0 = omega arith in rw (r.so_far, e, read_lines, append-nil lines) refl
 
-    -- and stand in the places
-    pub all_kept : n ≤ i → places ≡ filled before (readable_lines read n s)
-    all_kept h = let e : n - i ≡ 0 = omega arith in r.stored ∙ ap (filled before) (sym (rw (r.ahead, e, readable_lines, append-nil lines) refl))
-
     module _ (h : i < n) where
-      -- what is left is a line and the others
-      left : n - i ≡ suc (n - (i + 1))
-      left = omega arith
-
       -- the line cannot be read
       pub lines_fail : read rest ≡ none → read_lines read n s ≡ none
-      lines_fail e = rw (r.so_far, left, read_lines, e) refl
-
-      -- those in front of it stand in the places
-      pub front_kept : read rest ≡ none → places ≡ filled before (readable_lines read n s)
-      front_kept e = r.stored ∙ ap (filled before) (sym (rw (r.ahead, left, readable_lines, e, append-nil lines) refl))
+      lines_fail e = rw (r.so_far, one_left n i h, read_lines, e) refl
 
       -- one line more has been read, and stands in its place if it has one
       module _ (x : A) (next : List ℕ) (e : read rest ≡ some (x, next)) where
@@ -96,8 +86,7 @@ module _ {A N : Type 0} (read : List ℕ → Reading A) (noting : N → A → N)
           many = simp length-append (omega (arith, r.many));
           told = ap (λ t. noting t x) r.told ∙ sym (noted_more noting first lines x);
           stored = kept;
-          so_far = r.so_far ∙ rw (left, read_lines, e) (behind_one lines x (read_lines read (n - (i + 1)) next));
-          ahead = r.ahead ∙ rw (left, readable_lines, e) (sym (append_assoc lines (x ∷ []) (readable_lines read (n - (i + 1)) next)));
+          so_far = r.so_far ∙ rw (one_left n i h, read_lines, e) (behind_one lines x (read_lines read (n - (i + 1)) next));
         }
 
         pub lines_stored : i < length before → LinesTo read noting n s before first (i + 1) next (set places i x) (noting notes x) (lines ++ (x ∷ []))
@@ -105,6 +94,41 @@ module _ {A N : Type 0} (read : List ℕ → Reading A) (noting : N → A → N)
 
         pub lines_passed : length before ≤ i → LinesTo read noting n s before first (i + 1) next places (noting notes x) (lines ++ (x ∷ []))
         lines_passed l = one_more places (r.stored ∙ filled_past before lines x (omega (arith, r.many)))
+
+-- these i lines, which are those in front of what can be read of the rest
+pub record LinesKept {A N : Type 0} (read : List ℕ → Reading A) (noting : N → A → N) (n : ℕ) (s : List ℕ) (before : List A) (first : N)
+    (i : ℕ) (rest : List ℕ) (places : List A) (notes : N) (lines : List A) : Type 0 where
+  pub to : LinesTo read noting n s before first i rest places notes lines
+  pub ahead : readable_lines read n s ≡ lines ++ readable_lines read (n - i) rest
+
+module _ {A N : Type 0} (read : List ℕ → Reading A) (noting : N → A → N) (n : ℕ) (s : List ℕ) (before : List A) (first : N) where
+  -- no line has been read
+  pub kept_none : LinesKept read noting n s before first 0 s before first []
+  kept_none = record {
+    to = lines_none read noting n s before first;
+    ahead = let z : n - 0 ≡ n = omega arith in rw z refl;
+  }
+
+  module _ (i : ℕ) (rest : List ℕ) (places : List A) (notes : N) (lines : List A) (r : LinesKept read noting n s before first i rest places notes lines) where
+    -- all lines have been read, and stand in the places
+    pub all_kept : n ≤ i → places ≡ filled before (readable_lines read n s)
+    all_kept h = let e : n - i ≡ 0 = omega arith in r.to.stored ∙ ap (filled before) (sym (rw (r.ahead, e, readable_lines, append-nil lines) refl))
+
+    module _ (h : i < n) where
+      -- the line cannot be read: those in front of it stand in the places
+      pub front_kept : read rest ≡ none → places ≡ filled before (readable_lines read n s)
+      front_kept e = r.to.stored ∙ ap (filled before) (sym (rw (r.ahead, one_left n i h, readable_lines, e, append-nil lines) refl))
+
+      -- one line more has been read, and stands in its place if it has one
+      module _ (x : A) (next : List ℕ) (e : read rest ≡ some (x, next)) where
+        one_ahead : readable_lines read n s ≡ (lines ++ (x ∷ [])) ++ readable_lines read (n - (i + 1)) next
+        one_ahead = r.ahead ∙ rw (one_left n i h, readable_lines, e) (sym (append_assoc lines (x ∷ []) (readable_lines read (n - (i + 1)) next)))
+
+        pub kept_stored : i < length before → LinesKept read noting n s before first (i + 1) next (set places i x) (noting notes x) (lines ++ (x ∷ []))
+        kept_stored l = record { to = lines_stored read noting n s before first i rest places notes lines r.to h x next e l; ahead = one_ahead }
+
+        pub kept_passed : length before ≤ i → LinesKept read noting n s before first (i + 1) next places (noting notes x) (lines ++ (x ∷ []))
+        kept_passed l = record { to = lines_passed read noting n s before first i rest places notes lines r.to h x next e l; ahead = one_ahead }
 
 -- blanks in all places are padded lines, once these are filled in
 pub filled_blanks : {A : Type 0} (room : ℕ) (blank : A) (xs : List A) → filled (replicate room blank) xs ≡ padded room blank xs
